@@ -36,8 +36,7 @@ same_fields p q cylinder track sector = λ i. record { cylinder = cylinder i; tr
 -- different places of a drive have different blocks
 pub same_number : (kind : DriveKind) (p q : Place) → IsInside kind p → IsInside kind q → block_number kind p ≡ block_number kind q → p ≡ q
 same_number Rp06 p q ip iq e = same_fields p q (omega arith) (omega arith) (omega arith)
-same_number Rm03 p q ip iq e = same_fields p q (omega arith) (omega arith) (omega arith)
-same_number Rm05 p q ip iq e = same_fields p q (omega arith) (omega arith) (omega arith)
+same_number other p q ip iq e = same_fields p q (omega arith) (omega arith) (omega arith)
 
 -- ---- a place's position among others
 
@@ -241,8 +240,7 @@ pub record HasSmallNumbers (place : Place) : Type 0 where
 
 small_numbers : (kind : DriveKind) (place : Place) → IsInside kind place → HasSmallNumbers place
 small_numbers Rp06 place inside = record { cylinder = omega (arith, inside.cylinder); track = omega (arith, inside.track); sector = omega (arith, inside.sector) }
-small_numbers Rm03 place inside = record { cylinder = omega (arith, inside.cylinder); track = omega (arith, inside.track); sector = omega (arith, inside.sector) }
-small_numbers Rm05 place inside = record { cylinder = omega (arith, inside.cylinder); track = omega (arith, inside.track); sector = omega (arith, inside.sector) }
+small_numbers other place inside = record { cylinder = omega (arith, inside.cylinder); track = omega (arith, inside.track); sector = omega (arith, inside.sector) }
 
 pub listed_numbers : (t : Table) (place : Place) (i : ℕ) → IsTable t → slice_get t.places i ≡ Some place → HasSmallNumbers place
 listed_numbers t place i valid here =

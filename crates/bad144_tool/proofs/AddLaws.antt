@@ -51,12 +51,7 @@ pub why_spare : (kind : DriveKind) (pack : Pack) (block i end : ℕ) (table new_
 why_spare kind pack block i end table new_table (Spare j) is first goes all =
     record { i = i; table = table; new_table = new_table; goes = goes; first = subst (λ (n : ℕ). IsFirstMarked kind pack i n j) all (first j refl) }
 why_spare kind pack block i end table new_table Store is first goes all = tt
-why_spare kind pack block i end table new_table (TooLong n) is first goes all = absurd is
-why_spare kind pack block i end table new_table NoTable is first goes all = absurd is
-why_spare kind pack block i end table new_table Reserved is first goes all = absurd is
-why_spare kind pack block i end table new_table (Listed k) is first goes all = absurd is
-why_spare kind pack block i end table new_table Full is first goes all = absurd is
-why_spare kind pack block i end table new_table Sink is first goes all = absurd is
+why_spare kind pack block i end table new_table other is first goes all = absurd is
 
 -- a place of the block went to index `i`
 pub goes_to : (kind : DriveKind) (pack : Pack) (block i : ℕ) (table new_table : Table) (place : Place) → HasTable kind pack table

@@ -14,13 +14,11 @@ use Rattle.bad144_tool.proofs.ChangeLaws.{does_then, does_same}
 -- different replacements are different blocks, and none holds data
 pub different_replacements : (kind : DriveKind) (i j : ℕ) → i < j → j < 126 → replacement_at kind i ≢ replacement_at kind j
 different_replacements Rp06 i j lt small = omega arith
-different_replacements Rm03 i j lt small = omega arith
-different_replacements Rm05 i j lt small = omega arith
+different_replacements other i j lt small = omega arith
 
 pub no_replacement : (kind : DriveKind) (block i : ℕ) → block < limit_of kind → i < 126 → block ≢ replacement_at kind i
 no_replacement Rp06 block i low small = omega arith
-no_replacement Rm03 block i low small = omega arith
-no_replacement Rm05 block i low small = omega arith
+no_replacement other block i low small = omega arith
 
 pub image_written : (packs : ℕ → Pack) (unit block : ℕ) (bytes : List ℕ)
     → (with_written packs unit block bytes unit).image ≡ with_block (packs unit).image block bytes

@@ -67,23 +67,16 @@ counted_then earlier counted = record { later = omega (arith, earlier, counted.l
 -- the refusal of a place is a fault of `add`, and no failure
 pub insert_is_add_fault : (kind : DriveKind) (f : InsertFault) → IsAddFault kind (from_insert f)
 insert_is_add_fault kind insert_fault.Reserved = tt
-insert_is_add_fault kind (insert_fault.Listed i) = tt
-insert_is_add_fault kind insert_fault.Full = tt
+insert_is_add_fault kind other = tt
 
 pub insert_is_no_failure : (f : InsertFault) → from_insert f ≡ Store → ⊥
 insert_is_no_failure insert_fault.Reserved is = cc
-insert_is_no_failure (insert_fault.Listed i) is = cc
-insert_is_no_failure insert_fault.Full is = cc
+insert_is_no_failure other is = cc
 
 pub spare_is_add_fault : (kind : DriveKind) (e : ToolFault) → IsSpareFault e → IsAddFault kind e
 spare_is_add_fault kind (Spare j) is = tt
 spare_is_add_fault kind Store is = tt
-spare_is_add_fault kind (TooLong n) is = absurd is
-spare_is_add_fault kind NoTable is = absurd is
-spare_is_add_fault kind Reserved is = absurd is
-spare_is_add_fault kind (Listed k) is = absurd is
-spare_is_add_fault kind Full is = absurd is
-spare_is_add_fault kind Sink is = absurd is
+spare_is_add_fault kind other is = absurd is
 
 -- the error is not this one
 pub not_this : {T : Type 0} {e f : ToolFault} (result : Result T ToolFault) → IsErrAnd result (λ x. x ≡ e) → (e ≡ f → ⊥) → IsErrOf result f → ⊥
@@ -96,65 +89,37 @@ not_this {T} {e} {f} (Err x) is other same = other (sym is ∙ one same)
 -- where the packs stay, a refusal and a failure leave what they may
 pub leaves_same : (kind : DriveKind) (unit block : ℕ) (way : AddWay) (old new : ℕ → Pack) (f : ToolFault) → new ≡ old → Leaves kind unit block way old new f
 leaves_same kind unit block way old new Store same = Before same
-leaves_same kind unit block way old new (TooLong n) same = same
-leaves_same kind unit block way old new NoTable same = same
-leaves_same kind unit block way old new Reserved same = same
-leaves_same kind unit block way old new (Listed i) same = same
-leaves_same kind unit block way old new Full same = same
-leaves_same kind unit block way old new (Spare j) same = same
-leaves_same kind unit block way old new Sink same = same
+leaves_same kind unit block way old new other same = same
 
 pub marks_same : (kind : DriveKind) (unit : ℕ) (old new : ℕ → Pack) (f : ToolFault) → new ≡ old → LeavesMarks kind unit old new f
 marks_same kind unit old new Store same = marking.Before same
-marks_same kind unit old new (TooLong n) same = same
-marks_same kind unit old new NoTable same = same
-marks_same kind unit old new Reserved same = same
-marks_same kind unit old new (Listed i) same = same
-marks_same kind unit old new Full same = same
-marks_same kind unit old new (Spare j) same = same
-marks_same kind unit old new Sink same = same
+marks_same kind unit old new other same = same
 
 -- the faults of one call are among those of another
 pub fresh_is_mark_fault : (kind : DriveKind) (e : ToolFault) → IsFreshFault kind e → IsMarkFault kind e
 fresh_is_mark_fault kind (TooLong n) is = is
 fresh_is_mark_fault kind Store is = tt
 fresh_is_mark_fault kind NoTable is = tt
-fresh_is_mark_fault kind Sink is = absurd is
-fresh_is_mark_fault kind Reserved is = absurd is
-fresh_is_mark_fault kind (Listed i) is = absurd is
-fresh_is_mark_fault kind Full is = absurd is
-fresh_is_mark_fault kind (Spare j) is = absurd is
+fresh_is_mark_fault kind other is = absurd is
 
 pub mark_is_add_fault : (kind : DriveKind) (e : ToolFault) → IsMarkFault kind e → IsAddFault kind e
 mark_is_add_fault kind (TooLong n) is = is
 mark_is_add_fault kind Store is = tt
 mark_is_add_fault kind NoTable is = tt
-mark_is_add_fault kind Sink is = absurd is
-mark_is_add_fault kind Reserved is = absurd is
-mark_is_add_fault kind (Listed i) is = absurd is
-mark_is_add_fault kind Full is = absurd is
-mark_is_add_fault kind (Spare j) is = absurd is
+mark_is_add_fault kind other is = absurd is
 
 pub fresh_is_list_fault : (kind : DriveKind) (e : ToolFault) → IsFreshFault kind e → IsListFault kind e
 fresh_is_list_fault kind (TooLong n) is = is
 fresh_is_list_fault kind Store is = tt
 fresh_is_list_fault kind Sink is = tt
-fresh_is_list_fault kind NoTable is = absurd is
-fresh_is_list_fault kind Reserved is = absurd is
-fresh_is_list_fault kind (Listed i) is = absurd is
-fresh_is_list_fault kind Full is = absurd is
-fresh_is_list_fault kind (Spare j) is = absurd is
+fresh_is_list_fault kind other is = absurd is
 
 -- why the length is refused is so of each block
 pub why_length : (kind : DriveKind) (pack : Pack) (block : ℕ) (e : ToolFault) → IsFreshFault kind e → IsWhy kind pack 0 e → IsWhy kind pack block e
 why_length kind pack block (TooLong n) is why = why
 why_length kind pack block Store is why = tt
 why_length kind pack block Sink is why = tt
-why_length kind pack block NoTable is why = absurd is
-why_length kind pack block Reserved is why = absurd is
-why_length kind pack block (Listed i) is why = absurd is
-why_length kind pack block Full is why = absurd is
-why_length kind pack block (Spare j) is why = absurd is
+why_length kind pack block other is why = absurd is
 
 pub fresh_is_not_sink : (kind : DriveKind) (e : ToolFault) → IsFreshFault kind e → e ≡ Sink → ⊥
 fresh_is_not_sink kind e is sink = subst (IsFreshFault kind) sink is

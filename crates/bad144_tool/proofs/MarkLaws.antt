@@ -93,8 +93,7 @@ made c t s p one two three = rw (one, two, three) refl
 
 place_of_number : (kind : DriveKind) (p : Place) → IsInside kind p → place_at kind (block_number kind p) ≡ p
 place_of_number Rp06 p inside = made _ _ _ p (omega (arith, inside.cylinder, inside.track, inside.sector)) (omega (arith, inside.cylinder, inside.track, inside.sector)) (omega (arith, inside.cylinder, inside.track, inside.sector))
-place_of_number Rm03 p inside = made _ _ _ p (omega (arith, inside.cylinder, inside.track, inside.sector)) (omega (arith, inside.cylinder, inside.track, inside.sector)) (omega (arith, inside.cylinder, inside.track, inside.sector))
-place_of_number Rm05 p inside = made _ _ _ p (omega (arith, inside.cylinder, inside.track, inside.sector)) (omega (arith, inside.cylinder, inside.track, inside.sector)) (omega (arith, inside.cylinder, inside.track, inside.sector))
+place_of_number other p inside = made _ _ _ p (omega (arith, inside.cylinder, inside.track, inside.sector)) (omega (arith, inside.cylinder, inside.track, inside.sector)) (omega (arith, inside.cylinder, inside.track, inside.sector))
 
 has_at : (kind : DriveKind) (b : ℕ) (ps : List Place) (k : ℕ) (d : Place) → k < length ps → block_number kind (get_or ps k d) ≡ b → has kind b ps ≡ true
 has_at kind b [] k d lt e = absurd (omega (arith, lt))

@@ -131,14 +131,12 @@ same_rank kind pack block r s a b few few' =
 -- ---- what each reason says of how far it comes
 
 rank_of : ToolFault → ℕ
-rank_of (TooLong n) = 0
 rank_of NoTable = 1
 rank_of Reserved = 2
 rank_of (Listed i) = 3
 rank_of Full = 4
 rank_of (Spare j) = 5
-rank_of Store = 0
-rank_of Sink = 0
+rank_of other = 0
 
 module _ (kind : DriveKind) (pack : Pack) (block : ℕ) (small : block < block_count kind) where
   -- a table of the pack is the one that it has
@@ -265,8 +263,7 @@ module _ (kind : DriveKind) (pack : Pack) (block : ℕ) (small : block < block_c
     goes = λ h. absurd (omega (arith, h));
   }
   comes (Spare j) is why = goes_comes why.table why.new_table why.i 5 why.goes (omega arith) (λ e. (j, why.first.from, why.first.to, why.first.marked)) (λ h. absurd (omega (arith, h)))
-  comes Store is why = absurd is
-  comes Sink is why = absurd is
+  comes other is why = absurd is
 
   may_comes : (i : ℕ) (old new : Table) → MayList kind pack block i old new → Comes kind pack block 6
   may_comes i old new may = goes_comes old new i 6 may.goes (omega arith) (λ e. absurd (omega (arith, e))) (λ h. may.free)
@@ -274,13 +271,7 @@ module _ (kind : DriveKind) (pack : Pack) (block : ℕ) (small : block < block_c
   few : (f : ToolFault) → rank_of f ≤ 5
   unfolding rank_of
   few (TooLong n) = omega arith
-  few NoTable = omega arith
-  few Reserved = omega arith
-  few (Listed i) = omega arith
-  few Full = omega arith
-  few (Spare j) = omega arith
-  few Store = omega arith
-  few Sink = omega arith
+  few other = omega arith
 
   pub never_both : (i : ℕ) (f : ToolFault) (old new : Table) → IsRefusal f → IsWhy kind pack block f → MayList kind pack block i old new → ⊥
   never_both i f old new is why may = not_less kind pack block (rank_of f) 6 (comes f is why) (may_comes i old new may) (omega (arith, few f)) (few f)

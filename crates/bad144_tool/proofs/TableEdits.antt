@@ -92,8 +92,7 @@ writes_are kind pack table new_table i n block way placed count small =
 -- a block and its place
 pub number_of_place : (kind : DriveKind) (block : ℕ) → block < block_count kind → block_number kind (place_at kind block) ≡ block
 number_of_place Rp06 block small = omega arith
-number_of_place Rm03 block small = omega arith
-number_of_place Rm05 block small = omega arith
+number_of_place other block small = omega arith
 
 is_added : (kind : DriveKind) (pack : Pack) (block i : ℕ) (way : AddWay) (table new_table : Table) → block < block_count kind
     → (may : MayList kind pack block i table new_table) → IsAddedAt kind pack table (edit_of block way) i

@@ -122,12 +122,10 @@ may_few claimed blocks first r EndOfPartition may = absurd may
 may_few claimed blocks first r NoFrames may = absurd may
 
 may_usable : (claimed : Type 0) (blocks : Blocks) (first : ℕ) (r : Request) (answer : Answer) → MayAnswer claimed blocks first r answer → AreUsable blocks first (done_in answer r)
-may_usable claimed blocks first r (ReadOk bytes) may = may.1
-may_usable claimed blocks first r WriteOk may = may.1
-may_usable claimed blocks first r (Failed cause done) may = may.1
 may_usable claimed blocks first r OutsidePartition may = absurd may
 may_usable claimed blocks first r EndOfPartition may = absurd may
 may_usable claimed blocks first r NoFrames may = absurd may
+may_usable claimed blocks first r other may = may.1
 
 -- ---- THE STATE that was reached
 module _ (setup : Setup) (r : Request) (are : HasTables setup) (s : Replay) (m : Machine) (k : Keeps setup s) (stands : StandsFor setup [] s m) (agree : IsConsistent s) (is : IsWhere setup r m) where

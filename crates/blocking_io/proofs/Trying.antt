@@ -60,15 +60,7 @@ move_of line (says.MoveAt a) tried w held is sound noise = record {
   may = λ run can. tried_by_rules w line a tried sound can run;
   reads = λ reads can. read_from w line a tried sound can held noise reads;
 }
-move_of line (says.Submit r) tried w held is sound noise = absurd (false≢true is)
-move_of line (says.ArriveAt u) tried w held is sound noise = absurd (false≢true is)
-move_of line (says.AttendTo a) tried w held is sound noise = absurd (false≢true is)
-move_of line says.Drain tried w held is sound noise = absurd (false≢true is)
-move_of line (says.Turn u sector) tried w held is sound noise = absurd (false≢true is)
-move_of line (says.Noise n) tried w held is sound noise = absurd (false≢true is)
-move_of line (says.Arm u kind times) tried w held is sound noise = absurd (false≢true is)
-move_of line (says.SetOnline u on) tried w held is sound noise = absurd (false≢true is)
-move_of line (says.SetLocked u on) tried w held is sound noise = absurd (false≢true is)
+move_of line other tried w held is sound noise = absurd (false≢true is)
 
 -- ---- ANY OTHER EVENT may come wherever it speaks of what is there.
 still_may : (input : Input) (tried : Tried) (w : World) (held : ℕ → Pack) → is_move input ≡ false → IsThere w input → MayCome w input tried × IsReadOf w held input tried
@@ -77,11 +69,7 @@ still_may (says.Submit r) tried w held is there = absurd there
 still_may (says.ArriveAt u) tried w held is there = (tt, tt)
 still_may (says.AttendTo a) tried w held is there = (tt, tt)
 still_may says.Drain tried w held is there = absurd there
-still_may (says.Turn u sector) tried w held is there = (there, tt)
-still_may (says.Noise n) tried w held is there = (there, tt)
-still_may (says.Arm u kind times) tried w held is there = (there, tt)
-still_may (says.SetOnline u on) tried w held is there = (there, tt)
-still_may (says.SetLocked u on) tried w held is there = (there, tt)
+still_may other tried w held is there = (there, tt)
 
 no_move : (input : Input) → is_move input ≡ false → IsNoMove input
 no_move (says.MoveAt a) is = absurd (false≢true (sym is))

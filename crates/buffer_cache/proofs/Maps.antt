@@ -24,13 +24,11 @@ use Rattle.buffer_cache.specs.Asks.{IsData, found_bytes}
 -- ---- partition `c` is all data blocks
 pub first_c : (kind : DriveKind) → first_of kind C ≡ 0
 first_c Rp06 = refl
-first_c Rm03 = refl
-first_c Rm05 = refl
+first_c other = refl
 
 size_c : (kind : DriveKind) → size_of kind C ≡ limit_of kind
 size_c Rp06 = refl
-size_c Rm03 = refl
-size_c Rm05 = refl
+size_c other = refl
 
 pub are_blocks : (w : World) (unit block : ℕ) (written : Option (List ℕ)) → IsData w unit block → AreBlocks (kind_at w unit) (one_block unit block written)
 are_blocks w unit block written d = record {

@@ -31,15 +31,7 @@ replacements_more drives map (x ∷ xs) ys =
 
 answer_first : (drives : ℕ → Option DriveKind) (map : ℕ → Blocks) (line : ℕ) (input : Input) (xs ys : List Answered) → with_answer drives map line input (xs ++ ys) ≡ with_answer drives map line input xs ++ ys
 answer_first drives map line (Submit r) xs ys = refl
-answer_first drives map line (ArriveAt u) xs ys = refl
-answer_first drives map line (MoveAt a) xs ys = refl
-answer_first drives map line (AttendTo a) xs ys = refl
-answer_first drives map line Drain xs ys = refl
-answer_first drives map line (Turn u s) xs ys = refl
-answer_first drives map line (Noise n) xs ys = refl
-answer_first drives map line (Arm u k t) xs ys = refl
-answer_first drives map line (SetOnline u on) xs ys = refl
-answer_first drives map line (SetLocked u on) xs ys = refl
+answer_first drives map line other xs ys = refl
 
 answers_more : (drives : ℕ → Option DriveKind) (map : ℕ → Blocks) (xs ys : List Numbered) → answers_of drives map (xs ++ ys) ≡ answers_of drives map xs ++ answers_of drives (map_of_inputs drives map xs) ys
 answers_more drives map [] ys = refl
@@ -133,21 +125,12 @@ module _ (map : ℕ → Blocks) (first : ℕ) (r : Request) where
       (λ u b. sym (read_is (done_in (answer_by unusable (map r.unit) first r) r) u b reads))
 
   request_is : (met : Admission) → map_at met map first r (answer_at met (map r.unit) first r) ≡ after (replaced_at met (map r.unit) first r) map
-  request_is Outside = refl
-  request_is Eof = refl
   request_is (Inside at) = behind_is (first_unusable r.count (map r.unit) first 0) (is_some r.written) refl
+  request_is other = refl
 
 one_is : (drives : ℕ → Option DriveKind) (map : ℕ → Blocks) (input : Input) → map_by drives map input ≡ after (replaced_by drives map input) map
 one_is drives map (Submit r) = request_is map (first_by drives r) r (met_by drives r)
-one_is drives map (ArriveAt u) = refl
-one_is drives map (MoveAt a) = refl
-one_is drives map (AttendTo a) = refl
-one_is drives map Drain = refl
-one_is drives map (Turn u s) = refl
-one_is drives map (Noise n) = refl
-one_is drives map (Arm u k t) = refl
-one_is drives map (SetOnline u on) = refl
-one_is drives map (SetLocked u on) = refl
+one_is drives map other = refl
 
 pub map_is : (drives : ℕ → Option DriveKind) (map : ℕ → Blocks) (inputs : List Numbered) → map_of_inputs drives map inputs ≡ after (replacements_of drives map inputs) map
 map_is drives map [] = refl

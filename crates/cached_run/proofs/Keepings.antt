@@ -45,8 +45,7 @@ data_at old new unit first count k lt keeps units are =
 
 small : (kind : DriveKind) → limit_of kind ≤ 4294967295
 small Rp06 = omega arith
-small Rm03 = omega arith
-small Rm05 = omega arith
+small other = omega arith
 
 -- and its number is small
 pub number_small : (w : World) (unit first count k : ℕ) → k < count → AreData w unit first count → first + k ≤ 4294967295

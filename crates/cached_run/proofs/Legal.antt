@@ -53,9 +53,8 @@ long_after map first r answer long u b bytes = by (u == r.unit)
     by false e = long u b bytes e
 
 long_met : (met : Admission) (map : ℕ → Blocks) (first : ℕ) (r : Request) (answer : Answer) → LongMap map → LongMap (map_at met map first r answer)
-long_met Outside map first r answer long = long
-long_met Eof map first r answer long = long
 long_met (Inside at) map first r answer long = long_after map first r answer long
+long_met other map first r answer long = long
 
 -- how many bytes a read has
 bytes_long : (held : Option (List ℕ)) → IsSome held → ((bytes : List ℕ) → held ≡ Some bytes → length bytes ≡ 512) → length (bytes_or_none held) ≡ 512
@@ -195,15 +194,7 @@ quiet_at drives map n none same = record { later = []; order = sym (ap (λ z. z 
 
 pub long_by : (drives : ℕ → Option DriveKind) (map : ℕ → Blocks) (input : Input) → LongMap map → LongMap (map_by drives map input)
 long_by drives map (Submit r) long = long_met (met_by drives r) map (first_by drives r) r (answer_to drives map r) long
-long_by drives map (ArriveAt u) long = long
-long_by drives map (MoveAt a) long = long
-long_by drives map (AttendTo a) long = long
-long_by drives map Drain long = long
-long_by drives map (Turn u s) long = long
-long_by drives map (Noise n) long = long
-long_by drives map (Arm u k t) long = long
-long_by drives map (SetOnline u on) long = long
-long_by drives map (SetLocked u on) long = long
+long_by drives map other long = long
 
 pub answers_legal : (drives : ℕ → Option DriveKind) (inputs : List Numbered) (map : ℕ → Blocks) → AreAskedWell inputs → LongMap map
     → AnswersTo drives all_claimed (idle map) inputs (answers_of drives map inputs) (idle (map_of_inputs drives map inputs))

@@ -36,8 +36,7 @@ use Rattle.cached_run.proofs.Goings.{ends_with}
 module _ (setup : Setup) (new : ℕ → Pack) (tables : HasTables setup) (o : OthersStay setup new) where
   copy_below : (kind : DriveKind) (k : ℕ) → k < 5 → copy_at kind k < block_count kind
   copy_below Rp06 k lt = omega (arith, lt)
-  copy_below Rm03 k lt = omega (arith, lt)
-  copy_below Rm05 k lt = omega (arith, lt)
+  copy_below other k lt = omega (arith, lt)
 
   no_home : (unit k block : ℕ) (kind : DriveKind) → setup.drives unit ≡ Some kind → length (places_of (setup.tables unit)) ≤ 126 → home_in setup unit block ≡ Some (copy_at kind k) → ⊥
   no_home unit k block kind declared room home =

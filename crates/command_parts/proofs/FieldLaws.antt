@@ -23,8 +23,7 @@ none_named (x ∷ xs) text none =
 
 kind_of_word : (kind : DriveKind) → kind_named (kind_word kind) ≡ Some kind
 kind_of_word Rp06 = refl
-kind_of_word Rm03 = refl
-kind_of_word Rm05 = refl
+kind_of_word other = refl
 
 pub kind_is : (found : Option DriveKind) (text : List ℕ) → ((kind : DriveKind) → (found ≡ Some kind) ↔ (text ≡ kind_word kind))
     → IfNone found ((kind : DriveKind) → text ≢ kind_word kind) → found ≡ kind_named text

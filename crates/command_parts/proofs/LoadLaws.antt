@@ -70,11 +70,10 @@ cached_found (refusal.Refused line kind) bytes r = r
 
 module _ {Means : List ℕ → Script → Type 0} {First : List ℕ → ℕ → ScriptKind → Type 0} (front : ByFront First) (no_fault : NoFault Means First) where
   refuses : (left bytes after : List ℕ) (fault : LoadFault) → left ≡ bytes ++ after → (after ≡ []) ⊎ (longest < length bytes) → Found First fault bytes → RefusesAll Means First fault left
-  refuses left bytes after loading.Memory all end r = tt
-  refuses left bytes after loading.Failed all end r = tt
   refuses left bytes after (loading.Refused line kind) all end r =
       let it : First left line kind = front left bytes after line kind all end r in
       ((λ script means. no_fault left script means line kind it), it)
+  refuses left bytes after other all end r = tt
 
   -- and so it is where that is handed on
   pub refused_all : {T : Type 0} {A : Type 0} (left bytes after : List ℕ) (fault : LoadFault) (result : Result T LoadFault)

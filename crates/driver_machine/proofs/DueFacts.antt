@@ -121,19 +121,16 @@ task_due (GiveUp done) v h is = Tried done is
 -- what a start asks for
 start_due : (p : Position) (v : UnitView) (h : Held) → v.phase ≡ Waiting → position_of v h ≡ p
     → IsDue v h (start_by p v h)
-start_due position.Ready v h is at = inl (is, refl)
 start_due (position.Search cylinder sector) v h is at =
     sensed_due false v h (deed.Search (target_of v h) sector) (subst Calls (sym is) AtStart)
     (λ go. (is, go, refl, search_cylinder v h cylinder sector at)) (λ on locked. absurd (false_true locked))
-start_due (position.Seek cylinder) v h is at = inl (is, refl)
+start_due other v h is at = inl (is, refl)
 
 -- WHAT IS DUE has what calls for it.
 next_due : (phase : Phase) (v : UnitView) (h : Held) (d : Deed) → v.phase ≡ phase → next_by phase v h ≡ Some d → IsDue v h d
 next_due Waiting v h d is next = subst (IsDue v h) (some_same next) (start_due (position_of v h) v h is refl)
 next_due (Due task) v h d is next = subst (IsDue v h) (some_same next) (task_due task v h is)
-next_due (Positioning taken) v h d is next = absurd (none_some next)
-next_due Queued v h d is next = absurd (none_some next)
-next_due Transferring v h d is next = absurd (none_some next)
+next_due other v h d is next = absurd (none_some next)
 
 pub due_facts : (v : UnitView) (h : Held) (d : Deed) → next_of v h ≡ Some d → IsDue v h d
 due_facts v h d next = next_due v.phase v h d refl next

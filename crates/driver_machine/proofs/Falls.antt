@@ -36,25 +36,15 @@ invalid v = if v.drive.valid then 0 else 1
 
 pub judging : (last : Moved) → judging_left last ≤ 4
 judging verdict.Clean = omega arith
-judging (verdict.Burst at pattern) = omega arith
-judging verdict.Hard = omega arith
-judging verdict.Marked = omega arith
-judging (verdict.Faulted kind) = omega arith
-judging verdict.Offline = omega arith
+judging other = omega arith
 
 judging_some : (last : Moved) → 3 ≤ judging_left last
 judging_some verdict.Clean = omega arith
-judging_some (verdict.Burst at pattern) = omega arith
-judging_some verdict.Hard = omega arith
-judging_some verdict.Marked = omega arith
-judging_some (verdict.Faulted kind) = omega arith
-judging_some verdict.Offline = omega arith
+judging_some other = omega arith
 
 task_small : (step : Step) (done : ℕ) → task_left (task_for step done) ≤ 2
 task_small retry.Again done = omega arith
-task_small (retry.Offset code) done = omega arith
-task_small (retry.Recalibrate code) done = omega arith
-task_small retry.GiveUp done = omega arith
+task_small other done = omega arith
 
 abbrev next_in : Deed → Task
 next_in (deed.Try moved block number next) = next
@@ -99,10 +89,6 @@ judged_falls old new moved last task is next small queue volume offset =
 
 -- EACH DEED THAT IS DUE.
 deed_falls : (line u p : ℕ) (d : Deed) (s : Scene) → 0 < length s.unit.queue → IsDue s.unit s.held d → Falls s.unit (effect line u p d s).unit
-deed_falls line u p (deed.Search target sector) s some due = inl refl
-deed_falls line u p (deed.Do step taken) s some due = inl refl
-deed_falls line u p (deed.Move write segment) s some due = inl refl
-deed_falls line u p (deed.Ready transfer) s some due = inl refl
 deed_falls line u p deed.Pack s some due =
     let was : invalid s.unit ≡ 1 = ap (λ (b : Bool). if b then 0 else 1) due.1 in
     inr (omega (arith, was))
@@ -128,6 +114,7 @@ deed_falls line u p deed.Arrive s some due = absurd due
 deed_falls line u p (deed.Sector block tried) s some due = absurd due
 deed_falls line u p (deed.Intr moved last) s some due = absurd due
 deed_falls line u p (deed.Attn taken) s some due = absurd due
+deed_falls line u p other s some due = inl refl
 
 pub falls : (line u p : ℕ) (d : Deed) (s : Scene) → 0 < length s.unit.queue → next_of s.unit s.held ≡ Some d
     → Falls s.unit (effect line u p d s).unit

@@ -27,17 +27,7 @@ use Rattle.driver_machine.specs.Acts.{stepping, searching, transferring, centred
 
 effect_kind : (f : Function) (d : DriveState) → (effect f d).kind ≡ d.kind
 effect_kind function.Nop d = refl
-effect_kind function.Seek d = refl
-effect_kind function.Recal d = refl
-effect_kind function.Clear d = refl
-effect_kind function.Offset d = refl
-effect_kind function.Centre d = refl
-effect_kind function.Preset d = refl
-effect_kind function.Pack d = refl
-effect_kind function.Search d = refl
-effect_kind function.Write d = refl
-effect_kind function.WriteHeader d = refl
-effect_kind function.Read d = refl
+effect_kind other d = refl
 
 either : {A : Type 0} (P : A → Type 0) (b : Bool) (x y : A) → P x → P y → P (if b then x else y)
 either P true x y holds fails = holds
@@ -50,31 +40,23 @@ performed_kind f d =
 
 pub arrived_by : (w : Work) (d : DriveState) → (arrived_from w d).kind ≡ d.kind
 arrived_by work.Ready d = refl
-arrived_by (work.Transfer write) d = refl
-arrived_by (work.Positioning cylinder sector) d = refl
+arrived_by other d = refl
 
 pub arrived_kind : (d : DriveState) → (arrived d).kind ≡ d.kind
 arrived_kind d = arrived_by d.work d
 
 marked_kind : (kind : DriveKind) (d : DriveState) → (with_mark_bits kind d).kind ≡ d.kind
 marked_kind Rp06 d = refl
-marked_kind Rm03 d = refl
-marked_kind Rm05 d = refl
+marked_kind other d = refl
 
 fault_kind : (kind : FaultKind) (d : DriveState) → (with_fault_bits kind d).kind ≡ d.kind
 fault_kind fault.Seek d = refl
-fault_kind fault.Opi d = refl
-fault_kind fault.Dte d = refl
-fault_kind fault.Hcrc d = refl
-fault_kind fault.Late d = refl
+fault_kind other d = refl
 
 moved_kind : (v : Moved) (block : ℕ) (d : DriveState) → (after_move v block d).kind ≡ d.kind
-moved_kind verdict.Clean block d = refl
-moved_kind (verdict.Burst at pattern) block d = refl
-moved_kind verdict.Hard block d = refl
 moved_kind verdict.Marked block d = marked_kind d.kind d
 moved_kind (verdict.Faulted kind) block d = fault_kind kind (fault_used kind d)
-moved_kind verdict.Offline block d = refl
+moved_kind other block d = refl
 
 pub stepped_kind : (v : Moved) (a : AdapterState) (d : DriveState) → (drive_stepped v a d).kind ≡ d.kind
 stepped_kind v a d =

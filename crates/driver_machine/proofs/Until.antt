@@ -50,9 +50,7 @@ next_cases w line u (Some d) is = in_hand_cases w line u d (unit_at w u).queue r
 resting_by : (phase : Phase) (v : UnitView) (h : Held) → is_resting phase ≡ true → next_by phase v h ≡ None
 resting_by Waiting v h rests = absurd (false_true rests)
 resting_by (Due task) v h rests = absurd (false_true rests)
-resting_by (Positioning taken) v h rests = refl
-resting_by Queued v h rests = refl
-resting_by Transferring v h rests = refl
+resting_by other v h rests = refl
 
 pub resting : (w : World) (line u : ℕ) → is_resting (unit_at w u).phase ≡ true → next_acts line u w ≡ []
 resting w line u rests =
@@ -102,18 +100,12 @@ until_over (suc n) w line u lt enough =
 
 -- the fuel
 task_most : (task : Task) → task_left task ≤ 5
-task_most (Clear moved last) = omega arith
 task_most (Judge moved last) = let four : judging_left last ≤ 4 = judging last in omega (arith, four)
-task_most (Steps taken) = omega arith
-task_most Command = omega arith
-task_most (GiveUp done) = omega arith
+task_most other = omega arith
 
 phase_most : (phase : Phase) → phase_left phase ≤ 5
-phase_most Waiting = omega arith
 phase_most (Due task) = task_most task
-phase_most (Positioning taken) = omega arith
-phase_most Queued = omega arith
-phase_most Transferring = omega arith
+phase_most other = omega arith
 
 bit_most : (b : Bool) → (if b then 0 else 1) ≤ 1
 bit_most true = omega arith

@@ -127,10 +127,8 @@ module _ (script : Script) (tables : ℕ → Option Table) (first : ℕ → Pack
       (λ on. absurd (false≢true on)) (same_beyond place new.held e.same)
 
   pub submission_stops : (fault : PlayFault) → SubmissionStops line r fault old new → StopsAt fault script tables first said taken new
-  submission_stops faults.Memory e = absurd e
-  submission_stops (faults.TooLong u n) e = absurd e
-  submission_stops faults.Store e = absurd e
   submission_stops faults.Sink e = submission_sink e
+  submission_stops other e = absurd e
 
 -- THE LINE OF A DRAIN: its first event,
 module _ (script : Script) (tables : ℕ → Option Table) (first : ℕ → Pack) (last : ℕ) (done : List Line) (said taken : List ℕ) (line : ℕ) (old : Stage)

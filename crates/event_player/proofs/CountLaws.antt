@@ -40,40 +40,17 @@ not_full false e = refl
 
 few_requests : (known : Known) (s : Said) → IsWell known s → known.requests ≤ 65536
     → ((learned known s).requests ≡ known.requests + one_request (statement_of s)) × ((learned known s).requests ≤ 65536)
-few_requests known (says.Unit u kind) w few = (refl, omega arith)
 few_requests known (says.Read r) w few =
     let below : known.requests < 65536 = leb-false 65536 known.requests (not_full (nat_le 65536 known.requests) w.in_time) in (refl, omega (arith, below))
 few_requests known (says.Write r content) w few =
     let below : known.requests < 65536 = leb-false 65536 known.requests (not_full (nat_le 65536 known.requests) w.in_time) in (refl, omega (arith, below))
-few_requests known (says.Arrive u) w few = (refl, omega arith)
-few_requests known (says.Turn u sector) w few = (refl, omega arith)
-few_requests known (says.Move a) w few = (refl, omega arith)
-few_requests known (says.Attend a) w few = (refl, omega arith)
-few_requests known (says.Noise u block span places) w few = (refl, omega arith)
-few_requests known (says.Fault u what times) w few = (refl, omega arith)
-few_requests known (says.Offline u) w few = (refl, omega arith)
-few_requests known (says.Online u) w few = (refl, omega arith)
-few_requests known (says.Lock u) w few = (refl, omega arith)
-few_requests known (says.Unlock u) w few = (refl, omega arith)
-few_requests known says.Drain w few = (refl, omega arith)
+few_requests known other w few = (refl, omega arith)
 
 few_noises : (known : Known) (s : Said) → IsWell known s → known.noises ≤ 4096
     → ((learned known s).noises ≡ known.noises + one_noise (statement_of s)) × ((learned known s).noises ≤ 4096)
-few_noises known (says.Unit u kind) w few = (refl, omega arith)
-few_noises known (says.Read r) w few = (refl, omega arith)
-few_noises known (says.Write r content) w few = (refl, omega arith)
-few_noises known (says.Arrive u) w few = (refl, omega arith)
-few_noises known (says.Turn u sector) w few = (refl, omega arith)
-few_noises known (says.Move a) w few = (refl, omega arith)
-few_noises known (says.Attend a) w few = (refl, omega arith)
 few_noises known (says.Noise u block span places) w few =
     let below : known.noises < 4096 = leb-false 4096 known.noises (not_full (nat_le 4096 known.noises) w.in_time) in (refl, omega (arith, below))
-few_noises known (says.Fault u what times) w few = (refl, omega arith)
-few_noises known (says.Offline u) w few = (refl, omega arith)
-few_noises known (says.Online u) w few = (refl, omega arith)
-few_noises known (says.Lock u) w few = (refl, omega arith)
-few_noises known (says.Unlock u) w few = (refl, omega arith)
-few_noises known says.Drain w few = (refl, omega arith)
+few_noises known other w few = (refl, omega arith)
 
 requests_in : (known : Known) (lines : List Numbered) → AreWell known (said_in lines) → known.requests ≤ 65536
     → known.requests + counted one_request (map line_of lines) ≤ 65536

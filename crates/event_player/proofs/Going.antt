@@ -55,25 +55,12 @@ of_units : (w : World) (input : Input) → IsThere w input → IsOfUnits w input
 of_units w (says.ArriveAt u) there = there
 of_units w (says.MoveAt a) there = there
 of_units w (says.AttendTo a) there = there
-of_units w (says.Submit r) there = tt
-of_units w says.Drain there = tt
-of_units w (says.Turn u sector) there = tt
-of_units w (says.Noise noise) there = tt
-of_units w (says.Arm u kind times) there = tt
-of_units w (says.SetOnline u on) there = tt
-of_units w (says.SetLocked u on) there = tt
+of_units w other there = tt
 
 asks_nothing : (w : World) (there : List ℕ) (input : Input) → IsThere w input → AsksSome input × IsOf there input
-asks_nothing w there (says.ArriveAt u) is = (tt, tt)
-asks_nothing w there (says.MoveAt a) is = (tt, tt)
-asks_nothing w there (says.AttendTo a) is = (tt, tt)
 asks_nothing w there (says.Submit r) is = absurd is
 asks_nothing w there says.Drain is = absurd is
-asks_nothing w there (says.Turn u sector) is = (tt, tt)
-asks_nothing w there (says.Noise noise) is = (tt, tt)
-asks_nothing w there (says.Arm u kind times) is = (tt, tt)
-asks_nothing w there (says.SetOnline u on) is = (tt, tt)
-asks_nothing w there (says.SetLocked u on) is = (tt, tt)
+asks_nothing w there other is = (tt, tt)
 
 module _ (script : Script) (tables : ℕ → Option Table) (first : ℕ → Pack) where
   abbrev start : Replay

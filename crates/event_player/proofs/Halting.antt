@@ -336,9 +336,8 @@ module _ {P O T : Type 0} (holds : P → Bool) (held : P → ℕ → Pack) (out_
       → (fault ≡ faults.Store → TakesRest (took trace_tells trace_took trace_faults old_trace new_trace) [] state.kept)
       → ((fault ≡ faults.Store → ⊥) → (new_out ≡ old_out) × (new_trace ≡ old_trace))
       → Leaves fault s first (held packs) (took out_tells out_took out_faults start_out new_out) (took trace_tells trace_took trace_faults start_trace new_trace)
-  stopped_leaves faults.Memory s tables first read is rest rest_lines same = tt
-  stopped_leaves (faults.TooLong u n) s tables first read is rest rest_lines same = tt
   stopped_leaves faults.Store s tables first read is rest rest_lines same = inr (record { tables = tables; read = read; stopped = store_stops s tables first is (rest refl) (rest_lines refl) })
   stopped_leaves faults.Sink s tables first read is rest rest_lines same =
       let other : (new_out ≡ old_out) × (new_trace ≡ old_trace) = same (λ e. cc e) in
       record { tables = tables; read = read; stopped = sink_stops s tables first is other.0 other.1 }
+  stopped_leaves it s tables first read is rest rest_lines same = tt

@@ -43,15 +43,7 @@ one_or false line u block t w = says_idle line
 
 pub one_of : (line : ℕ) (input : Input) (tried : Tried) (w : World) → is_move input ≡ true → SaysOneSector (lines_of_all w (event_acts line input tried w))
 one_of line (says.MoveAt a) tried w is = one_or (can_move (adapter_at w a)) line (unit_of w a) (next_block (adapter_at w a).state) tried w
-one_of line (says.Submit r) tried w is = absurd (false≢true is)
-one_of line (says.ArriveAt u) tried w is = absurd (false≢true is)
-one_of line (says.AttendTo a) tried w is = absurd (false≢true is)
-one_of line says.Drain tried w is = absurd (false≢true is)
-one_of line (says.Turn u sector) tried w is = absurd (false≢true is)
-one_of line (says.Noise n) tried w is = absurd (false≢true is)
-one_of line (says.Arm u kind times) tried w is = absurd (false≢true is)
-one_of line (says.SetOnline u on) tried w is = absurd (false≢true is)
-one_of line (says.SetLocked u on) tried w is = absurd (false≢true is)
+one_of line other tried w is = absurd (false≢true is)
 
 pub record IsMoveOf (line : ℕ) (input : Input) (tried : Tried) (w : World) (held : ℕ → Pack) : Type 0 where
   pub short : IsShort (event_acts line input tried w)
@@ -64,15 +56,7 @@ move_of line (says.MoveAt a) tried w held is sound noise = record {
   may = λ run can. tried_by_rules w line a tried sound can run;
   reads = λ reads can. read_from w line a tried sound can held noise reads;
 }
-move_of line (says.Submit r) tried w held is sound noise = absurd (false≢true is)
-move_of line (says.ArriveAt u) tried w held is sound noise = absurd (false≢true is)
-move_of line (says.AttendTo a) tried w held is sound noise = absurd (false≢true is)
-move_of line says.Drain tried w held is sound noise = absurd (false≢true is)
-move_of line (says.Turn u sector) tried w held is sound noise = absurd (false≢true is)
-move_of line (says.Noise n) tried w held is sound noise = absurd (false≢true is)
-move_of line (says.Arm u kind times) tried w held is sound noise = absurd (false≢true is)
-move_of line (says.SetOnline u on) tried w held is sound noise = absurd (false≢true is)
-move_of line (says.SetLocked u on) tried w held is sound noise = absurd (false≢true is)
+move_of line other tried w held is sound noise = absurd (false≢true is)
 
 -- Any other event may come wherever it speaks of what is there.
 pub still_may : (input : Input) (tried : Tried) (w : World) (held : ℕ → Pack) → is_move input ≡ false → IsThere w input → MayCome w input tried × IsReadOf w held input tried
@@ -81,23 +65,11 @@ still_may (says.Submit r) tried w held is there = absurd there
 still_may (says.ArriveAt u) tried w held is there = (tt, tt)
 still_may (says.AttendTo a) tried w held is there = (tt, tt)
 still_may says.Drain tried w held is there = absurd there
-still_may (says.Turn u sector) tried w held is there = (there, tt)
-still_may (says.Noise n) tried w held is there = (there, tt)
-still_may (says.Arm u kind times) tried w held is there = (there, tt)
-still_may (says.SetOnline u on) tried w held is there = (there, tt)
-still_may (says.SetLocked u on) tried w held is there = (there, tt)
+still_may other tried w held is there = (there, tt)
 
 pub move_is : (input : Input) → is_move input ≡ true → (a : ℕ) × (input ≡ says.MoveAt a)
 move_is (says.MoveAt a) is = (a, refl)
-move_is (says.Submit r) is = absurd (false≢true is)
-move_is (says.ArriveAt u) is = absurd (false≢true is)
-move_is (says.AttendTo a) is = absurd (false≢true is)
-move_is says.Drain is = absurd (false≢true is)
-move_is (says.Turn u sector) is = absurd (false≢true is)
-move_is (says.Noise n) is = absurd (false≢true is)
-move_is (says.Arm u kind times) is = absurd (false≢true is)
-move_is (says.SetOnline u on) is = absurd (false≢true is)
-move_is (says.SetLocked u on) is = absurd (false≢true is)
+move_is other is = absurd (false≢true is)
 
 pub no_move : (input : Input) → is_move input ≡ false → IsNoMove input
 no_move (says.MoveAt a) is = absurd (false≢true (sym is))
@@ -106,25 +78,11 @@ no_move input is = tt
 -- only a move may write
 pub writes_move : (w : World) (input : Input) → writes_by w input ≡ true → is_move input ≡ true
 writes_move w (says.MoveAt a) is = refl
-writes_move w (says.Submit r) is = absurd (false≢true is)
-writes_move w (says.ArriveAt u) is = absurd (false≢true is)
-writes_move w (says.AttendTo a) is = absurd (false≢true is)
-writes_move w says.Drain is = absurd (false≢true is)
-writes_move w (says.Turn u sector) is = absurd (false≢true is)
-writes_move w (says.Noise n) is = absurd (false≢true is)
-writes_move w (says.Arm u kind times) is = absurd (false≢true is)
-writes_move w (says.SetOnline u on) is = absurd (false≢true is)
-writes_move w (says.SetLocked u on) is = absurd (false≢true is)
+writes_move w other is = absurd (false≢true is)
 
 pub event_writes : (w : World) (e : Event) (a : ℕ) (b : Bool) → e ≡ event.Move a → b ≡ writes_next w a → writes_by w (input_of e) ≡ b
 event_writes w e a b is writes = ap (λ (x : Event). writes_by w (input_of x)) is ∙ sym writes
 
 pub no_write : (w : World) (e : Event) → ((a : ℕ) → e ≡ event.Move a → ⊥) → writes_by w (input_of e) ≡ false
 no_write w (event.Move a) other = absurd (other a refl)
-no_write w (event.Arrive u) other = refl
-no_write w (event.Attend a) other = refl
-no_write w (event.Turn u sector) other = refl
-no_write w (event.Noise u block noise span) other = refl
-no_write w (event.Fault u kind times) other = refl
-no_write w (event.Online u on) other = refl
-no_write w (event.Lock u on) other = refl
+no_write w it other = refl

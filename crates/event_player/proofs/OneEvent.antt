@@ -49,8 +49,7 @@ not_over s m ms begun may none (inr between) = false≢true (sym begun ∙ betwe
 
 none_behind : (m : Moment) (ms : List Moment) → played (m ∷ ms) ≡ [] → played ms ≡ []
 none_behind (Played line input) ms none = absurd (cc none)
-none_behind (Told line unit id d) ms none = none
-none_behind (Idle line) ms none = none
+none_behind other ms none = none
 
 -- OUTSIDE A DRAIN no event follows by itself.
 record IsAlone (s : Replay) : Type 0 where
@@ -102,8 +101,7 @@ no_drain w other there = refl
 -- LINES THAT COME WITHIN AN EVENT
 line_comes : (s : Replay) (m : Moment) → LineFollows s m → is_no_line (next_wish s) ≡ false
 line_comes s (Told line unit id d) may = ap is_no_line may.wished ∙ some_line unit d
-line_comes s (Played line input) may = absurd may
-line_comes s (Idle line) may = absurd may
+line_comes s other may = absurd may
 
 not_left : (s : Replay) → is_no_line (next_wish s) ≡ false → drained s ≡ s
 not_left s some = by_drain s.event.drains
@@ -152,13 +150,7 @@ event_one line (says.AttendTo a) tried w s can rests run =
     subst (λ (acts : List Act). AreOfOneEvent s (lines_of_all w acts)) (sym is)
     (lines_one s (lines_of_all w (attended line a w))
     (attended_told line a true w s can.0 (other_act line true (serving_is w s a rests.sound rests.shows can.0) rests) (subst (Run w) is run)).follow)
-event_one line (says.Submit r) tried w s can rests run = absurd can
-event_one line says.Drain tried w s can rests run = absurd can
-event_one line (says.Turn u sector) tried w s can rests run = absurd can
-event_one line (says.Noise noise) tried w s can rests run = absurd can
-event_one line (says.Arm u kind times) tried w s can rests run = absurd can
-event_one line (says.SetOnline u on) tried w s can rests run = absurd can
-event_one line (says.SetLocked u on) tried w s can rests run = absurd can
+event_one line other tried w s can rests run = absurd can
 
 -- A MOVE does one act at most, which tells one line.
 abbrev pub IsShort : List Act → Type 0

@@ -69,39 +69,15 @@ ready_behind s r n f xs w acts units room slots within are =
 -- AN EVENT brings what its input says,
 same_noises : (input : Input) → noises_of input ≡ one_noise (Plays input)
 same_noises (script.Submit r) = refl
-same_noises (script.ArriveAt u) = refl
-same_noises (script.MoveAt a) = refl
-same_noises (script.AttendTo a) = refl
-same_noises script.Drain = refl
-same_noises (script.Turn u sector) = refl
-same_noises (script.Noise noise) = refl
-same_noises (script.Arm u kind times) = refl
-same_noises (script.SetOnline u on) = refl
-same_noises (script.SetLocked u on) = refl
+same_noises other = refl
 
 same_faults : (input : Input) → faults_of input ≡ one_fault (Plays input)
 same_faults (script.Submit r) = refl
-same_faults (script.ArriveAt u) = refl
-same_faults (script.MoveAt a) = refl
-same_faults (script.AttendTo a) = refl
-same_faults script.Drain = refl
-same_faults (script.Turn u sector) = refl
-same_faults (script.Noise noise) = refl
-same_faults (script.Arm u kind times) = refl
-same_faults (script.SetOnline u on) = refl
-same_faults (script.SetLocked u on) = refl
+same_faults other = refl
 
 with_more : (input : Input) (xs : List ℕ) (id : ℕ) → Contains xs id → Contains (with_id (Plays input) xs) id
 with_more (script.Submit r) xs id has = Contains-later id r.id xs has
-with_more (script.ArriveAt u) xs id has = has
-with_more (script.MoveAt a) xs id has = has
-with_more (script.AttendTo a) xs id has = has
-with_more script.Drain xs id has = has
-with_more (script.Turn u sector) xs id has = has
-with_more (script.Noise noise) xs id has = has
-with_more (script.Arm u kind times) xs id has = has
-with_more (script.SetOnline u on) xs id has = has
-with_more (script.SetLocked u on) xs id has = has
+with_more other xs id has = has
 
 event_ready : (line : ℕ) (input : Input) (old new : Stage) → PlaysEvent line input old new → (s : Script) (r n f : ℕ) (xs : List ℕ) → Ready s r n f xs old.world
     → Ready s r (n + noises_of input) (f + faults_of input) xs new.world
@@ -310,14 +286,13 @@ module _ (s : Script) (state : State) (front : List Line) (line : Line) (behind 
   may_input : (input : Input) → line.statement ≡ Plays input → IsInput (drives_of s) input → MayPlay state (Plays input)
   may_input (script.Submit r) at there = may_ask r at there
   may_input (script.ArriveAt u) at there = set_up s state.world ready.units u there
-  may_input (script.MoveAt a) at there = there
-  may_input (script.AttendTo a) at there = there
   may_input script.Drain at there = ready.slots
   may_input (script.Turn u sector) at there = may_turn s state.world ready.units u sector there
   may_input (script.Noise noise) at there = may_strike s state.world ready.units noise (noise_fits noise at) there
   may_input (script.Arm u kind times) at there = may_arm s state.world ready.units u kind times (counted one_fault front) s.count (ready.within.faults u kind) few_so_far small there
   may_input (script.SetOnline u on) at there = set_up s state.world ready.units u there
   may_input (script.SetLocked u on) at there = set_up s state.world ready.units u there
+  may_input other at there = there
 
   may_state : (statement : Statement) → line.statement ≡ statement → IsStatement (drives_of s) statement → MayPlay state statement
   may_state (Declares u kind) at there = tt

@@ -327,7 +327,6 @@ module _ {script : Script} {tables : ℕ → Option Table} {first : ℕ → Pack
       left_by (inr next) = inr next.1
 
   pub event_stops : (fault : PlayFault) → IsThere now.world input → EventStops line input fault now new → StopsAt fault script tables first said taken new
-  event_stops faults.Memory there e = absurd e
-  event_stops (faults.TooLong u n) there e = absurd e
   event_stops faults.Store there e = event_store e
   event_stops faults.Sink there e = event_sink there e
+  event_stops other there e = absurd e

@@ -7,19 +7,7 @@ use Rattle.trace_lines.specs.answers.AnswerText.{answer_text, out_text}
 told_said : (line unit id : ℕ) (deed : Deed) (ms : List Moment) → out_text ms ≡ flat_map answer_text (answers_in ms)
     → out_text (Told line unit id deed ∷ ms) ≡ flat_map answer_text (answers_in (Told line unit id deed ∷ ms))
 told_said line unit id (End answer) ms is = ap (λ (text : List ℕ). answer_text (record { line = line; id = id; answer = answer }) ++ text) is
-told_said line unit id (Search cylinder sector) ms is = is
-told_said line unit id (Seek cylinder) ms is = is
-told_said line unit id Recal ms is = is
-told_said line unit id (Offset code) ms is = is
-told_said line unit id Centre ms is = is
-told_said line unit id Clear ms is = is
-told_said line unit id Pack ms is = is
-told_said line unit id (Transfer write block count) ms is = is
-told_said line unit id Arrive ms is = is
-told_said line unit id (Sector block verdict) ms is = is
-told_said line unit id Intr ms is = is
-told_said line unit id (Try block failures) ms is = is
-told_said line unit id Attn ms is = is
+told_said line unit id other ms is = is
 
 pub said_lines : (ms : List Moment) → played ms ≡ [] → out_text ms ≡ flat_map answer_text (answers_in ms)
 said_lines [] none = refl

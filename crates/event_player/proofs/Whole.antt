@@ -168,20 +168,8 @@ plays_end s i number old mid drained new all is drains sent before tables run =
 
 -- WHAT A WRITE WRITES is there, where statements are well formed.
 data_of : (known : Known) (st : Said) → IsInRange known st → HasData st
-data_of known (stated.Unit u kind) range = tt
-data_of known (stated.Read request) range = tt
 data_of known (stated.Write request content) range = range.1
-data_of known (stated.Arrive u) range = tt
-data_of known (stated.Turn u sector) range = tt
-data_of known (stated.Move a) range = tt
-data_of known (stated.Attend a) range = tt
-data_of known (stated.Noise u block span places) range = tt
-data_of known (stated.Fault u what times) range = tt
-data_of known (stated.Offline u) range = tt
-data_of known (stated.Online u) range = tt
-data_of known (stated.Lock u) range = tt
-data_of known (stated.Unlock u) range = tt
-data_of known stated.Drain range = tt
+data_of known other range = tt
 
 well_data : (i : ℕ) (d : Said) (known : Known) (statements : List Said) → AreWell known statements → i < length statements → HasData (get_or statements i d)
 well_data i d known [] well lt = absurd (omega (arith, lt))

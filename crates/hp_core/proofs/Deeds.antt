@@ -75,8 +75,7 @@ pub record AreNarrow (kind : DriveKind) : Type 0 where
 
 narrow_kind : (kind : DriveKind) → AreNarrow kind
 narrow_kind Rp06 = record { cylinders = omega arith; tracks = omega arith; sectors = omega arith }
-narrow_kind Rm03 = record { cylinders = omega arith; tracks = omega arith; sectors = omega arith }
-narrow_kind Rm05 = record { cylinders = omega arith; tracks = omega arith; sectors = omega arith }
+narrow_kind other = record { cylinders = omega arith; tracks = omega arith; sectors = omega arith }
 
 below : (x n m : ℕ) → x < n → n ≤ m → x < m
 below x n m lt le = omega (arith, lt, le)
@@ -87,8 +86,7 @@ look_below la look n e lt = omega (arith, e, lt)
 
 few_blocks : (kind : DriveKind) → block_count kind ≤ 2 ^ 32
 few_blocks Rp06 = omega arith
-few_blocks Rm03 = omega arith
-few_blocks Rm05 = omega arith
+few_blocks other = omega arith
 
 narrow : (kind : DriveKind) (place : Place) → IsInside kind place → IsNarrow place
 narrow kind place is =

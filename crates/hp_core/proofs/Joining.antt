@@ -76,8 +76,7 @@ module _ (w : World) (u p : ℕ) (s : Sound w) (unit : u < 32) (free : p < lengt
 -- a request inside a drive's data begins at one of its blocks
 limit_inside : (kind : DriveKind) → limit_of kind ≤ block_count kind
 limit_inside Rp06 = omega arith
-limit_inside Rm03 = omega arith
-limit_inside Rm05 = omega arith
+limit_inside other = omega arith
 
 pub first_below : (kind : DriveKind) (first count : ℕ) → first + count ≤ limit_of kind → 1 ≤ count → first < block_count kind
 first_below kind first count inside some = let most = limit_inside kind in omega (arith, inside, some, most)

@@ -26,11 +26,8 @@ module _ (w : World) (line u id : ℕ) (sound : Sound w) (lt : u < 32) where
 
 -- between two events no unit may have a command without a choice
 none_needs : (phase : Phase) (v : UnitView) → WorkOf phase v.queue → needs_free phase ≡ true → ⊥
-none_needs Waiting v works needs = false_true needs
-none_needs (Positioning taken) v works needs = false_true needs
-none_needs Queued v works needs = false_true needs
-none_needs Transferring v works needs = false_true needs
 none_needs (Due task) v works needs = works
+none_needs other v works needs = false_true needs
 
 pub work_free : (w : World) (u : ℕ) → AtWork w → u < 32 → IsFree w u
 work_free w u work lt = λ needs. absurd (none_needs (unit_at w u).phase (unit_at w u) (work.units u lt) needs)

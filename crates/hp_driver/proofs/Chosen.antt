@@ -29,22 +29,18 @@ may_by u other s due chosen = inr chosen
 
 -- behind it no transfer command comes without a choice
 free_by : (line u p : ℕ) (d : Deed) (s : Scene) → IsDue s.unit s.held d → s.unit.phase ≡ Queued → needs_free (effect line u p d s).unit.phase ≡ true → ⊥
-free_by line u p (deed.Search target sector) s due queued needs = false_true needs
-free_by line u p (deed.Do step taken) s due queued needs = false_true needs
-free_by line u p (deed.Move write segment) s due queued needs = false_true needs
 free_by line u p deed.Pack s due queued needs = false_true (sym (ap needs_free queued) ∙ needs)
 free_by line u p (deed.Dclr moved last) s due queued needs = not_queued s.unit.phase _ due queued
 free_by line u p deed.Rtc s due queued needs = false_true (sym (ap needs_free queued) ∙ needs)
-free_by line u p (deed.Ready transfer) s due queued needs = false_true needs
 free_by line u p (deed.Repair moved at pattern) s due queued needs = not_queued s.unit.phase _ due.phase queued
 free_by line u p (deed.Forward moved index) s due queued needs = not_queued s.unit.phase _ due.0.phase queued
 free_by line u p (deed.Continue moved) s due queued needs = not_queued s.unit.phase _ due.0.phase queued
 free_by line u p (deed.Try moved block number next) s due queued needs = not_queued s.unit.phase _ due.2.phase queued
-free_by line u p (deed.End kind) s due queued needs = false_true needs
 free_by line u p deed.Arrive s due queued needs = absurd due
 free_by line u p (deed.Sector block tried) s due queued needs = absurd due
 free_by line u p (deed.Intr moved last) s due queued needs = absurd due
 free_by line u p (deed.Attn taken) s due queued needs = absurd due
+free_by line u p other s due queued needs = false_true needs
 
 module _ (w : World) (line u id : ℕ) (named : id ≡ (hand_at w u).id) (sound : Sound w) (lt : u < 32) (queued : (unit_at w u).phase ≡ Queued) where
   pub asked_some : 0 < length (unit_at w u).queue

@@ -42,11 +42,10 @@ one_three : (n : ℕ) → n ≤ 1 → n ≤ 3
 one_three n few = omega (arith, few)
 
 steps_few : (cylinder : ℕ) (step : Step) → length (steps_for cylinder step) ≤ 3
-steps_few cylinder retry.Again = omega arith
 steps_few cylinder (retry.Offset code) = one_three _ (offset_few (Some code))
 steps_few cylinder (retry.Recalibrate code) =
     more Recalibrate (seek_steps cylinder (offset_steps code)) (seek_few (cylinder == 0) cylinder (offset_steps code) (offset_few code))
-steps_few cylinder retry.GiveUp = omega arith
+steps_few cylinder other = omega arith
 
 -- how far a segment came when it ended
 ended_most : (last : Moved) (moved count : ℕ) → IsEndedAt last moved count → moved ≤ count

@@ -131,18 +131,14 @@ no_move w line a tried can =
 -- AN ATTENTION is up only where a positioning has ended.
 task_down : (task : Task) (v : UnitView) (h : Held) → IsTask v h task → v.drive.attention ≡ false
 task_down (Clear moved last) v h is = is.1.attention
-task_down (Judge moved last) v h is = is.1.attention
-task_down (Steps taken) v h is = is.1.attention
-task_down Command v h is = is.1.attention
-task_down (GiveUp done) v h is = is.1.attention
+task_down other v h is = is.1.attention
 
 raised_phase : (u : ℕ) (phase : Phase) (v : UnitView) (a : AdapterView) (h : Held) → IsPhase u v a h phase → v.drive.attention ≡ true
     → phase ≡ Positioning (steps_taken phase)
 raised_phase u Waiting v a h is up = absurd (false_true (sym is.0.attention ∙ up))
 raised_phase u (Due task) v a h is up = absurd (false_true (sym (task_down task v h is) ∙ up))
 raised_phase u (Positioning taken) v a h is up = refl
-raised_phase u Queued v a h is up = absurd (false_true (sym is.1.attention ∙ up))
-raised_phase u Transferring v a h is up = absurd (false_true (sym is.1.attention ∙ up))
+raised_phase u other v a h is up = absurd (false_true (sym is.1.attention ∙ up))
 
 module _ (w : World) (u : ℕ) (sound : Sound w) (less : u < 32) (up : (unit_at w u).drive.attention ≡ true) where
   raised : (unit_at w u).phase ≡ Positioning (steps_taken (unit_at w u).phase)

@@ -23,11 +23,8 @@ use Rattle.hp_driver.proofs.Exits.{as_acts, handed}
 
 -- A REQUEST JOINS where no task is due
 task_needs : (phase : Phase) (queue : List Waiter) → WorkOf phase queue → needs_free phase ≡ true → ⊥
-task_needs Waiting queue at needs = false_true needs
 task_needs (Due task) queue at needs = at
-task_needs (Positioning taken) queue at needs = false_true needs
-task_needs Queued queue at needs = false_true needs
-task_needs Transferring queue at needs = false_true needs
+task_needs other queue at needs = false_true needs
 
 pub join_free : (w : World) (line p : ℕ) (h : Held) → Sound w → AtWork w → h.unit < 32 → IsFree (after w (Submit line p h)) h.unit
 join_free w line p h sound at less =

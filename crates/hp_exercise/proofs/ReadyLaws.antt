@@ -94,8 +94,7 @@ seq_bound w = mod_below (w / 1099511627776) 256 (omega arith)
 
 inside : (kind : DriveKind) (b : ℕ) → b < 15000 → b < block_count kind
 inside Rp06 b lt = omega (arith, lt)
-inside Rm03 b lt = omega (arith, lt)
-inside Rm05 b lt = omega (arith, lt)
+inside other b lt = omega (arith, lt)
 
 times_some : (w : ℕ) → 1 ≤ times_of w
 times_some w = omega arith

@@ -10,8 +10,7 @@ use Rattle.transfer_engine.specs.Calls.{entry_for, entry_by}
 
 replacement-is-above : (kind : DriveKind) (i : ℕ) → i < 126 → limit_of kind ≤ replacement_at kind i
 replacement-is-above Rp06 i small = omega (arith, small)
-replacement-is-above Rm03 i small = omega (arith, small)
-replacement-is-above Rm05 i small = omega (arith, small)
+replacement-is-above other i small = omega (arith, small)
 
 own-by : (t : TransferState) (table : Option Table) (moved : ℕ) (index : Option ℕ) → t.index ≡ index → IsTransfer t
     → (segment_by index t.job t.done).block < limit_of t.job.kind

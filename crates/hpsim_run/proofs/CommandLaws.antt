@@ -254,16 +254,7 @@ status_at n =
 
 status_of_code : (s : Status) → status_at (status_code s) ≡ s
 status_of_code status.Done = refl
-status_of_code status.Usage = refl
-status_of_code status.Refused = refl
-status_of_code status.SourceFailed = refl
-status_of_code status.SinkFailed = refl
-status_of_code status.PacksFailed = refl
-status_of_code status.TooLong = refl
-status_of_code status.ToolRefused = refl
-status_of_code status.OutOfMemory = refl
-status_of_code status.TransferRefused = refl
-status_of_code status.FormatRefused = refl
+status_of_code other = refl
 
 sink_is : (s : Status) → status_code s ≡ 5 → s ≡ status.SinkFailed
 sink_is s e = sym (status_of_code s) ∙ ap (λ (n : ℕ). status_at n) e

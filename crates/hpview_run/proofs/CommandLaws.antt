@@ -104,42 +104,32 @@ drawn_other status other (inr e) is not_done not_failed = not_failed (sym e ∙ 
 -- WHAT A FAULT COMES TO
 pub fault_status : (status : Status) (fault : ViewFault) → status ≡ status_of fault → IsViewStatus status
 fault_status status faults.Memory e = subst IsViewStatus (sym e) tt
-fault_status status faults.Failed e = subst IsViewStatus (sym e) tt
-fault_status status (faults.Script line kind) e = subst IsViewStatus (sym e) tt
-fault_status status (faults.Trace line kind) e = subst IsViewStatus (sym e) tt
+fault_status status other e = subst IsViewStatus (sym e) tt
 
 fault_no_done : (fault : ViewFault) → status_of fault ≡ Done → ⊥
 fault_no_done faults.Memory is = cc
-fault_no_done faults.Failed is = cc
-fault_no_done (faults.Script line kind) is = cc
-fault_no_done (faults.Trace line kind) is = cc
+fault_no_done other is = cc
 
 pub no_done : (status : Status) (fault : ViewFault) → status ≡ status_of fault → status ≡ Done → ⊥
 no_done status fault e is = fault_no_done fault (sym e ∙ is)
 
 fault_no_sink : (fault : ViewFault) → status_of fault ≡ SinkFailed → ⊥
 fault_no_sink faults.Memory is = cc
-fault_no_sink faults.Failed is = cc
-fault_no_sink (faults.Script line kind) is = cc
-fault_no_sink (faults.Trace line kind) is = cc
+fault_no_sink other is = cc
 
 pub no_sink : (status : Status) (fault : ViewFault) → status ≡ status_of fault → status ≡ SinkFailed → ⊥
 no_sink status fault e is = fault_no_sink fault (sym e ∙ is)
 
 fault_failed : (fault : ViewFault) → status_of fault ≡ SourceFailed → fault ≡ faults.Failed
-fault_failed faults.Memory is = absurd cc
 fault_failed faults.Failed is = refl
-fault_failed (faults.Script line kind) is = absurd cc
-fault_failed (faults.Trace line kind) is = absurd cc
+fault_failed other is = absurd cc
 
 pub failed_by : (status : Status) (fault : ViewFault) → status ≡ status_of fault → status ≡ SourceFailed → fault ≡ faults.Failed
 failed_by status fault e is = fault_failed fault (sym e ∙ is)
 
 fault_memory : (fault : ViewFault) → status_of fault ≡ OutOfMemory → fault ≡ faults.Memory
 fault_memory faults.Memory is = refl
-fault_memory faults.Failed is = absurd cc
-fault_memory (faults.Script line kind) is = absurd cc
-fault_memory (faults.Trace line kind) is = absurd cc
+fault_memory other is = absurd cc
 
 pub silent_by : (status : Status) (fault : ViewFault) → status ≡ status_of fault → (status ≡ SourceFailed) ⊎ (status ≡ OutOfMemory)
     → (fault ≡ faults.Memory) ⊎ (fault ≡ faults.Failed)
@@ -149,12 +139,11 @@ silent_by status fault e (inr is) = inl (fault_memory fault (sym e ∙ is))
 told_by_fault : (fault : ViewFault) (tells : Bool) (text : List ℕ) (trace_tells : Bool) (trace : List ℕ) (out_tells : Bool) (taken after : List ℕ) (before behind : ℕ)
     → Refuses fault tells text trace_tells trace → status_of fault ≡ Refused → (IsTrue out_tells → TellsFault fault taken after before behind)
     → TellsRefusal tells text trace_tells trace out_tells taken after before behind
-told_by_fault faults.Memory tells text trace_tells trace out_tells taken after before behind refuses is told = absurd cc
-told_by_fault faults.Failed tells text trace_tells trace out_tells taken after before behind refuses is told = absurd cc
 told_by_fault (faults.Script line kind) tells text trace_tells trace out_tells taken after before behind refuses is told =
     inl (record { line = line; kind = kind; first = refuses.of_script; told = told })
 told_by_fault (faults.Trace line kind) tells text trace_tells trace out_tells taken after before behind refuses is told =
     inr (record { line = line; kind = kind; first = refuses.of_trace; told = told })
+told_by_fault other tells text trace_tells trace out_tells taken after before behind refuses is told = absurd cc
 
 pub refusal_told : (status : Status) (fault : ViewFault) (tells : Bool) (text : List ℕ) (trace_tells : Bool) (trace : List ℕ) (out_tells : Bool) (taken after : List ℕ) (before behind : ℕ)
     → status ≡ status_of fault → Refuses fault tells text trace_tells trace → status ≡ Refused → (IsTrue out_tells → TellsFault fault taken after before behind)

@@ -90,14 +90,12 @@ draws_of command text trace bytes picture r d = record {
 }
 
 pub refuses_of : (fault : ViewFault) (text trace bytes : List ℕ) → IsRead 268435456 trace bytes → RefusesTrace fault text bytes → RefusesTrace fault text trace
-refuses_of faults.Memory text trace bytes r refused = tt
-refuses_of faults.Failed text trace bytes r refused = tt
-refuses_of (faults.Script line kind) text trace bytes r refused = tt
 refuses_of (faults.Trace line kind) text trace bytes r refused = record {
   stored = refused.stored;
   loads = refused.loads;
   refused = trace_refused refused.stored trace bytes line kind r refused.refused;
 }
+refuses_of other text trace bytes r refused = tt
 
 -- what is neither of the script nor of the trace refuses nothing of them
 pub refuses_none : (fault : ViewFault) (text trace : List ℕ) → (fault ≡ faults.Memory) ⊎ (fault ≡ faults.Failed) → RefusesTrace fault text trace

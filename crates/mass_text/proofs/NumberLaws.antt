@@ -36,18 +36,15 @@ all_digits base xs h i small = below_base (get_or xs i 0) base (none_fails (λ c
 
 base_low : (radix : Radix) → 2 ≤ base_of radix
 base_low Octal = omega arith
-base_low Decimal = omega arith
-base_low Hex = omega arith
+base_low other = omega arith
 
 base_high : (radix : Radix) → base_of radix ≤ 16
 base_high Octal = omega arith
-base_high Decimal = omega arith
-base_high Hex = omega arith
+base_high other = omega arith
 
 pub base_small : (radix : Radix) → 1 ≤ base_of radix
 base_small Octal = omega arith
-base_small Decimal = omega arith
-base_small Hex = omega arith
+base_small other = omega arith
 
 position_by : (base c n m : ℕ) → digit_value c < base → n ≡ m → cond (not (not (is_digit c base))) (1 + n) 0 ≡ suc m
 position_by base c n m digit e = grind arith
@@ -61,8 +58,7 @@ no_position p xs e = grind arith
 
 wide : (radix : Radix) (n : ℕ) → n < 2 ^ 64 → n < base_of radix ^ 64
 wide Octal n fits = omega arith
-wide Decimal n fits = omega arith
-wide Hex n fits = omega arith
+wide other n fits = omega arith
 
 number_by : (max n : ℕ) (test : Bool) (at : Option ℕ) (value : ℕ) → test ≡ false → at ≡ None → value ≡ n → n ≤ max
     → cond test (Err Empty) (fault_or at (up_to max value)) ≡ Ok n

@@ -12,23 +12,16 @@ use Rattle.hardware_table.specs.Moves.{after_move, with_fault_bits, with_mark_bi
 
 fault_work : (kind : FaultKind) (d : DriveState) → (with_fault_bits kind d).work ≡ d.work
 fault_work Seek d = refl
-fault_work Opi d = refl
-fault_work Dte d = refl
-fault_work Hcrc d = refl
-fault_work Late d = refl
+fault_work other d = refl
 
 mark_work : (kind : DriveKind) (d : DriveState) → (with_mark_bits kind d).work ≡ d.work
 mark_work Rp06 d = refl
-mark_work Rm03 d = refl
-mark_work Rm05 d = refl
+mark_work other d = refl
 
 pub move_work : (v : Moved) (block : ℕ) (d : DriveState) → (after_move v block d).work ≡ d.work
-move_work Offline block d = refl
 move_work (Faulted kind) block d = fault_work kind _
 move_work Marked block d = mark_work d.kind d
-move_work Clean block d = refl
-move_work (Burst at pattern) block d = refl
-move_work Hard block d = refl
+move_work other block d = refl
 
 pub still_transferring : (v : Moved) (block : ℕ) (d moved : DriveState) (write : Bool) → moved ≡ after_move v block d → d.work ≡ Transfer write
     → is_transferring moved.work ≡ true

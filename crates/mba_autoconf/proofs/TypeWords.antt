@@ -8,8 +8,7 @@ use Rattle.mba_autoconf.specs.Probe.{nine_bits, type_code}
 -- it has the kind's code
 pub type_code-type_word : (kind : DriveKind) → nine_bits (type_word kind) ≡ type_code kind
 type_code-type_word Rp06 = refl
-type_code-type_word Rm03 = refl
-type_code-type_word Rm05 = refl
+type_code-type_word other = refl
 
 pub type_register : (d : DriveState) → nine_bits (type_word d.kind) ≡ type_code d.kind
 type_register d = type_code-type_word d.kind

@@ -40,9 +40,6 @@ module _ {kind : DriveKind} {unit serial : ℕ} {tells : Bool} {old new : ℕ �
       → (IsTrue out_tells → Told taken after (format_text unit f) faults faults_after)
       → RunsFormat kind unit serial (status_code (format_status f)) tells old new out_tells taken after faults faults_after
   unfolding format_text
-  fault_run (fault.TooMany n) why left told = refusal (fault.TooMany n) refl why left told
-  fault_run (fault.Spare i) why left told = refusal (fault.Spare i) refl why left told
-  fault_run fault.NoCopy why left told = refusal fault.NoCopy refl why left told
   fault_run (fault.Differs b a w r) why left told = refusal (fault.Differs b a w r) refl why (λ t. absurd (left t)) told
   fault_run (fault.TooLong n) why left told = record {
     statuses = inr (inr (inr (inl refl)));
@@ -74,6 +71,7 @@ module _ {kind : DriveKind} {unit serial : ℕ} {tells : Bool} {old new : ℕ �
     fits = λ e. why;
     elsewhere = elsewhere;
   }
+  fault_run other why left told = refusal other refl why left told
 
   pub format_fault : {status : Status} (f : FormatFault) → status ≡ format_status f → (IsTrue tells → IsWhy kind (old unit) f)
       → (IsTrue tells → Leaves kind serial unit old new f) → (IsTrue out_tells → Told taken after (format_text unit f) faults faults_after)

@@ -49,11 +49,6 @@ module _ {kind : DriveKind} {unit block : ℕ} {way : AddWay} {tells : Bool} {ol
       → (IsTrue out_tells → Told taken after (fault_text unit f) faults faults_after)
       → RunsAdd kind unit block way (status_code (fault_status f)) tells old new out_tells taken after faults faults_after
   unfolding fault_text
-  add_fault fault.NoTable is why left told = refused_run fault.NoTable refl why left told
-  add_fault fault.Reserved is why left told = refused_run fault.Reserved refl why left told
-  add_fault (fault.Listed i) is why left told = refused_run (fault.Listed i) refl why left told
-  add_fault fault.Full is why left told = refused_run fault.Full refl why left told
-  add_fault (fault.Spare j) is why left told = refused_run (fault.Spare j) refl why left told
   add_fault (fault.TooLong n) is why left told = record {
     statuses = inr (inr (inr (inl refl)));
     added = λ e. absurd (elim e [ inl e ↦ omega (arith, e) | inr e ↦ omega (arith, e) ]);
@@ -73,6 +68,7 @@ module _ {kind : DriveKind} {unit block : ℕ} {way : AddWay} {tells : Bool} {ol
     refused = λ e. absurd (omega (arith, e));
   }
   add_fault fault.Sink is why left told = absurd is
+  add_fault other is why left told = refused_run other refl why left told
 
   pub add_run : {status : Status} (f : ToolFault) → status ≡ fault_status f → IsAddFault kind f → (IsTrue tells → IsWhy kind (old unit) block f)
       → (IsTrue tells → Leaves kind unit block way old new f) → (IsTrue out_tells → Told taken after (fault_text unit f) faults faults_after)
@@ -294,11 +290,7 @@ module _ {kind : DriveKind} {unit : ℕ} {tells : Bool} {old new : ℕ → Pack}
     unchanged = λ e. absurd (omega (arith, e));
     refused = λ e. absurd (omega (arith, e));
   }
-  mark_fault fault.Reserved is why left told = absurd is
-  mark_fault (fault.Listed i) is why left told = absurd is
-  mark_fault fault.Full is why left told = absurd is
-  mark_fault (fault.Spare j) is why left told = absurd is
-  mark_fault fault.Sink is why left told = absurd is
+  mark_fault other is why left told = absurd is
 
   pub mark_run : {status : Status} (f : ToolFault) → status ≡ fault_status f → IsMarkFault kind f → (IsTrue tells → IsWhy kind (old unit) 0 f)
       → (IsTrue tells → LeavesMarks kind unit old new f) → (IsTrue out_tells → Told taken after (fault_text unit f) faults faults_after)

@@ -19,13 +19,11 @@ marked_alone kind serial sector old new f marked = f.others sector (marked_writt
 
 spare_place : (kind : DriveKind) (i : ℕ) → i < 126 → (limit_of kind ≤ replacement_at kind i) × (replacement_at kind i < copy_at kind 0)
 spare_place Rp06 i lt = (omega (arith, lt), omega (arith, lt))
-spare_place Rm03 i lt = (omega (arith, lt), omega (arith, lt))
-spare_place Rm05 i lt = (omega (arith, lt), omega (arith, lt))
+spare_place other i lt = (omega (arith, lt), omega (arith, lt))
 
 spares_apart : (kind : DriveKind) (i j : ℕ) → i < 126 → j < i → replacement_at kind i < replacement_at kind j
 spares_apart Rp06 i j lt less = omega (arith, lt, less)
-spares_apart Rm03 i j lt less = omega (arith, lt, less)
-spares_apart Rm05 i j lt less = omega (arith, lt, less)
+spares_apart other i j lt less = omega (arith, lt, less)
 
 pub copies_above : (kind : DriveKind) (k : ℕ) → copy_at kind 0 ≤ copy_at kind k
 copies_above kind k = omega arith

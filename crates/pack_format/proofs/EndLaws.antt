@@ -49,13 +49,9 @@ fault_of kind told test.Store stop = tt
 
 -- what changed nothing
 pub left_alone : (kind : DriveKind) (serial unit : ℕ) (old new : ℕ → Pack) (pack : Pack) (f : FormatFault) → IsWhy kind pack f → new ≡ old → Leaves kind serial unit old new f
-left_alone kind serial unit old new pack (TooLong size) why same = same
-left_alone kind serial unit old new pack (TooMany number) why same = same
-left_alone kind serial unit old new pack (Spare index) why same = same
-left_alone kind serial unit old new pack NoCopy why same = same
 left_alone kind serial unit old new pack (Differs block at wrote read) why same = absurd why
-left_alone kind serial unit old new pack Memory why same = same
 left_alone kind serial unit old new pack Store why same = inl same
+left_alone kind serial unit old new pack other why same = same
 
 -- what was done behind a step that changed nothing
 pub formatted_behind : {E : Type 0} (kind : DriveKind) (serial unit : ℕ) (old mid new : ℕ → Pack) (told : Type 0) (result : Result FormatReport E) → (told → mid ≡ old)

@@ -73,10 +73,7 @@ pub refusal_is_fault : (kind : DriveKind) (f : FormatFault) → IsRefusal f → 
 refusal_is_fault kind (TooMany number) is = tt
 refusal_is_fault kind (Spare index) is = tt
 refusal_is_fault kind NoCopy is = tt
-refusal_is_fault kind (TooLong size) is = absurd is
-refusal_is_fault kind (Differs block at wrote read) is = absurd is
-refusal_is_fault kind Memory is = absurd is
-refusal_is_fault kind Store is = absurd is
+refusal_is_fault kind other is = absurd is
 
 pub refusal_is_not_store : (f : FormatFault) → IsRefusal f → f ≡ Store → ⊥
 refusal_is_not_store f is store = subst IsRefusal store is

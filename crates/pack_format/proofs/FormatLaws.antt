@@ -25,31 +25,26 @@ use Rattle.pack_format.proofs.SurveyLaws.{among}
 
 data_below : (kind : DriveKind) (sector k : ℕ) → sector < limit_of kind → sector < copy_at kind k
 data_below Rp06 sector k lt = omega (arith, lt)
-data_below Rm03 sector k lt = omega (arith, lt)
-data_below Rm05 sector k lt = omega (arith, lt)
+data_below other sector k lt = omega (arith, lt)
 
 data_apart : (kind : DriveKind) (sector n : ℕ) → sector < limit_of kind → n ≤ 126 → sector < copy_at kind 0 - n
 data_apart Rp06 sector n lt le = omega (arith, lt, le)
-data_apart Rm03 sector n lt le = omega (arith, lt, le)
-data_apart Rm05 sector n lt le = omega (arith, lt, le)
+data_apart other sector n lt le = omega (arith, lt, le)
 
 -- a block of the replacements is one of them
 which_replacement : (kind : DriveKind) (sector n : ℕ) → n ≤ 126 → copy_at kind 0 - n ≤ sector → sector < copy_at kind 0
     → (i : ℕ) × (i < n) × (sector ≡ replacement_at kind i)
 which_replacement Rp06 sector n le from to = (copy_at Rp06 0 - 1 - sector, omega (arith, le, from, to), omega (arith, le, from, to))
-which_replacement Rm03 sector n le from to = (copy_at Rm03 0 - 1 - sector, omega (arith, le, from, to), omega (arith, le, from, to))
-which_replacement Rm05 sector n le from to = (copy_at Rm05 0 - 1 - sector, omega (arith, le, from, to), omega (arith, le, from, to))
+which_replacement other sector n le from to = (copy_at other 0 - 1 - sector, omega (arith, le, from, to), omega (arith, le, from, to))
 
 replacement_in : (kind : DriveKind) (i n : ℕ) → n ≤ 126 → i < n
     → (limit_of kind ≤ replacement_at kind i) × (copy_at kind 0 - n ≤ replacement_at kind i) × (replacement_at kind i < copy_at kind 0)
 replacement_in Rp06 i n le lt = (omega (arith, le, lt), omega (arith, le, lt), omega (arith, le, lt))
-replacement_in Rm03 i n le lt = (omega (arith, le, lt), omega (arith, le, lt), omega (arith, le, lt))
-replacement_in Rm05 i n le lt = (omega (arith, le, lt), omega (arith, le, lt), omega (arith, le, lt))
+replacement_in other i n le lt = (omega (arith, le, lt), omega (arith, le, lt), omega (arith, le, lt))
 
 pub above_data : (kind : DriveKind) (k : ℕ) → limit_of kind ≤ copy_at kind k
 above_data Rp06 k = omega arith
-above_data Rm03 k = omega arith
-above_data Rm05 k = omega arith
+above_data other k = omega arith
 
 first_copy : (kind : DriveKind) (k : ℕ) → copy_at kind 0 ≤ copy_at kind k
 first_copy kind k = omega arith

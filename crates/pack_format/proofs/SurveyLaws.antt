@@ -139,8 +139,7 @@ survey_over kind serial pack block number table other survey marked over = recor
 
 number_back : (kind : DriveKind) (block : ℕ) → block_number kind (place_at kind block) ≡ block
 number_back Rp06 block = omega arith
-number_back Rm03 block = omega arith
-number_back Rm05 block = omega arith
+number_back other block = omega arith
 
 -- the places of the blocks below one lie below it
 places_below : (kind : DriveKind) (pack : Pack) (block : ℕ) (place : Place) (i : ℕ) → slice_get (map (place_at kind) (marked_below pack block)) i ≡ Some place → block_number kind place < block

@@ -23,8 +23,7 @@ same_place p q e =
 -- data blocks at one place are one block
 back : (kind : DriveKind) (block : ℕ) → block < limit_of kind → block_number kind (place_at kind block) ≡ block
 back Rp06 block lt = omega arith
-back Rm03 block lt = omega arith
-back Rm05 block lt = omega arith
+back other block lt = omega arith
 
 pub same_block : (kind : DriveKind) (b c : ℕ) → b < limit_of kind → c < limit_of kind → place_at kind b ≡ place_at kind c → b ≡ c
 same_block kind b c lb lc e = sym (back kind b lb) ∙ ap (block_number kind) e ∙ back kind c lc
@@ -68,13 +67,11 @@ home_cases kind table pack block home e = cases_by kind table pack block home _ 
 
 pub replacement_above : (kind : DriveKind) (i : ℕ) → i < 126 → limit_of kind ≤ replacement_at kind i
 replacement_above Rp06 i lt = omega arith
-replacement_above Rm03 i lt = omega arith
-replacement_above Rm05 i lt = omega arith
+replacement_above other i lt = omega arith
 
 pub replacement_once : (kind : DriveKind) (i j : ℕ) → i < 126 → j < 126 → replacement_at kind i ≡ replacement_at kind j → i ≡ j
 replacement_once Rp06 i j li lj e = omega arith
-replacement_once Rm03 i j li lj e = omega arith
-replacement_once Rm05 i j li lj e = omega arith
+replacement_once other i j li lj e = omega arith
 
 index_small : (kind : DriveKind) (table : Option Table) (block home : ℕ) → (r : IsReplaced kind table block home) → length (places_of table) ≤ 126 → r.index < 126
 index_small kind table block home r room =
@@ -122,13 +119,11 @@ homes_apart kind table pack block other home room e f =
 
 pub below_copies : (kind : DriveKind) (block k : ℕ) → block < limit_of kind → block < copy_at kind k
 below_copies Rp06 block k lt = omega arith
-below_copies Rm03 block k lt = omega arith
-below_copies Rm05 block k lt = omega arith
+below_copies other block k lt = omega arith
 
 pub replacement_below : (kind : DriveKind) (i k : ℕ) → i < 126 → replacement_at kind i < copy_at kind k
 replacement_below Rp06 i k lt = omega arith
-replacement_below Rm03 i k lt = omega arith
-replacement_below Rm05 i k lt = omega arith
+replacement_below other i k lt = omega arith
 
 pub home_below : (kind : DriveKind) (table : Option Table) (pack : Pack) (block home k : ℕ) → length (places_of table) ≤ 126
     → home_of kind table pack block ≡ Some home → home < copy_at kind k

@@ -12,8 +12,7 @@ use Rattle.pack_geometry.proofs.HomeLaws.{replacement_once}
 
 copy_once : (kind : DriveKind) (k l : ℕ) → copy_at kind k ≡ copy_at kind l → k ≡ l
 copy_once Rp06 k l e = omega arith
-copy_once Rm03 k l e = omega arith
-copy_once Rm05 k l e = omega arith
+copy_once other k l e = omega arith
 
 pub other_block : (pack : Pack) (at b : ℕ) (bytes : List ℕ) → length bytes ≡ 512 → b ≢ at
     → block_at (written pack at bytes).image b ≡ block_at pack.image b

@@ -119,18 +119,15 @@ same_place c t s place ec et es = rw (ec, et, es) refl
 -- the words of a place on a drive are small, and its cylinder is not all ones
 small_cylinder : (kind : DriveKind) (place : Place) → IsInside kind place → place.cylinder < 65535
 small_cylinder Rp06 place inside = omega arith
-small_cylinder Rm03 place inside = omega arith
-small_cylinder Rm05 place inside = omega arith
+small_cylinder other place inside = omega arith
 
 small_sector : (kind : DriveKind) (place : Place) → IsInside kind place → place.sector < 256
 small_sector Rp06 place inside = omega arith
-small_sector Rm03 place inside = omega arith
-small_sector Rm05 place inside = omega arith
+small_sector other place inside = omega arith
 
 small_track : (kind : DriveKind) (place : Place) → IsInside kind place → place.track < 256
 small_track Rp06 place inside = omega arith
-small_track Rm03 place inside = omega arith
-small_track Rm05 place inside = omega arith
+small_track other place inside = omega arith
 
 pub place_in-listed : (kind : DriveKind) (serial : ℕ) (places : List Place) (k : ℕ) (d : Place) → k < length places → IsInside kind (get_or places k d)
     → place_in (table_text serial places) k ≡ get_or places k d

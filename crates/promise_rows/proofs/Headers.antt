@@ -12,13 +12,11 @@ use Rattle.promise_rows.specs.Headers.{with_header_bit, HeadersAreAsTheDriveHasT
 
 ten_bits : (kind : DriveKind) (block : ℕ) → block < block_count kind → (place_at kind block).cylinder < 2 ^ 10
 ten_bits Rp06 block less = omega (arith, less)
-ten_bits Rm03 block less = omega (arith, less)
-ten_bits Rm05 block less = omega (arith, less)
+ten_bits other block less = omega (arith, less)
 
 as_marked : (kind : DriveKind) (d : DriveState) → with_header_bit (fault_as_marked kind true) d ≡ with_mark_bits kind d
 as_marked Rp06 d = refl
-as_marked Rm03 d = refl
-as_marked Rm05 d = refl
+as_marked other d = refl
 
 pub headers_are : HeadersAreAsTheDriveHasThem
 headers_are d block less =

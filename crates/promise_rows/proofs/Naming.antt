@@ -92,8 +92,7 @@ asks_all drives unit top (next ∷ inputs) none less = (
 
 few_blocks : (kind : DriveKind) → block_count kind ≤ 1000000
 few_blocks Rp06 = omega arith
-few_blocks Rm03 = omega arith
-few_blocks Rm05 = omega arith
+few_blocks other = omega arith
 
 tables_all : (drives : ℕ → Option DriveKind) (tables : ℕ → Option Table) (unit top : ℕ) → 1000000 ≤ top → TablesBelow (ends_at unit top) drives tables
 tables_all drives tables unit top less u kind table there is some = by (u == unit) some

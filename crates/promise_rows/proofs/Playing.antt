@@ -34,19 +34,7 @@ said_something line unit id answer rest is = absurd (cc is)
 
 no_text : (deed : Deed) (line unit id : ℕ) (ms : List Moment) → (out_text ms ≡ [] → answers_in ms ≡ []) → out_text (Told line unit id deed ∷ ms) ≡ [] → answers_in (Told line unit id deed ∷ ms) ≡ []
 no_text (End answer) line unit id ms rest is = absurd (said_something line unit id answer (out_text ms) is)
-no_text (Search cylinder sector) line unit id ms rest is = rest is
-no_text (Seek cylinder) line unit id ms rest is = rest is
-no_text Recal line unit id ms rest is = rest is
-no_text (Offset code) line unit id ms rest is = rest is
-no_text Centre line unit id ms rest is = rest is
-no_text Clear line unit id ms rest is = rest is
-no_text Packs line unit id ms rest is = rest is
-no_text (Transfer write block count) line unit id ms rest is = rest is
-no_text Arrive line unit id ms rest is = rest is
-no_text (Sector block verdict) line unit id ms rest is = rest is
-no_text Intr line unit id ms rest is = rest is
-no_text (Try block failures) line unit id ms rest is = rest is
-no_text Attn line unit id ms rest is = rest is
+no_text other line unit id ms rest is = rest is
 
 nothing_behind : (a b : List ℕ) → a ++ b ≡ [] → b ≡ []
 nothing_behind [] b is = is

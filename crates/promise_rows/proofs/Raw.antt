@@ -77,8 +77,7 @@ behind n few = omega (arith, few)
 
 begins_behind : (kind : DriveKind) (size : ℕ) → size ≤ 8388608 → 512 ≤ dump_place kind size
 begins_behind Rp06 size few = behind (blocks_for size) (fits size few)
-begins_behind Rm03 size few = behind (blocks_for size) (fits size few)
-begins_behind Rm05 size few = behind (blocks_for size) (fits size few)
+begins_behind other size few = behind (blocks_for size) (fits size few)
 
 pub dump_at_the_front : DumpAtTheFront
 dump_at_the_front unit done memory bytes old new tells tables few puts held long other =

@@ -53,8 +53,7 @@ read_fault t size (fault.TooLong n) usable inside is left = (inside, too_long is
 read_fault t size (fault.Unusable done) usable inside is left = absurd (usable done refl)
 read_fault t size fault.Store usable inside is left = (is.store refl, record { inside = inside; out = is.silent tt; left = left })
 read_fault t size fault.Sink usable inside is left = inl (is.sink refl, record { inside = inside; out = is.silent tt; left = left })
-read_fault t size fault.Source usable inside is left = absurd is.only
-read_fault t size fault.Outside usable inside is left = absurd is.only
+read_fault t size other usable inside is left = absurd is.only
 
 pub write_fault : {w : Writing} {from : List ℕ} {old new : Outside} (f : TransferFault) → Took w from old new → Faulted (unit_of w) (kind_of w) f old new
     → ((done : ℕ) → f ≡ fault.Unusable done → WriteEnds w (Err (fault.Unusable done)) old new)
@@ -101,8 +100,7 @@ module _ {P O T : Type 0} {packs packs' : P} {out out' : O} {trace trace' : T} w
   stays_fault (fault.Unusable done) only untraced silent = stays_by 10 (λ e. omega (arith, e)) (λ e. omega (arith, e)) (λ e. omega (arith, e))
   stays_fault fault.Store only untraced silent = stays_by 6 (λ e. omega (arith, e)) (λ e. omega (arith, e)) (λ e. omega (arith, e))
   stays_fault fault.Sink only untraced silent = stays_by 5 (λ e. omega (arith, e)) (λ e. omega (arith, e)) (λ e. omega (arith, e))
-  stays_fault fault.Source only untraced silent = absurd only
-  stays_fault fault.Outside only untraced silent = absurd only
+  stays_fault other only untraced silent = absurd only
 
 -- ---- THE SOURCE, whose bytes were read up to a limit
 pub beyond_more : (w : Writing) (n m : ℕ) → n ≤ m → IsBeyond w n → IsBeyond w m
@@ -144,13 +142,10 @@ limited left limit its from items same e end =
 -- what is not printed
 silent_text : (unit : ℕ) (f : TransferFault) → IsSilent f → fault_text unit f ≡ []
 unfolding fault_text
-silent_text unit fault.Memory is = refl
-silent_text unit fault.Source is = refl
-silent_text unit fault.Store is = refl
-silent_text unit fault.Sink is = refl
 silent_text unit fault.Outside is = absurd is
 silent_text unit (fault.TooLong n) is = absurd is
 silent_text unit (fault.Unusable n) is = absurd is
+silent_text unit other is = refl
 
 pub told_silent : (taken : List ℕ) (unit n : ℕ) (f : TransferFault) → IsSilent f → Told taken taken (fault_text unit f) n n
 told_silent taken unit n f is = inl (sym (ap (λ (text : List ℕ). taken ++ text) (silent_text unit f is) ∙ append-nil taken))

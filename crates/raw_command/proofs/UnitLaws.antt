@@ -50,10 +50,7 @@ none_done : (size done : ℕ) (f : TransferFault) → IsOfAttaching f → done_b
 none_done size done fault.Store is e = none-some done e
 none_done size done fault.Memory is e = none-some done e
 none_done size done (fault.TooLong n) is e = none-some done e
-none_done size done fault.Sink is e = is
-none_done size done (fault.Unusable n) is e = is
-none_done size done fault.Source is e = is
-none_done size done fault.Outside is e = is
+none_done size done other is e = is
 
 not_unusable : (done : ℕ) (f : TransferFault) → IsOfAttaching f → Some f ≡ Some (fault.Unusable done) → ⊥
 not_unusable done f is e = subst IsOfAttaching (same_Some f (fault.Unusable done) e) is
@@ -94,28 +91,19 @@ module _ (Q O : Type 0) (holds : Q → Bool) (held : Q → ℕ → Pack) (packs_
     long = long;
     only = tt;
   }
-  keeps_none fault.Sink is rose long = absurd is
-  keeps_none (fault.Unusable n) is rose long = absurd is
-  keeps_none fault.Source is rose long = absurd is
-  keeps_none fault.Outside is rose long = absurd is
+  keeps_none other is rose long = absurd is
 
   left_read : (f : TransferFault) → IsOfAttaching f → IsTrue (holds mid) → LeftRead f t (held packs) (held mid)
   left_read fault.Store is told = inl (same told)
   left_read fault.Memory is told = tt
   left_read (fault.TooLong n) is told = tt
-  left_read fault.Sink is told = absurd is
-  left_read (fault.Unusable n) is told = absurd is
-  left_read fault.Source is told = absurd is
-  left_read fault.Outside is told = absurd is
+  left_read other is told = absurd is
 
   left_written : (from : List ℕ) (f : TransferFault) → IsOfAttaching f → IsTrue (holds mid) → LeftWritten f t from (held packs) (held mid)
   left_written from fault.Store is told = inl (same told)
   left_written from fault.Memory is told = tt
   left_written from (fault.TooLong n) is told = tt
-  left_written from fault.Sink is told = absurd is
-  left_written from (fault.Unusable n) is told = absurd is
-  left_written from fault.Source is told = absurd is
-  left_written from fault.Outside is told = absurd is
+  left_written from other is told = absurd is
 
   pub reads_none : {A : Type 0} (into : List ℕ) (r : Result A TransferFault) (f : TransferFault) → IsErrAnd r (λ e. e ≡ f) → IsOfAttaching f
       → (f ≡ fault.Store → Rose (packs_faults packs) (packs_faults mid)) → IsFoundLong (holds mid) (held packs t.unit) t.kind f

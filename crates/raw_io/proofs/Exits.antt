@@ -39,12 +39,9 @@ below_least : (a b k : ℕ) → k < min a b → k < a
 below_least a b k lt = grind (arith, lt)
 
 done_told : (answer : Answer) (count k : ℕ) → k < blocks_reached (reached_by answer) count → k < done_by answer count
-done_told (ReadOk bytes) count k lt = lt
-done_told WriteOk count k lt = lt
 done_told (Failed cause done) count k lt = below_least done count k lt
-done_told OutsidePartition count k lt = lt
-done_told EndOfPartition count k lt = lt
 done_told NoFrames count k lt = below_least 0 count k lt
+done_told other count k lt = lt
 
 module _ (r : Request) (old : Stage) (unit : IsSetUp old.world r.unit) (is : AreBlocks (kind_at old.world r.unit) r) where
   pub clean_of : AnsweredMovesClean → Sound old.world → AtWork old.world → IsQuiet old.world → IsRequest r → (new : Stage) (n : ℕ) (a : Answers 1 r old new) → n ≡ blocks_reached new.given.reached r.count

@@ -122,13 +122,7 @@ wish_end (Refusal v i why) drives s k lines line u id a w may fit t word =
     let refused : is_refused w.place (drive_at k.drives u) (request_at k.requests w.place) ≡ true = refused_is_so k u w.place w.outcome w.refused in
     end_is k line u id w.place a true (ap (λ (z : ℕ). place_of k.ids z) may.same_id ∙ w.found) w.inside refused k.event refl
     (subst (λ (o : Option Outcome). IsWordOf (unwrap_or o outcome.Refused) a) (sym w.refused) (word_is w.outcome a (w.word ∙ ap answer_word (ap answer_in (sym may.answered)))))
-wish_end NoLine drives s k lines line u id a w may fit t word = line_end drives s k lines line u id a may fit t word
-wish_end (DueLine v) drives s k lines line u id a w may fit t word = line_end drives s k lines line u id a may fit t word
-wish_end (Arrival v) drives s k lines line u id a w may fit t word = line_end drives s k lines line u id a may fit t word
-wish_end (SectorLine v) drives s k lines line u id a w may fit t word = line_end drives s k lines line u id a may fit t word
-wish_end (Interrupt v) drives s k lines line u id a w may fit t word = line_end drives s k lines line u id a may fit t word
-wish_end (Attention v) drives s k lines line u id a w may fit t word = line_end drives s k lines line u id a may fit t word
-wish_end IdleLine drives s k lines line u id a w may fit t word = line_end drives s k lines line u id a may fit t word
+wish_end other drives s k lines line u id a w may fit t word = line_end drives s k lines line u id a may fit t word
 
 -- NO MORE LINES than moments
 self_short : (n : ℕ) → suc n ≤ suc n
@@ -153,9 +147,8 @@ own_short true d l = with_short d l
 own_short false d l = less_short (length l)
 
 after_short : (u : ℕ) (m : Moment) (l : List Deed) → length (lines_after u m l) ≤ suc (length l)
-after_short u (Played line input) l = less_short (length l)
 after_short u (Told line v id d) l = own_short (u == v) d l
-after_short u (Idle line) l = less_short (length l)
+after_short u other l = less_short (length l)
 
 none_behind : (n : ℕ) → n ≤ n + 0
 none_behind n = omega arith

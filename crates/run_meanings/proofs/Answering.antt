@@ -125,10 +125,8 @@ ok_word a ok = absurd ok
 only_cause : (a : Answer) (c : Cause) → is_refusal a ≡ false → (IsOk a → ⊥) → ((cause : Cause) (done : ℕ) → a ≡ Failed cause done → cause ≡ c) → answer_word a ≡ cause_word c
 only_cause (ReadOk bytes) c kept never is = absurd (never tt)
 only_cause WriteOk c kept never is = absurd (never tt)
-only_cause OutsidePartition c kept never is = absurd (no (sym kept))
-only_cause EndOfPartition c kept never is = absurd (no (sym kept))
-only_cause NoFrames c kept never is = absurd (no (sym kept))
 only_cause (Failed cause done) c kept never is = ap cause_word (is cause done refl)
+only_cause other c kept never is = absurd (no (sym kept))
 
 -- ALL BLOCKS ARE DONE
 whole_done : (w d c : ℕ) → nat_lt 0 w && (d == w) ≡ true → (w ≡ 0) ⊎ (w ≡ c) → d ≡ c

@@ -126,10 +126,6 @@ played_stands : (input : Input) (line : ℕ) (k : Known) (u : ℕ) (on lock : Bo
 played_stands (Submit r) line k u on lock s =
     same_stands k (heard (seen.Played line (play_of (Submit r))) k) u on lock (asked_many (place_of k.ids r.id) line (asked_of r) (is_some r.written) k)
     (asked_keeps (place_of k.ids r.id) line (asked_of r) (is_some r.written) k u) s
-played_stands (ArriveAt v) line k u on lock s = s
-played_stands (MoveAt a) line k u on lock s = s
-played_stands (AttendTo a) line k u on lock s = s
-played_stands Drain line k u on lock s = s
 played_stands (Turn v y) line k u on lock s = same_change v change.Turn k u on lock refl s
 played_stands (Noise n) line k u on lock s = same_change n.unit change.Noise k u on lock refl s
 played_stands (Arm v what n) line k u on lock s = same_change v change.Fault k u on lock refl s
@@ -139,6 +135,7 @@ played_stands (SetOnline v b) line k u on lock s =
 played_stands (SetLocked v b) line k u on lock s =
     subst (λ z. Stands (heard (seen.Played line (play_of (SetLocked v b))) k) u on z) (ap (λ (x : Bool). cond x b lock) (sym (swapped u v)))
     (subst (λ z. Stands (heard (seen.Played line (play_of (SetLocked v b))) k) u z (cond (v == u) b lock)) (both_same (v == u) on) (locked_stands v b line k u on lock s))
+played_stands other line k u on lock s = s
 
 told_stands : (line v i : ℕ) (t : Line) (k : Known) (u : ℕ) (on lock : Bool) → Stands k u on lock → Stands (heard (seen.Told line v i t) k) u on lock
 told_stands line v i t k u on lock s =

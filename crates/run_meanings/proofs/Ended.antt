@@ -74,13 +74,7 @@ wish_ended : (wish : Wish) (drives : ℕ → Option DriveKind) (s : Replay) (k :
     → IsEnded k.ids k.requests other a number → IsEnded (heard (seen.Told line u id (told_of d)) k).ids (heard (seen.Told line u id (told_of d)) k).requests other a number
 wish_ended (Refusal v i why) drives s k lines line u id d other a number w may t e =
     told_ended k line u id w.place (told_of d) other a number (ap (λ (z : ℕ). place_of k.ids z) may.same_id ∙ w.found) w.still e
-wish_ended NoLine drives s k lines line u id d other a number w may t e = line_ended drives s k lines line u id d other a number may t e
-wish_ended (DueLine v) drives s k lines line u id d other a number w may t e = line_ended drives s k lines line u id d other a number may t e
-wish_ended (Arrival v) drives s k lines line u id d other a number w may t e = line_ended drives s k lines line u id d other a number may t e
-wish_ended (SectorLine v) drives s k lines line u id d other a number w may t e = line_ended drives s k lines line u id d other a number may t e
-wish_ended (Interrupt v) drives s k lines line u id d other a number w may t e = line_ended drives s k lines line u id d other a number may t e
-wish_ended (Attention v) drives s k lines line u id d other a number w may t e = line_ended drives s k lines line u id d other a number may t e
-wish_ended IdleLine drives s k lines line u id d other a number w may t e = line_ended drives s k lines line u id d other a number may t e
+wish_ended it drives s k lines line u id d other a number w may t e = line_ended drives s k lines line u id d other a number may t e
 
 asked_ended : (o : Option ℕ) (line : ℕ) (r : Wished) (write : Bool) (k : Known) (other : ℕ) (a : Answer) (number : ℕ) → IsEnded k.ids k.requests other a number
     → IsEnded (asked_at o line (asked_of r) write k).ids (asked_at o line (asked_of r) write k).requests other a number

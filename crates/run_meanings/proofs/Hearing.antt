@@ -94,31 +94,11 @@ IsOther (Try block failures) = ⊥
 IsOther deed = Unit {0}
 
 other_facts : (place : ℕ) (deed : Deed) (lines : List Deed) (start h : Hearing) → IsOther deed → Facts place lines start h → Facts place (deed ∷ lines) start (told_one place deed h)
-other_facts place (Search c y) lines start h other f =
-    record { holds = inr refl; want = taken_want place h.drive.trial f.holds ∙ f.want; fails = f.fails; marks = f.marks; done = f.done ∙ none_more (done_in lines); verdict = f.verdict; write = f.write; few_done = few_more (done_in lines) (length lines) f.few_done; few_marks = same_few (marks_in lines) (length lines) f.few_marks }
-other_facts place (Seek c) lines start h other f =
-    record { holds = inr refl; want = taken_want place h.drive.trial f.holds ∙ f.want; fails = f.fails; marks = f.marks; done = f.done ∙ none_more (done_in lines); verdict = f.verdict; write = f.write; few_done = few_more (done_in lines) (length lines) f.few_done; few_marks = same_few (marks_in lines) (length lines) f.few_marks }
-other_facts place Recal lines start h other f =
-    record { holds = inr refl; want = taken_want place h.drive.trial f.holds ∙ f.want; fails = f.fails; marks = f.marks; done = f.done ∙ none_more (done_in lines); verdict = f.verdict; write = f.write; few_done = few_more (done_in lines) (length lines) f.few_done; few_marks = same_few (marks_in lines) (length lines) f.few_marks }
-other_facts place (Offset o) lines start h other f =
-    record { holds = inr refl; want = taken_want place h.drive.trial f.holds ∙ f.want; fails = f.fails; marks = f.marks; done = f.done ∙ none_more (done_in lines); verdict = f.verdict; write = f.write; few_done = few_more (done_in lines) (length lines) f.few_done; few_marks = same_few (marks_in lines) (length lines) f.few_marks }
-other_facts place Centre lines start h other f =
-    record { holds = inr refl; want = taken_want place h.drive.trial f.holds ∙ f.want; fails = f.fails; marks = f.marks; done = f.done ∙ none_more (done_in lines); verdict = f.verdict; write = f.write; few_done = few_more (done_in lines) (length lines) f.few_done; few_marks = same_few (marks_in lines) (length lines) f.few_marks }
-other_facts place Clear lines start h other f =
-    record { holds = inr refl; want = taken_want place h.drive.trial f.holds ∙ f.want; fails = f.fails; marks = f.marks; done = f.done ∙ none_more (done_in lines); verdict = f.verdict; write = f.write; few_done = few_more (done_in lines) (length lines) f.few_done; few_marks = same_few (marks_in lines) (length lines) f.few_marks }
-other_facts place Pack lines start h other f =
-    record { holds = inr refl; want = taken_want place h.drive.trial f.holds ∙ f.want; fails = f.fails; marks = f.marks; done = f.done ∙ none_more (done_in lines); verdict = f.verdict; write = f.write; few_done = few_more (done_in lines) (length lines) f.few_done; few_marks = same_few (marks_in lines) (length lines) f.few_marks }
-other_facts place Arrive lines start h other f =
-    record { holds = inr refl; want = taken_want place h.drive.trial f.holds ∙ f.want; fails = f.fails; marks = f.marks; done = f.done ∙ none_more (done_in lines); verdict = f.verdict; write = f.write; few_done = few_more (done_in lines) (length lines) f.few_done; few_marks = same_few (marks_in lines) (length lines) f.few_marks }
-other_facts place Intr lines start h other f =
-    record { holds = inr refl; want = taken_want place h.drive.trial f.holds ∙ f.want; fails = f.fails; marks = f.marks; done = f.done ∙ none_more (done_in lines); verdict = f.verdict; write = f.write; few_done = few_more (done_in lines) (length lines) f.few_done; few_marks = same_few (marks_in lines) (length lines) f.few_marks }
-other_facts place Attn lines start h other f =
-    record { holds = inr refl; want = taken_want place h.drive.trial f.holds ∙ f.want; fails = f.fails; marks = f.marks; done = f.done ∙ none_more (done_in lines); verdict = f.verdict; write = f.write; few_done = few_more (done_in lines) (length lines) f.few_done; few_marks = same_few (marks_in lines) (length lines) f.few_marks }
-other_facts place (End a) lines start h other f =
-    record { holds = inr refl; want = taken_want place h.drive.trial f.holds ∙ f.want; fails = f.fails; marks = f.marks; done = f.done ∙ none_more (done_in lines); verdict = f.verdict; write = f.write; few_done = few_more (done_in lines) (length lines) f.few_done; few_marks = same_few (marks_in lines) (length lines) f.few_marks }
 other_facts place (Transfer w b n) lines start h other f = absurd other
 other_facts place (Sector b v) lines start h other f = absurd other
 other_facts place (Try b n) lines start h other f = absurd other
+other_facts place it lines start h other f =
+    record { holds = inr refl; want = taken_want place h.drive.trial f.holds ∙ f.want; fails = f.fails; marks = f.marks; done = f.done ∙ none_more (done_in lines); verdict = f.verdict; write = f.write; few_done = few_more (done_in lines) (length lines) f.few_done; few_marks = same_few (marks_in lines) (length lines) f.few_marks }
 
 transfer_facts : (place : ℕ) (w : Bool) (b n : ℕ) (lines : List Deed) (start h : Hearing) → Facts place lines start h → Facts place (Transfer w b n ∷ lines) start (told_one place (Transfer w b n) h)
 transfer_facts place w b n lines start h f =
@@ -135,11 +115,7 @@ sector_facts place b (verdict.Burst at pattern) lines start h short f =
     record { holds = inr refl; want = taken_want place h.drive.trial f.holds ∙ f.want; fails = refl; marks = refl; done = one_done h.request.done (done_in lines) (length lines) f.done f.few_done short; verdict = refl; write = f.write; few_done = one_few (done_in lines) (length lines) f.few_done; few_marks = none_few (length lines) }
 sector_facts place b verdict.Marked lines start h short f =
     record { holds = inr refl; want = taken_want place h.drive.trial f.holds ∙ f.want; fails = refl; marks = one_mark h.drive.trial.marks (marks_in lines) (length lines) f.marks f.few_marks short; done = f.done ∙ none_more (done_in lines); verdict = refl; write = f.write; few_done = few_more (done_in lines) (length lines) f.few_done; few_marks = next_few (marks_in lines) (length lines) f.few_marks }
-sector_facts place b verdict.Hard lines start h short f =
-    record { holds = inr refl; want = taken_want place h.drive.trial f.holds ∙ f.want; fails = f.fails; marks = f.marks; done = f.done ∙ none_more (done_in lines); verdict = refl; write = f.write; few_done = few_more (done_in lines) (length lines) f.few_done; few_marks = same_few (marks_in lines) (length lines) f.few_marks }
-sector_facts place b (verdict.Faulted fault) lines start h short f =
-    record { holds = inr refl; want = taken_want place h.drive.trial f.holds ∙ f.want; fails = f.fails; marks = f.marks; done = f.done ∙ none_more (done_in lines); verdict = refl; write = f.write; few_done = few_more (done_in lines) (length lines) f.few_done; few_marks = same_few (marks_in lines) (length lines) f.few_marks }
-sector_facts place b verdict.Offline lines start h short f =
+sector_facts place b other lines start h short f =
     record { holds = inr refl; want = taken_want place h.drive.trial f.holds ∙ f.want; fails = f.fails; marks = f.marks; done = f.done ∙ none_more (done_in lines); verdict = refl; write = f.write; few_done = few_more (done_in lines) (length lines) f.few_done; few_marks = same_few (marks_in lines) (length lines) f.few_marks }
 
 pub behind : (place : ℕ) (start : Hearing) (lines : List Deed) → IsFresh start → length lines < 2 ^ 64 → Facts place lines start (told_all place start lines)
@@ -209,12 +185,10 @@ failed_fails n block (End x ∷ lines) a = failed_fails n block lines a
 
 -- so many tries that failed at the block at hand are those of the last try line
 fails_zero : (v : Moved) (n : ℕ) → (fails_at v n ≡ 0) ⊎ (fails_at v n ≡ n)
-fails_zero verdict.Clean n = inl refl
-fails_zero (verdict.Burst at pattern) n = inl refl
 fails_zero verdict.Hard n = inr refl
-fails_zero verdict.Marked n = inl refl
 fails_zero (verdict.Faulted fault) n = inr refl
 fails_zero verdict.Offline n = inr refl
+fails_zero other n = inl refl
 
 after_sector : (v : Moved) (n last : ℕ) → (n ≡ 0) ⊎ (n ≡ last) → (fails_at v n ≡ 0) ⊎ (fails_at v n ≡ n) → (fails_at v n ≡ 0) ⊎ (fails_at v n ≡ last)
 after_sector v n last before (inl none) = inl none

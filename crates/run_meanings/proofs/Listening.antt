@@ -254,36 +254,12 @@ IsNoEnd t = Unit {0}
 own_same : (place line u : ℕ) (t : Line) (k : Known) (h : Hearing) → IsNoEnd t → u < length k.drives → place < length k.requests
     → Same (drive_at k.drives u) (request_at k.requests place) h
     → Same (drive_at (told_at place line u t k).drives u) (request_at (told_at place line u t k).requests place) (tell place t h)
-own_same place line u (deed.Search c y) k h none inside there same = own_set place line u (deed.Search c y) k h inside there refl refl same
-own_same place line u (deed.Seek c) k h none inside there same = own_set place line u (deed.Seek c) k h inside there refl refl same
-own_same place line u deed.Recal k h none inside there same = own_set place line u deed.Recal k h inside there refl refl same
-own_same place line u (deed.Offset o) k h none inside there same = own_set place line u (deed.Offset o) k h inside there refl refl same
-own_same place line u deed.Centre k h none inside there same = own_set place line u deed.Centre k h inside there refl refl same
-own_same place line u deed.Clear k h none inside there same = own_set place line u deed.Clear k h inside there refl refl same
-own_same place line u deed.Pack k h none inside there same = own_set place line u deed.Pack k h inside there refl refl same
-own_same place line u (deed.Transfer w b n) k h none inside there same = own_set place line u (deed.Transfer w b n) k h inside there refl refl same
-own_same place line u deed.Arrive k h none inside there same = own_set place line u deed.Arrive k h inside there refl refl same
-own_same place line u (deed.Sector b x) k h none inside there same = own_set place line u (deed.Sector b x) k h inside there refl refl same
-own_same place line u deed.Intr k h none inside there same = own_set place line u deed.Intr k h inside there refl refl same
-own_same place line u (deed.Try b n) k h none inside there same = own_set place line u (deed.Try b n) k h inside there refl refl same
-own_same place line u deed.Attn k h none inside there same = own_set place line u deed.Attn k h inside there refl refl same
 own_same place line u deed.End k h none inside there same = absurd none
+own_same place line u other k h none inside there same = own_set place line u other k h inside there refl refl same
 
 own_why : (place line u : ℕ) (t : Line) (k : Known) → IsNoEnd t → place < length k.requests → (request_at (told_at place line u t k).requests place).why ≡ (request_at k.requests place).why
-own_why place line u (deed.Search c y) k none there = ap (λ (r : Request). r.why) (get_or-set_same k.requests place (request_after k.event line place (deed.Search c y) (drive_at k.drives u) (request_at k.requests place)) (new_request 0 0 0 0 false) there)
-own_why place line u (deed.Seek c) k none there = ap (λ (r : Request). r.why) (get_or-set_same k.requests place (request_after k.event line place (deed.Seek c) (drive_at k.drives u) (request_at k.requests place)) (new_request 0 0 0 0 false) there)
-own_why place line u deed.Recal k none there = ap (λ (r : Request). r.why) (get_or-set_same k.requests place (request_after k.event line place deed.Recal (drive_at k.drives u) (request_at k.requests place)) (new_request 0 0 0 0 false) there)
-own_why place line u (deed.Offset o) k none there = ap (λ (r : Request). r.why) (get_or-set_same k.requests place (request_after k.event line place (deed.Offset o) (drive_at k.drives u) (request_at k.requests place)) (new_request 0 0 0 0 false) there)
-own_why place line u deed.Centre k none there = ap (λ (r : Request). r.why) (get_or-set_same k.requests place (request_after k.event line place deed.Centre (drive_at k.drives u) (request_at k.requests place)) (new_request 0 0 0 0 false) there)
-own_why place line u deed.Clear k none there = ap (λ (r : Request). r.why) (get_or-set_same k.requests place (request_after k.event line place deed.Clear (drive_at k.drives u) (request_at k.requests place)) (new_request 0 0 0 0 false) there)
-own_why place line u deed.Pack k none there = ap (λ (r : Request). r.why) (get_or-set_same k.requests place (request_after k.event line place deed.Pack (drive_at k.drives u) (request_at k.requests place)) (new_request 0 0 0 0 false) there)
-own_why place line u (deed.Transfer w b n) k none there = ap (λ (r : Request). r.why) (get_or-set_same k.requests place (request_after k.event line place (deed.Transfer w b n) (drive_at k.drives u) (request_at k.requests place)) (new_request 0 0 0 0 false) there)
-own_why place line u deed.Arrive k none there = ap (λ (r : Request). r.why) (get_or-set_same k.requests place (request_after k.event line place deed.Arrive (drive_at k.drives u) (request_at k.requests place)) (new_request 0 0 0 0 false) there)
-own_why place line u (deed.Sector b x) k none there = ap (λ (r : Request). r.why) (get_or-set_same k.requests place (request_after k.event line place (deed.Sector b x) (drive_at k.drives u) (request_at k.requests place)) (new_request 0 0 0 0 false) there)
-own_why place line u deed.Intr k none there = ap (λ (r : Request). r.why) (get_or-set_same k.requests place (request_after k.event line place deed.Intr (drive_at k.drives u) (request_at k.requests place)) (new_request 0 0 0 0 false) there)
-own_why place line u (deed.Try b n) k none there = ap (λ (r : Request). r.why) (get_or-set_same k.requests place (request_after k.event line place (deed.Try b n) (drive_at k.drives u) (request_at k.requests place)) (new_request 0 0 0 0 false) there)
-own_why place line u deed.Attn k none there = ap (λ (r : Request). r.why) (get_or-set_same k.requests place (request_after k.event line place deed.Attn (drive_at k.drives u) (request_at k.requests place)) (new_request 0 0 0 0 false) there)
 own_why place line u deed.End k none there = absurd none
+own_why place line u other k none there = ap (λ (r : Request). r.why) (get_or-set_same k.requests place (request_after k.event line place other (drive_at k.drives u) (request_at k.requests place)) (new_request 0 0 0 0 false) there)
 
 own_told : (line u id : ℕ) (t : Line) (k : Known) (place : ℕ) (h : Hearing) → IsNoEnd t → Heard k u id place h → Heard (heard (Told line u id t) k) u id place (tell place t h)
 own_told line u id t k place h none known =

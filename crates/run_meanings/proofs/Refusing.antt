@@ -41,9 +41,8 @@ by_room kind asked lent first false e = rw e refl
 
 refused_by : (a : Admission) (kind : DriveKind) (asked : Asked) (lent : ℕ) (room : Bool) → nat_lt 16384 (plus lent (frames_of asked)) ≡ not room
     → AsTold (submission_by a room) a kind asked lent
-refused_by meets.Eof kind asked lent room e = refl
-refused_by meets.Outside kind asked lent room e = refl
 refused_by (meets.Inside first) kind asked lent room e = by_room kind asked lent first room e
+refused_by other kind asked lent room e = refl
 
 pub are_refused : AreRefused
 are_refused s asked wish why same refused =

@@ -314,13 +314,7 @@ told_both : (wish : Wish) (drives : ℕ → Option DriveKind) (names : List ℕ)
 told_both (Refusal v i why) drives names s k lines line u id d w may fit b =
     subst (λ z. Both drives names (act_done s) (heard (seen.Told line u id (told_of z)) k) (λ x. lines_after x (Told line u id z) (lines x))) (sym may.answered)
     (refusal_both drives names s k lines line u id why b (subst (λ z. IsToRefuse k.ids k.requests z why) (sym may.same_id) w))
-told_both NoLine drives names s k lines line u id d w may fit b = line_both drives names s k lines line u id d may fit b
-told_both (DueLine v) drives names s k lines line u id d w may fit b = line_both drives names s k lines line u id d may fit b
-told_both (Arrival v) drives names s k lines line u id d w may fit b = line_both drives names s k lines line u id d may fit b
-told_both (SectorLine v) drives names s k lines line u id d w may fit b = line_both drives names s k lines line u id d may fit b
-told_both (Interrupt v) drives names s k lines line u id d w may fit b = line_both drives names s k lines line u id d may fit b
-told_both (Attention v) drives names s k lines line u id d w may fit b = line_both drives names s k lines line u id d may fit b
-told_both IdleLine drives names s k lines line u id d w may fit b = line_both drives names s k lines line u id d may fit b
+told_both other drives names s k lines line u id d w may fit b = line_both drives names s k lines line u id d may fit b
 
 -- A MOMENT MORE
 pub turned_both : (m : Seen) (drives : ℕ → Option DriveKind) (names : List ℕ) (s : Replay) (k : Known) (lines : ℕ → List Deed) → Both drives names s k lines → Both drives names s (at_moment k m) lines

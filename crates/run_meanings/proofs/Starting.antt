@@ -76,15 +76,7 @@ input_good : (drives : ℕ → Option DriveKind) (names ids : List ℕ) (number 
 unfolding AllNew AreGoodInputs
 input_good drives names ids number (Submit r) inputs is new apart rest =
     (there_good drives names r (drives r.unit) refl new.0 is, rest (names ++ r.id ∷ []) (all_new_more names r.id ids apart.0 new.1) apart.1)
-input_good drives names ids number (ArriveAt u) inputs is new apart rest = (tt, rest names new apart)
-input_good drives names ids number (MoveAt a) inputs is new apart rest = (tt, rest names new apart)
-input_good drives names ids number (AttendTo a) inputs is new apart rest = (tt, rest names new apart)
-input_good drives names ids number Drain inputs is new apart rest = (tt, rest names new apart)
-input_good drives names ids number (Turn u y) inputs is new apart rest = (tt, rest names new apart)
-input_good drives names ids number (Noise n) inputs is new apart rest = (tt, rest names new apart)
-input_good drives names ids number (Arm u what n) inputs is new apart rest = (tt, rest names new apart)
-input_good drives names ids number (SetOnline u b) inputs is new apart rest = (tt, rest names new apart)
-input_good drives names ids number (SetLocked u b) inputs is new apart rest = (tt, rest names new apart)
+input_good drives names ids number other inputs is new apart rest = (tt, rest names new apart)
 
 with_good : (drives : ℕ → Option DriveKind) (names ids : List ℕ) (number : ℕ) (statement : Statement) (inputs : List Numbered) → IsStatement drives statement → AllNew names (with_id statement ids) → AreApart (with_id statement ids)
     → ((more : List ℕ) → AllNew more ids → AreApart ids → AreGoodInputs drives more inputs) → AreGoodInputs drives names (with_input number statement inputs)
@@ -135,8 +127,7 @@ good_parts drives names (m ∷ ms) ns g =
 
 pub some_parts : (m : Moment) (ms : List Moment) → AskSome (m ∷ ms) → AsksSomeAt m × AskSome ms
 some_parts (Played line input) ms some = some
-some_parts (Told line u id d) ms some = (tt, some)
-some_parts (Idle line) ms some = (tt, some)
+some_parts other ms some = (tt, some)
 
 -- BEHIND SOME MOMENTS
 pub all_both : (drives : ℕ → Option DriveKind) (names : List ℕ) (s : Replay) (k : Known) (ms : List Moment) (lines : ℕ → List Deed) → AskSome ms → Follows s ms → AreGood drives names ms → AllFit s lines

@@ -61,12 +61,10 @@ Wants r done (Ending answer) lines = Began r lines
 
 began_any : (r : Request) (done : ℕ) (stage : Stage) (lines : List Deed) → Began r lines → Wants r done stage lines
 began_any r done Waiting lines b = tt
-began_any r done (Steps left segment) lines b = inr b
-began_any r done (UnderWay left segment) lines b = inr b
-began_any r done (AtOnce segment) lines b = inr b
 began_any r done (Moving segment left last) lines b = b
 began_any r done (Saying rest next) lines b = b
 began_any r done (Ending answer) lines b = b
+began_any r done other lines b = inr b
 
 -- a line that is no transfer
 record Plain (deed : Deed) (lines : List Deed) : Type 0 where
@@ -156,12 +154,7 @@ intr_wants : (r : Request) (done done' : ℕ) (d : DriveState) (h' : Hand) (next
     → Wants r done' (stage_after stage Intr d h' next) (Intr ∷ lines)
 intr_wants r done done' d h' next (Moving segment left last) lines is w =
     began_any r done' (interrupted_by last d h' segment) (Intr ∷ lines) (began_more Intr r lines (record { want = refl; wrote = refl }) w)
-intr_wants r done done' d h' next Waiting lines is w = absurd (no is)
-intr_wants r done done' d h' next (Steps left segment) lines is w = absurd (no is)
-intr_wants r done done' d h' next (UnderWay left segment) lines is w = absurd (no is)
-intr_wants r done done' d h' next (AtOnce segment) lines is w = absurd (no is)
-intr_wants r done done' d h' next (Saying rest then_stage) lines is w = absurd (no is)
-intr_wants r done done' d h' next (Ending answer) lines is w = absurd (no is)
+intr_wants r done done' d h' next other lines is w = absurd (no is)
 
 -- A UNIT
 abbrev pub UnitWants : UnitSeen → List Deed → Type 0
@@ -178,15 +171,6 @@ begun_wants d (w ∷ rest) = inl (record { own = tt; none = refl; zero_done = re
 told_wants : (u : UnitSeen) (deed : Deed) (d : DriveState) (bytes : List ℕ) (lines : List Deed) → UnitFits u lines → IsHeld u.service.waiting → UnitWants u lines
     → TalkMay u.drive (hand_of u) u.stage deed
     → UnitWants (UnitTold u deed d (progress_after u.stage deed bytes u.progress) (service_after u.service deed)) (with_deed deed lines)
-told_wants u (Search c y) d bytes lines f held w may = due_wants u.drive d (hand_of u) (head_of u.service) u.stage (Search c y) lines (some_asked u.service.waiting f.some held) may f.fits w
-told_wants u (Seek c) d bytes lines f held w may = due_wants u.drive d (hand_of u) (head_of u.service) u.stage (Seek c) lines (some_asked u.service.waiting f.some held) may f.fits w
-told_wants u Recal d bytes lines f held w may = due_wants u.drive d (hand_of u) (head_of u.service) u.stage Recal lines (some_asked u.service.waiting f.some held) may f.fits w
-told_wants u (Offset o) d bytes lines f held w may = due_wants u.drive d (hand_of u) (head_of u.service) u.stage (Offset o) lines (some_asked u.service.waiting f.some held) may f.fits w
-told_wants u Centre d bytes lines f held w may = due_wants u.drive d (hand_of u) (head_of u.service) u.stage Centre lines (some_asked u.service.waiting f.some held) may f.fits w
-told_wants u Clear d bytes lines f held w may = due_wants u.drive d (hand_of u) (head_of u.service) u.stage Clear lines (some_asked u.service.waiting f.some held) may f.fits w
-told_wants u Pack d bytes lines f held w may = due_wants u.drive d (hand_of u) (head_of u.service) u.stage Pack lines (some_asked u.service.waiting f.some held) may f.fits w
-told_wants u (Transfer x k n) d bytes lines f held w may = due_wants u.drive d (hand_of u) (head_of u.service) u.stage (Transfer x k n) lines (some_asked u.service.waiting f.some held) may f.fits w
-told_wants u (Try k t) d bytes lines f held w may = due_wants u.drive d (hand_of u) (head_of u.service) u.stage (Try k t) lines (some_asked u.service.waiting f.some held) may f.fits w
 told_wants u Arrive d bytes lines f held w may = arrive_wants (in_hand u.service) u.progress.done u.stage lines may w
 told_wants u (Sector k v) d bytes lines f held w may =
     sector_wants (in_hand u.service) u.progress.done (progress_after u.stage (Sector k v) bytes u.progress).done (hand_of u) u.stage k v d
@@ -197,6 +181,7 @@ told_wants u Attn d bytes lines f held w may = attn_wants (in_hand u.service) u.
 told_wants u (End answer) d bytes lines f held w may =
     subst (λ z. UnitWants (UnitTold u (End answer) d not_begun (after_leave u.service)) (if z then lines else [])) (sym (end_kept u.drive (hand_of u) u.stage (End answer) lines may f.fits))
     (begun_wants d (drop 1 u.service.waiting))
+told_wants u other d bytes lines f held w may = due_wants u.drive d (hand_of u) (head_of u.service) u.stage other lines (some_asked u.service.waiting f.some held) may f.fits w
 
 joined_at : (stage : Stage) (d : DriveState) (service : Service Request) (p : Progress) (table : Option Table) (r : Request) (lines : List Deed)
     → UnitFits (record { drive = d; service = service; stage = stage; progress = p; table = table }) lines
@@ -250,19 +235,7 @@ told_want : (wish : Wish) (s : Replay) (line u id : ℕ) (deed : Deed) (lines : 
     → AllWant (told_after wish s u deed) (λ x. lines_after x (Told line u id deed) (lines x))
 told_want (Refusal v i why) s line u id deed lines may all want =
     subst (λ z. AllWant (told_after (Refusal v i why) s u deed) (λ x. lines_after x (Told line u id z) (lines x))) (sym may.answered) (refusal_wants s line u id why lines want)
-told_want NoLine s line u id deed lines may all want =
-    drained_keeps (λ t. AllWant t (λ x. lines_after x (Told line u id deed) (lines x))) (replay_told s u deed (unit_after s u deed)) (λ event. line_wants_all s line u id deed lines may all want)
-told_want (DueLine v) s line u id deed lines may all want =
-    drained_keeps (λ t. AllWant t (λ x. lines_after x (Told line u id deed) (lines x))) (replay_told s u deed (unit_after s u deed)) (λ event. line_wants_all s line u id deed lines may all want)
-told_want (Arrival v) s line u id deed lines may all want =
-    drained_keeps (λ t. AllWant t (λ x. lines_after x (Told line u id deed) (lines x))) (replay_told s u deed (unit_after s u deed)) (λ event. line_wants_all s line u id deed lines may all want)
-told_want (SectorLine v) s line u id deed lines may all want =
-    drained_keeps (λ t. AllWant t (λ x. lines_after x (Told line u id deed) (lines x))) (replay_told s u deed (unit_after s u deed)) (λ event. line_wants_all s line u id deed lines may all want)
-told_want (Interrupt v) s line u id deed lines may all want =
-    drained_keeps (λ t. AllWant t (λ x. lines_after x (Told line u id deed) (lines x))) (replay_told s u deed (unit_after s u deed)) (λ event. line_wants_all s line u id deed lines may all want)
-told_want (Attention v) s line u id deed lines may all want =
-    drained_keeps (λ t. AllWant t (λ x. lines_after x (Told line u id deed) (lines x))) (replay_told s u deed (unit_after s u deed)) (λ event. line_wants_all s line u id deed lines may all want)
-told_want IdleLine s line u id deed lines may all want =
+told_want other s line u id deed lines may all want =
     drained_keeps (λ t. AllWant t (λ x. lines_after x (Told line u id deed) (lines x))) (replay_told s u deed (unit_after s u deed)) (λ event. line_wants_all s line u id deed lines may all want)
 
 submitted_want : (s : Replay) (r : Request) (met : Submission) (lines : ℕ → List Deed) → AllFit s lines → AllWant s lines → AllWant (submitted s r met) lines

@@ -26,15 +26,13 @@ unit_in text known (says.Read request) r = below request.unit r.declared.1.0
 unit_in text known (says.Write request content) r = below request.unit r.0.declared.1.0
 unit_in text known (says.Arrive u) r = below u r.1.0
 unit_in text known (says.Turn u sector) r = below u r.1.0
-unit_in text known (says.Move a) r = tt
-unit_in text known (says.Attend a) r = tt
 unit_in text known (says.Noise u block span n) r = below u r.drive.0
 unit_in text known (says.Fault u what times) r = below u r.0.1.0
 unit_in text known (says.Offline u) r = below u r.1.0
 unit_in text known (says.Online u) r = below u r.1.0
 unit_in text known (says.Lock u) r = below u r.1.0
 unit_in text known (says.Unlock u) r = below u r.1.0
-unit_in text known says.Drain r = tt
+unit_in text known other r = tt
 
 pub all_cons : {X : Type 0} (P : X → Type 0) (x : X) (xs : List X) → P x → All P xs → All P (x ∷ xs)
 all_cons P x xs p ps zero d h = p

@@ -36,19 +36,8 @@ use Rattle.script_commands.proofs.AnsweredLaws.{all_answered}
 -- SHORT NOISE is no alias noise.
 no_alias : (st : Said) (n : ℕ) (inputs : List Numbered) → HasShortNoise st → AreNoAliases inputs → AreNoAliases (with_input n (statement_of st) inputs)
 no_alias (says.Unit u kind) n inputs short are = are
-no_alias (says.Read r) n inputs short are = (tt, are)
-no_alias (says.Write r content) n inputs short are = (tt, are)
-no_alias (says.Arrive u) n inputs short are = (tt, are)
-no_alias (says.Turn u sector) n inputs short are = (tt, are)
-no_alias (says.Move a) n inputs short are = (tt, are)
-no_alias (says.Attend a) n inputs short are = (tt, are)
 no_alias (says.Noise u block span places) n inputs short are = ((λ alias. alias.long short), are)
-no_alias (says.Fault u what times) n inputs short are = (tt, are)
-no_alias (says.Offline u) n inputs short are = (tt, are)
-no_alias (says.Online u) n inputs short are = (tt, are)
-no_alias (says.Lock u) n inputs short are = (tt, are)
-no_alias (says.Unlock u) n inputs short are = (tt, are)
-no_alias says.Drain n inputs short are = (tt, are)
+no_alias other n inputs short are = (tt, are)
 
 no_aliases : (statements : List Said) (n : ℕ) (last : List Numbered) → AreNoAliases last → All HasShortNoise statements
     → AreNoAliases (inputs_before last (map line_of (numbered n statements)))

@@ -32,8 +32,7 @@ AsksLow statement = Unit {0}
 
 first_a : (kind : DriveKind) → first_of kind A ≡ 0
 first_a Rp06 = refl
-first_a Rm03 = refl
-first_a Rm05 = refl
+first_a other = refl
 
 low_on : (kind : DriveKind) (part : Part) (block count room : ℕ) → part ≡ A → block + count ≤ room → first_of kind part + block + count ≤ room
 low_on kind part block count room is below =
@@ -66,17 +65,7 @@ ask_one : (drives : ℕ → Option DriveKind) (st : Said) (n : ℕ) (inputs : Li
 ask_one drives (says.Unit u kind) n inputs low below = below
 ask_one drives (says.Read r) n inputs low below = ((λ kind there writes. low_on kind r.part r.block r.count (room_on r.unit) low.part low.below), below)
 ask_one drives (says.Write r content) n inputs low below = ((λ kind there writes. low_on kind r.part r.block r.count (room_on r.unit) low.part low.below), below)
-ask_one drives (says.Arrive u) n inputs low below = (tt, below)
-ask_one drives (says.Turn u sector) n inputs low below = (tt, below)
-ask_one drives (says.Move a) n inputs low below = (tt, below)
-ask_one drives (says.Attend a) n inputs low below = (tt, below)
-ask_one drives (says.Noise u block span places) n inputs low below = (tt, below)
-ask_one drives (says.Fault u what times) n inputs low below = (tt, below)
-ask_one drives (says.Offline u) n inputs low below = (tt, below)
-ask_one drives (says.Online u) n inputs low below = (tt, below)
-ask_one drives (says.Lock u) n inputs low below = (tt, below)
-ask_one drives (says.Unlock u) n inputs low below = (tt, below)
-ask_one drives says.Drain n inputs low below = (tt, below)
+ask_one drives other n inputs low below = (tt, below)
 
 ask_all : (drives : ℕ → Option DriveKind) (steps : List Said) (n : ℕ) (last : List Numbered) → All AsksLow steps → AskBelow room_on drives last
     → AskBelow room_on drives (inputs_before last (map line_of (numbered n steps)))

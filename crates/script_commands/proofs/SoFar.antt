@@ -82,15 +82,7 @@ apart_front (id ∷ ids) more apart = (any_front (λ other. other == id) ids mor
 
 asked_more : (input : Input) (ids more all : List ℕ) → all ≡ ids ++ more → with_asked input all ≡ with_asked input ids ++ more
 asked_more (Submit r) ids more all is = ap (λ (xs : List ℕ). r.id ∷ xs) is
-asked_more (ArriveAt u) ids more all is = is
-asked_more (MoveAt a) ids more all is = is
-asked_more (AttendTo a) ids more all is = is
-asked_more Drain ids more all is = is
-asked_more (Turn u y) ids more all is = is
-asked_more (Noise n) ids more all is = is
-asked_more (Arm u k n) ids more all is = is
-asked_more (SetOnline u on) ids more all is = is
-asked_more (SetLocked u on) ids more all is = is
+asked_more other ids more all is = is
 
 ids_append : (ns more : List Numbered) → ids_asked (ns ++ more) ≡ ids_asked ns ++ ids_asked more
 ids_append [] more = refl
@@ -209,8 +201,6 @@ module _ (keep : BeginningsKeep) (next : NextBlocksKeep) (shows : NextBlocksShow
 
 pub keeps : BeginningsKeep → NextBlocksKeep → NextBlocksShow → (fault : PlayFault) (script : Script) (first left : ℕ → Pack) (out trace : Took)
     → IsScript script → Keeps fault script first left out trace
-keeps keep next shows faults.Memory script first left out trace good = tt
-keeps keep next shows (faults.TooLong u n) script first left out trace good = tt
 keeps keep next shows faults.Store script first left out trace good = λ is. (
   keeps_so_far script good is.tables first is.read is.stopped.done [] is.stopped.later is.stopped.came,
   holds script is.tables first is.stopped.held out is.stopped.sent is.stopped.late (without keep next shows script good first left out trace is),
@@ -221,3 +211,4 @@ keeps keep next shows faults.Sink script first left out trace good = λ is. (
   holds script is.tables first left out is.stopped.sent is.stopped.late
       (hold_so_far keep script good is.tables first left is.read is.stopped.done is.stopped.under is.stopped.later is.stopped.came is.stopped.sent is.stopped.late is.stopped.same is.stopped.ahead),
 )
+keeps keep next shows other script first left out trace good = tt

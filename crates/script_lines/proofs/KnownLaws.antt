@@ -25,51 +25,15 @@ none_kept (suc n) (suc u) = none_kept n u
 -- what is read of a statement teaches what the statement does
 kind_same : (u : ℕ) (span : Span) (s : Said) (before : Option DriveKind) → kind_after u (read_of span s) before ≡ kind_after u s before
 kind_same u span (says.Unit v kind) before = refl
-kind_same u span (says.Read request) before = refl
-kind_same u span (says.Write request content) before = refl
-kind_same u span (says.Arrive v) before = refl
-kind_same u span (says.Turn v sector) before = refl
-kind_same u span (says.Move a) before = refl
-kind_same u span (says.Attend a) before = refl
-kind_same u span (says.Noise v block noise places) before = refl
-kind_same u span (says.Fault v what times) before = refl
-kind_same u span (says.Offline v) before = refl
-kind_same u span (says.Online v) before = refl
-kind_same u span (says.Lock v) before = refl
-kind_same u span (says.Unlock v) before = refl
-kind_same u span says.Drain before = refl
+kind_same u span other before = refl
 
 id_same : (id : ℕ) (span : Span) (s : Said) → has_id id (read_of span s) ≡ has_id id s
 id_same id span (says.Unit v kind) = refl
-id_same id span (says.Read request) = refl
-id_same id span (says.Write request content) = refl
-id_same id span (says.Arrive v) = refl
-id_same id span (says.Turn v sector) = refl
-id_same id span (says.Move a) = refl
-id_same id span (says.Attend a) = refl
-id_same id span (says.Noise v block noise places) = refl
-id_same id span (says.Fault v what times) = refl
-id_same id span (says.Offline v) = refl
-id_same id span (says.Online v) = refl
-id_same id span (says.Lock v) = refl
-id_same id span (says.Unlock v) = refl
-id_same id span says.Drain = refl
+id_same id span other = refl
 
 verb_same : (span : Span) (s : Said) → verb_of (read_of span s) ≡ verb_of s
 verb_same span (says.Unit v kind) = refl
-verb_same span (says.Read request) = refl
-verb_same span (says.Write request content) = refl
-verb_same span (says.Arrive v) = refl
-verb_same span (says.Turn v sector) = refl
-verb_same span (says.Move a) = refl
-verb_same span (says.Attend a) = refl
-verb_same span (says.Noise v block noise places) = refl
-verb_same span (says.Fault v what times) = refl
-verb_same span (says.Offline v) = refl
-verb_same span (says.Online v) = refl
-verb_same span (says.Lock v) = refl
-verb_same span (says.Unlock v) = refl
-verb_same span says.Drain = refl
+verb_same span other = refl
 
 pub learns_said : (span : Span) (s : Said) (old new : Known) → Learns old new (read_of span s) → Learns old new s
 learns_said span s old new l = record {

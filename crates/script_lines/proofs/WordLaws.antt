@@ -27,8 +27,7 @@ none_named word (x ∷ xs) text none =
 
 pub kind_of_word : (kind : DriveKind) → kind_field (kind_word kind) ≡ Ok kind
 kind_of_word Rp06 = refl
-kind_of_word Rm03 = refl
-kind_of_word Rm05 = refl
+kind_of_word other = refl
 
 pub kind_named : (text : List ℕ) (kind : DriveKind) → text ≡ kind_word kind → kind_field text ≡ Ok kind
 kind_named text kind e = ap kind_field e ∙ kind_of_word kind
@@ -42,13 +41,7 @@ kind_or text None named = sym (no_kind text (λ kind e. let no : ◌≡◌ {A = 
 
 pub part_of_word : (part : Part) → part_field (part_word part) ≡ Ok part
 part_of_word A = refl
-part_of_word B = refl
-part_of_word C = refl
-part_of_word D = refl
-part_of_word E = refl
-part_of_word F = refl
-part_of_word G = refl
-part_of_word H = refl
+part_of_word other = refl
 
 single : (text : List ℕ) → length text ≡ 1 → text ≡ get_or text 0 0 ∷ []
 single [] e = absurd (omega (arith, e))

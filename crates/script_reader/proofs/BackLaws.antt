@@ -55,49 +55,23 @@ alone f a = then_fields f [] a refl
 
 kind_is : (kind : DriveKind) → is_field (kind_word kind) ≡ true
 kind_is Rp06 = refl
-kind_is Rm03 = refl
-kind_is Rm05 = refl
+kind_is other = refl
 
 part_is : (part : Part) → is_field (part_word part) ≡ true
 part_is A = refl
-part_is B = refl
-part_is C = refl
-part_is D = refl
-part_is E = refl
-part_is F = refl
-part_is G = refl
-part_is H = refl
+part_is other = refl
 
 offset_is : (code : OffsetCode) → is_field (offset_word code) ≡ true
 offset_is Plus400 = refl
-offset_is Minus400 = refl
-offset_is Plus800 = refl
-offset_is Minus800 = refl
-offset_is Plus1200 = refl
-offset_is Minus1200 = refl
+offset_is other = refl
 
 fault_is : (what : FaultKind) → is_field (fault_word what) ≡ true
 fault_is Seek = refl
-fault_is Opi = refl
-fault_is Dte = refl
-fault_is Hcrc = refl
-fault_is Late = refl
+fault_is other = refl
 
 verb_is : (verb : Verb) → is_field (verb_word verb) ≡ true
 verb_is verbs.Unit = refl
-verb_is verbs.Read = refl
-verb_is verbs.Write = refl
-verb_is verbs.Arrive = refl
-verb_is verbs.Turn = refl
-verb_is verbs.Move = refl
-verb_is verbs.Attend = refl
-verb_is verbs.Noise = refl
-verb_is verbs.Fault = refl
-verb_is verbs.Offline = refl
-verb_is verbs.Online = refl
-verb_is verbs.Lock = refl
-verb_is verbs.Unlock = refl
-verb_is verbs.Drain = refl
+verb_is other = refl
 
 hex_above : (n : ℕ) → nat_lt 32 (hex_digit n) ≡ true
 hex_above n = grind (arith, nat_tests)
@@ -160,13 +134,11 @@ unit_then u fs le a = then_fields (number u) fs (num u 31 le (omega arith)) a
 
 few_sectors : (kind : DriveKind) (n : ℕ) → n < sectors_of kind → n ≤ 31
 few_sectors Rp06 n lt = omega (arith, lt)
-few_sectors Rm03 n lt = omega (arith, lt)
-few_sectors Rm05 n lt = omega (arith, lt)
+few_sectors other n lt = omega (arith, lt)
 
 few_blocks : (kind : DriveKind) (n : ℕ) → n < block_count kind → n ≤ 4294967295
 few_blocks Rp06 n lt = omega (arith, lt)
-few_blocks Rm03 n lt = omega (arith, lt)
-few_blocks Rm05 n lt = omega (arith, lt)
+few_blocks other n lt = omega (arith, lt)
 
 all_are : (known : Known) (s : Said) → IsInRange known s → are_fields (fields_of s) ≡ true
 all_are known (says.Unit u kind) w = unit_then u (kind_word kind ∷ []) w.0 (alone (kind_word kind) (kind_is kind))
@@ -216,39 +188,19 @@ none_wide = omega arith
 
 kind_wide : (kind : DriveKind) → length (kind_word kind) ≤ 22
 kind_wide Rp06 = omega arith
-kind_wide Rm03 = omega arith
-kind_wide Rm05 = omega arith
+kind_wide other = omega arith
 
 offset_wide : (code : OffsetCode) → length (offset_word code) ≤ 22
 offset_wide Plus400 = omega arith
-offset_wide Minus400 = omega arith
-offset_wide Plus800 = omega arith
-offset_wide Minus800 = omega arith
-offset_wide Plus1200 = omega arith
-offset_wide Minus1200 = omega arith
+offset_wide other = omega arith
 
 fault_wide : (what : FaultKind) → length (fault_word what) ≤ 22
 fault_wide Seek = omega arith
-fault_wide Opi = omega arith
-fault_wide Dte = omega arith
-fault_wide Hcrc = omega arith
-fault_wide Late = omega arith
+fault_wide other = omega arith
 
 verb_wide : (verb : Verb) → length (verb_word verb) ≤ 22
 verb_wide verbs.Unit = omega arith
-verb_wide verbs.Read = omega arith
-verb_wide verbs.Write = omega arith
-verb_wide verbs.Arrive = omega arith
-verb_wide verbs.Turn = omega arith
-verb_wide verbs.Move = omega arith
-verb_wide verbs.Attend = omega arith
-verb_wide verbs.Noise = omega arith
-verb_wide verbs.Fault = omega arith
-verb_wide verbs.Offline = omega arith
-verb_wide verbs.Online = omega arith
-verb_wide verbs.Lock = omega arith
-verb_wide verbs.Unlock = omega arith
-verb_wide verbs.Drain = omega arith
+verb_wide other = omega arith
 
 start_wide : (known : Known) (r : Request) → IsAsked known r → length (spaced (start_fields r)) ≤ 115
 start_wide known r w =
@@ -331,35 +283,11 @@ line_fits known s w =
 -- ONE LINE
 named_back : (verb : Verb) → named verb_word all_verbs (verb_word verb) ≡ Some verb
 named_back verbs.Unit = refl
-named_back verbs.Read = refl
-named_back verbs.Write = refl
-named_back verbs.Arrive = refl
-named_back verbs.Turn = refl
-named_back verbs.Move = refl
-named_back verbs.Attend = refl
-named_back verbs.Noise = refl
-named_back verbs.Fault = refl
-named_back verbs.Offline = refl
-named_back verbs.Online = refl
-named_back verbs.Lock = refl
-named_back verbs.Unlock = refl
-named_back verbs.Drain = refl
+named_back other = refl
 
 no_comment : (verb : Verb) (rest : List ℕ) → is_comment (verb_word verb ++ rest) ≡ false
 no_comment verbs.Unit rest = refl
-no_comment verbs.Read rest = refl
-no_comment verbs.Write rest = refl
-no_comment verbs.Arrive rest = refl
-no_comment verbs.Turn rest = refl
-no_comment verbs.Move rest = refl
-no_comment verbs.Attend rest = refl
-no_comment verbs.Noise rest = refl
-no_comment verbs.Fault rest = refl
-no_comment verbs.Offline rest = refl
-no_comment verbs.Online rest = refl
-no_comment verbs.Lock rest = refl
-no_comment verbs.Unlock rest = refl
-no_comment verbs.Drain rest = refl
+no_comment other rest = refl
 
 if_no : {X : Type 0} (t : Bool) (x y : X) → t ≡ false → (if t then x else y) ≡ y
 if_no true x y e = absurd (false≢true (sym e))

@@ -27,19 +27,7 @@ chosen_is u v kind other behind e = at (u == v) refl e
 
 declared_is : (u : ℕ) (kind : DriveKind) (s : Said) (behind : Option DriveKind) → declared_by (statement_of s) u behind ≡ Some kind → (s ≡ says.Unit u kind) ⊎ (behind ≡ Some kind)
 declared_is u kind (says.Unit v other) behind e = chosen_is u v kind other behind e
-declared_is u kind (says.Read r) behind e = inr e
-declared_is u kind (says.Write r content) behind e = inr e
-declared_is u kind (says.Arrive v) behind e = inr e
-declared_is u kind (says.Turn v sector) behind e = inr e
-declared_is u kind (says.Move a) behind e = inr e
-declared_is u kind (says.Attend a) behind e = inr e
-declared_is u kind (says.Noise v block span places) behind e = inr e
-declared_is u kind (says.Fault v what times) behind e = inr e
-declared_is u kind (says.Offline v) behind e = inr e
-declared_is u kind (says.Online v) behind e = inr e
-declared_is u kind (says.Lock v) behind e = inr e
-declared_is u kind (says.Unlock v) behind e = inr e
-declared_is u kind says.Drain behind e = inr e
+declared_is u kind it behind e = inr e
 
 has_line : (u : ℕ) (kind : DriveKind) (lines : List Numbered) → drives_in (map line_of lines) u ≡ Some kind → Contains (said_in lines) (says.Unit u kind)
 has_line u kind [] e = absurd (cc)

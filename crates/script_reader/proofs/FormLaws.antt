@@ -98,18 +98,11 @@ digits_back count digits long all =
 -- WORDS
 offset_back : (code : OffsetCode) → offset_field (offset_word code) ≡ Ok code
 offset_back Plus400 = refl
-offset_back Minus400 = refl
-offset_back Plus800 = refl
-offset_back Minus800 = refl
-offset_back Plus1200 = refl
-offset_back Minus1200 = refl
+offset_back other = refl
 
 fault_back : (what : FaultKind) → fault_field (fault_word what) ≡ Ok what
 fault_back Seek = refl
-fault_back Opi = refl
-fault_back Dte = refl
-fault_back Hcrc = refl
-fault_back Late = refl
+fault_back other = refl
 
 -- THE PARTS OF LINES
 abbrev started : Request → Request
@@ -189,13 +182,11 @@ less_one n k lt = omega (arith, lt)
 
 few_sectors : (kind : DriveKind) → sectors_of kind - 1 ≤ 4294967295
 few_sectors Rp06 = omega arith
-few_sectors Rm03 = omega arith
-few_sectors Rm05 = omega arith
+few_sectors other = omega arith
 
 few_blocks : (kind : DriveKind) → block_count kind - 1 ≤ 4294967295
 few_blocks Rp06 = omega arith
-few_blocks Rm03 = omega arith
-few_blocks Rm05 = omega arith
+few_blocks other = omega arith
 
 unit_number_back : (known : Known) (u : ℕ) (fields : List (List ℕ)) → IsDeclared known u → unit_number_form known (number u ∷ fields) ≡ Ok (u, fields)
 unit_number_back known u fields d = stepped (unit_field known) (λ unit_kind. gives unit_kind.0) (number u) fields (u, d.0) (unit_back known u d.0 d.1)

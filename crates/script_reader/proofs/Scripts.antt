@@ -55,20 +55,9 @@ either_way a b = at (a == b) (b == a) refl refl
 
 -- IDS: one that was used is used no more
 with_id_new : (known : Known) (id : ℕ) (s : Said) (ids : List ℕ) → IsInRange known s → known.used id ≡ true → list_any (λ other. other == id) ids ≡ false → list_any (λ other. other == id) (with_id (statement_of s) ids) ≡ false
-with_id_new known id (says.Unit u kind) ids w used new = new
 with_id_new known id (says.Read r) ids w used new = or_from (r.id == id) (list_any (λ other. other == id) ids) (apart known.used r.id id w.new used) new
 with_id_new known id (says.Write r content) ids w used new = let a = w.0 in or_from (r.id == id) (list_any (λ other. other == id) ids) (apart known.used r.id id a.new used) new
-with_id_new known id (says.Arrive u) ids w used new = new
-with_id_new known id (says.Turn u sector) ids w used new = new
-with_id_new known id (says.Move a) ids w used new = new
-with_id_new known id (says.Attend a) ids w used new = new
-with_id_new known id (says.Noise u block span places) ids w used new = new
-with_id_new known id (says.Fault u what times) ids w used new = new
-with_id_new known id (says.Offline u) ids w used new = new
-with_id_new known id (says.Online u) ids w used new = new
-with_id_new known id (says.Lock u) ids w used new = new
-with_id_new known id (says.Unlock u) ids w used new = new
-with_id_new known id says.Drain ids w used new = new
+with_id_new known id it ids w used new = new
 
 ids_new : (known : Known) (id : ℕ) (rest : List Numbered) → AreWell known (said_in rest) → known.used id ≡ true → list_any (λ other. other == id) (ids_of (map line_of rest)) ≡ false
 ids_new known id [] w used = refl
@@ -77,20 +66,9 @@ ids_new known id (line ∷ rest) w used =
     (ids_new (learned known line.statement) id rest w.1 (or_left (known.used id) (has_id id line.statement) used))
 
 with_id_apart : (s : Said) (ids : List ℕ) → ((id : ℕ) → has_id id s ≡ true → list_any (λ other. other == id) ids ≡ false) → AreApart ids → AreApart (with_id (statement_of s) ids)
-with_id_apart (says.Unit u kind) ids new a = a
 with_id_apart (says.Read r) ids new a = (new r.id (same_number r.id), a)
 with_id_apart (says.Write r content) ids new a = (new r.id (same_number r.id), a)
-with_id_apart (says.Arrive u) ids new a = a
-with_id_apart (says.Turn u sector) ids new a = a
-with_id_apart (says.Move m) ids new a = a
-with_id_apart (says.Attend m) ids new a = a
-with_id_apart (says.Noise u block span places) ids new a = a
-with_id_apart (says.Fault u what times) ids new a = a
-with_id_apart (says.Offline u) ids new a = a
-with_id_apart (says.Online u) ids new a = a
-with_id_apart (says.Lock u) ids new a = a
-with_id_apart (says.Unlock u) ids new a = a
-with_id_apart says.Drain ids new a = a
+with_id_apart it ids new a = a
 
 ids_apart : (known : Known) (rest : List Numbered) → AreWell known (said_in rest) → AreApart (ids_of (map line_of rest))
 ids_apart known [] w = tt
@@ -106,19 +84,7 @@ none_some o e = ap (λ (p : Option DriveKind). is_some p) e
 
 declares_new : (known : Known) (u : ℕ) (s : Said) → IsInRange known s → is_some (known.kinds u) ≡ true → declares u (statement_of s) ≡ false
 declares_new known u (says.Unit v kind) w there = apart (λ n. is_some (known.kinds n)) v u (none_some (known.kinds v) w.1) there
-declares_new known u (says.Read r) w there = refl
-declares_new known u (says.Write r content) w there = refl
-declares_new known u (says.Arrive v) w there = refl
-declares_new known u (says.Turn v sector) w there = refl
-declares_new known u (says.Move a) w there = refl
-declares_new known u (says.Attend a) w there = refl
-declares_new known u (says.Noise v block span places) w there = refl
-declares_new known u (says.Fault v what times) w there = refl
-declares_new known u (says.Offline v) w there = refl
-declares_new known u (says.Online v) w there = refl
-declares_new known u (says.Lock v) w there = refl
-declares_new known u (says.Unlock v) w there = refl
-declares_new known u says.Drain w there = refl
+declares_new known u other w there = refl
 
 some_either : (t : Bool) (kind : DriveKind) (o : Option DriveKind) → is_some o ≡ true → is_some (if t then Some kind else o) ≡ true
 some_either true kind o e = refl
@@ -126,19 +92,7 @@ some_either false kind o e = e
 
 still_there : (u : ℕ) (s : Said) (o : Option DriveKind) → is_some o ≡ true → is_some (kind_after u s o) ≡ true
 still_there u (says.Unit v kind) o e = some_either (v == u) kind o e
-still_there u (says.Read r) o e = e
-still_there u (says.Write r content) o e = e
-still_there u (says.Arrive v) o e = e
-still_there u (says.Turn v sector) o e = e
-still_there u (says.Move a) o e = e
-still_there u (says.Attend a) o e = e
-still_there u (says.Noise v block span places) o e = e
-still_there u (says.Fault v what times) o e = e
-still_there u (says.Offline v) o e = e
-still_there u (says.Online v) o e = e
-still_there u (says.Lock v) o e = e
-still_there u (says.Unlock v) o e = e
-still_there u says.Drain o e = e
+still_there u other o e = e
 
 no_more : (known : Known) (u : ℕ) (rest : List Numbered) → AreWell known (said_in rest) → is_some (known.kinds u) ≡ true → list_any (λ (line : Line). declares u line.statement) (map line_of rest) ≡ false
 no_more known u [] w there = refl
@@ -156,19 +110,7 @@ late-none known later e = at known.later later e
 
 is_played : (known : Known) (s : Said) → known.later ≡ true → IsWell known s → IsPlayed (statement_of s)
 is_played known (says.Unit u kind) later w = late-none known later w.in_time
-is_played known (says.Read r) later w = tt
-is_played known (says.Write r content) later w = tt
-is_played known (says.Arrive u) later w = tt
-is_played known (says.Turn u sector) later w = tt
-is_played known (says.Move a) later w = tt
-is_played known (says.Attend a) later w = tt
-is_played known (says.Noise u block span places) later w = tt
-is_played known (says.Fault u what times) later w = tt
-is_played known (says.Offline u) later w = tt
-is_played known (says.Online u) later w = tt
-is_played known (says.Lock u) later w = tt
-is_played known (says.Unlock u) later w = tt
-is_played known says.Drain later w = tt
+is_played known other later w = tt
 
 are_plays : (known : Known) (rest : List Numbered) → known.later ≡ true → AreWell known (said_in rest) → ArePlays (map line_of rest)
 are_plays known [] later w = tt
@@ -177,19 +119,7 @@ are_plays known (line ∷ rest) later w =
 
 first_or : (s : Said) (lines : List Line) → (is_unit (verb_of s) ≡ false → ArePlays lines) → ((u : ℕ) (kind : DriveKind) → s ≡ says.Unit u kind → IsFirst (statement_of s) lines) → IsFirst (statement_of s) lines
 first_or (says.Unit u kind) lines plays unit_first = unit_first u kind refl
-first_or (says.Read r) lines plays unit_first = plays refl
-first_or (says.Write r content) lines plays unit_first = plays refl
-first_or (says.Arrive u) lines plays unit_first = plays refl
-first_or (says.Turn u sector) lines plays unit_first = plays refl
-first_or (says.Move a) lines plays unit_first = plays refl
-first_or (says.Attend a) lines plays unit_first = plays refl
-first_or (says.Noise u block span places) lines plays unit_first = plays refl
-first_or (says.Fault u what times) lines plays unit_first = plays refl
-first_or (says.Offline u) lines plays unit_first = plays refl
-first_or (says.Online u) lines plays unit_first = plays refl
-first_or (says.Lock u) lines plays unit_first = plays refl
-first_or (says.Unlock u) lines plays unit_first = plays refl
-first_or says.Drain lines plays unit_first = plays refl
+first_or other lines plays unit_first = plays refl
 
 chosen : (t : Bool) (kind : DriveKind) (o : Option DriveKind) → t ≡ true → is_some (if t then Some kind else o) ≡ true
 chosen true kind o e = refl
@@ -228,19 +158,7 @@ declared_first false true kind before behind e f = absurd (cc)
 known_next : (known : Known) (u : ℕ) (s : Said) (behind : Option DriveKind) → IsInRange known s → first_known (known.kinds u) (declared_by (statement_of s) u behind) ≡ first_known (kind_after u s (known.kinds u)) behind
 known_next known u (says.Unit v kind) behind w =
     declared_first (u == v) (v == u) kind (known.kinds u) behind (either_way u v) (λ e. subst (λ (n : ℕ). known.kinds n ≡ None) (eqb-true v u e) w.1)
-known_next known u (says.Read r) behind w = refl
-known_next known u (says.Write r content) behind w = refl
-known_next known u (says.Arrive v) behind w = refl
-known_next known u (says.Turn v sector) behind w = refl
-known_next known u (says.Move a) behind w = refl
-known_next known u (says.Attend a) behind w = refl
-known_next known u (says.Noise v block span places) behind w = refl
-known_next known u (says.Fault v what times) behind w = refl
-known_next known u (says.Offline v) behind w = refl
-known_next known u (says.Online v) behind w = refl
-known_next known u (says.Lock v) behind w = refl
-known_next known u (says.Unlock v) behind w = refl
-known_next known u says.Drain behind w = refl
+known_next known u other behind w = refl
 
 pub agrees_next : (drives : ℕ → Option DriveKind) (known : Known) (line : Numbered) (rest : List Numbered) → IsInRange known line.statement → Agrees drives known (line ∷ rest) → Agrees drives (learned known line.statement) rest
 agrees_next drives known line rest w a u = a u ∙ known_next known u line.statement (drives_in (map line_of rest) u) w
@@ -292,7 +210,6 @@ write_request known r content a w = record {
 }
 
 is_statement : (drives : ℕ → Option DriveKind) (known : Known) → ((u : ℕ) (kind : DriveKind) → known.kinds u ≡ Some kind → drives u ≡ Some kind) → (s : Said) → IsInRange known s → IsStatement drives (statement_of s)
-is_statement drives known is (says.Unit u kind) w = tt
 is_statement drives known is (says.Read r) w =
     let d = w.declared in there (drives r.unit) d.0 (λ kind. IsRequest (request_of r None)) (is r.unit d.0 d.1.1) (read_request known r w)
 is_statement drives known is (says.Write r content) w =
@@ -307,7 +224,7 @@ is_statement drives known is (says.Offline u) w = there (drives u) w.0 (λ kind.
 is_statement drives known is (says.Online u) w = there (drives u) w.0 (λ kind. Unit {0}) (is u w.0 w.1.1) tt
 is_statement drives known is (says.Lock u) w = there (drives u) w.0 (λ kind. Unit {0}) (is u w.0 w.1.1) tt
 is_statement drives known is (says.Unlock u) w = there (drives u) w.0 (λ kind. Unit {0}) (is u w.0 w.1.1) tt
-is_statement drives known is says.Drain w = tt
+is_statement drives known is other w = tt
 
 are_statements : (drives : ℕ → Option DriveKind) (known : Known) (rest : List Numbered) → AreWell known (said_in rest) → Agrees drives known rest → All (λ (line : Line). IsStatement drives line.statement) (map line_of rest)
 are_statements drives known [] w a = All-nil (λ (line : Line). IsStatement drives line.statement)

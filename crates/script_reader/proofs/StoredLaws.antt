@@ -13,46 +13,20 @@ use Rattle.script_reader.specs.Stored.{digits_at}
 use Rattle.script_reader.proofs.CarriesLaws.{CarriesIn, Carries}
 
 content_back : (text : List ℕ) (span : Span) (content : Content (List ℕ)) → CarriesIn (digits_at text span) content → content_by (digits_at text) (content_by (λ _. span) content) ≡ content
-content_back text span (contents.Fill b) c = refl
-content_back text span (contents.Seq n) c = refl
 content_back text span (contents.Hex x) c = ap (λ (d : List ℕ). contents.Hex d) c
+content_back text span other c = refl
 
 back : (text : List ℕ) (span : Span) (s : Said) → Carries (digits_at text span) s → renamed (digits_at text) (λ (p : List ℕ). p) (read_of span s) ≡ s
-back text span (says.Unit u kind) c = refl
-back text span (says.Read request) c = refl
 back text span (says.Write request content) c = ap (λ (x : Content (List ℕ)). says.Write request x) (content_back text span content c)
-back text span (says.Arrive u) c = refl
-back text span (says.Turn u sector) c = refl
-back text span (says.Move a) c = refl
-back text span (says.Attend a) c = refl
-back text span (says.Noise u block noise places) c = refl
-back text span (says.Fault u what times) c = refl
-back text span (says.Offline u) c = refl
-back text span (says.Online u) c = refl
-back text span (says.Lock u) c = refl
-back text span (says.Unlock u) c = refl
-back text span says.Drain c = refl
+back text span other c = refl
 
 content_twice : (digits : Span → List ℕ) (content : Content Span) → content_by digits content ≡ content_by digits (content_by (λ span. span) content)
 content_twice digits (contents.Fill b) = refl
-content_twice digits (contents.Seq n) = refl
-content_twice digits (contents.Hex span) = refl
+content_twice digits other = refl
 
 twice : (digits : Span → List ℕ) (kept : Statement Span (Box (List ℕ) Global)) → renamed digits box_value kept ≡ renamed digits (λ (p : List ℕ). p) (renamed (λ span. span) box_value kept)
-twice digits (says.Unit u kind) = refl
-twice digits (says.Read request) = refl
 twice digits (says.Write request content) = ap (λ (x : Content (List ℕ)). says.Write request x) (content_twice digits content)
-twice digits (says.Arrive u) = refl
-twice digits (says.Turn u sector) = refl
-twice digits (says.Move a) = refl
-twice digits (says.Attend a) = refl
-twice digits (says.Noise u block noise places) = refl
-twice digits (says.Fault u what times) = refl
-twice digits (says.Offline u) = refl
-twice digits (says.Online u) = refl
-twice digits (says.Lock u) = refl
-twice digits (says.Unlock u) = refl
-twice digits says.Drain = refl
+twice digits other = refl
 
 pub stands : (text : List ℕ) (span : Span) (read : Statement Span (List ℕ)) (s : Said) → read_of span s ≡ read → Carries (digits_at text span) s → renamed (digits_at text) (λ (p : List ℕ). p) read ≡ s
 stands text span read s r c = ap (renamed (digits_at text) (λ (p : List ℕ). p)) (sym r) ∙ back text span s c

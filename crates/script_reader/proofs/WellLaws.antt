@@ -270,13 +270,11 @@ adapter_gives = field_gives (λ a. a ≤ 3) (number_field 0 3) (λ text n e. (nu
 
 sector_below : (kind : DriveKind) (n : ℕ) → n ≤ sectors_of kind - 1 → n < sectors_of kind
 sector_below Rp06 n le = omega (arith, le)
-sector_below Rm03 n le = omega (arith, le)
-sector_below Rm05 n le = omega (arith, le)
+sector_below other n le = omega (arith, le)
 
 block_below : (kind : DriveKind) (n : ℕ) → n ≤ block_count kind - 1 → n < block_count kind
 block_below Rp06 n le = omega (arith, le)
-block_below Rm03 n le = omega (arith, le)
-block_below Rm05 n le = omega (arith, le)
+block_below other n le = omega (arith, le)
 
 unit_said : (known : Known) (verb : Verb) (name : ℕ → Said) → ((u : ℕ) → IsDeclared known u → IsSaid known verb (name u)) → Gives (IsSaid known verb) (mapped name (unit_number_form known))
 unit_said known verb name each = gives_that (IsDeclared known) (IsSaid known verb) (unit_number_form known) (λ u. gives (name u)) (unit_number_gives known) (λ u d. gives_it (IsSaid known verb) (name u) (each u d))

@@ -101,19 +101,7 @@ AddsBy tells packs (Plays input) old new = new ≡ old
 
 adds_by : (text : List ℕ) (tells : Bool) (packs : ℕ → Pack) (st : StoredStatement) (old new : List Setup) → Adds tells packs st old new → AddsBy tells packs (meant text st) old new
 adds_by text tells packs (says.Unit u kind) old new a = a
-adds_by text tells packs (says.Read q) old new a = a
-adds_by text tells packs (says.Write q content) old new a = a
-adds_by text tells packs (says.Arrive u) old new a = a
-adds_by text tells packs (says.Turn u sector) old new a = a
-adds_by text tells packs (says.Move m) old new a = a
-adds_by text tells packs (says.Attend m) old new a = a
-adds_by text tells packs (says.Noise u block span places) old new a = a
-adds_by text tells packs (says.Fault u what times) old new a = a
-adds_by text tells packs (says.Offline u) old new a = a
-adds_by text tells packs (says.Online u) old new a = a
-adds_by text tells packs (says.Lock u) old new a = a
-adds_by text tells packs (says.Unlock u) old new a = a
-adds_by text tells packs says.Drain old new a = a
+adds_by text tells packs other old new a = a
 
 abbrev RefusedBy : Bool → (ℕ → Pack) → Statement → PlayFault → Type 0
 RefusedBy tells packs (Declares u kind) fault = IsFoundLong tells (packs u) u kind fault
@@ -121,35 +109,11 @@ RefusedBy tells packs (Plays input) fault = ⊥
 
 refused_by : (text : List ℕ) (tells : Bool) (packs : ℕ → Pack) (st : StoredStatement) (fault : PlayFault) → RefusesLine tells packs st fault → RefusedBy tells packs (meant text st) fault
 refused_by text tells packs (says.Unit u kind) fault r = r
-refused_by text tells packs (says.Read q) fault r = r
-refused_by text tells packs (says.Write q content) fault r = r
-refused_by text tells packs (says.Arrive u) fault r = r
-refused_by text tells packs (says.Turn u sector) fault r = r
-refused_by text tells packs (says.Move m) fault r = r
-refused_by text tells packs (says.Attend m) fault r = r
-refused_by text tells packs (says.Noise u block span places) fault r = r
-refused_by text tells packs (says.Fault u what times) fault r = r
-refused_by text tells packs (says.Offline u) fault r = r
-refused_by text tells packs (says.Online u) fault r = r
-refused_by text tells packs (says.Lock u) fault r = r
-refused_by text tells packs (says.Unlock u) fault r = r
-refused_by text tells packs says.Drain fault r = r
+refused_by text tells packs other fault r = r
 
 room_by : (text : List ℕ) (st : StoredStatement) → ((u : ℕ) (kind : DriveKind) → meant text st ≡ Declares u kind → u < 32) → HasRoom st
 room_by text (says.Unit u kind) room = room u kind refl
-room_by text (says.Read q) room = tt
-room_by text (says.Write q content) room = tt
-room_by text (says.Arrive u) room = tt
-room_by text (says.Turn u sector) room = tt
-room_by text (says.Move m) room = tt
-room_by text (says.Attend m) room = tt
-room_by text (says.Noise u block span places) room = tt
-room_by text (says.Fault u what times) room = tt
-room_by text (says.Offline u) room = tt
-room_by text (says.Online u) room = tt
-room_by text (says.Lock u) room = tt
-room_by text (says.Unlock u) room = tt
-room_by text says.Drain room = tt
+room_by text other room = tt
 
 attached_line : (line : Line) (tells : Bool) (packs : ℕ → Pack) (lines : List Line) (old new : List Setup) → ((u : ℕ) (kind : DriveKind) → line.statement ≡ Declares u kind → HasDrive lines u)
     → AddsBy tells packs line.statement old new → AreAttached lines old → AreAttached (lines ++ line ∷ []) new

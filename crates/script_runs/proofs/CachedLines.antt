@@ -28,9 +28,7 @@ none_step u (says.Unit v kind) before rest none also = elim (eqb_tells v u) [
   | inl same ↦ absurd (none-some kind (sym none ∙ ap (λ t. if t then Some kind else before) same.0))
   | inr other ↦ (sym (ap (λ t. if t then Some kind else before) other.0) ∙ none, ap (λ t. if t then Some kind else rest) (ne_eqb u v (λ e. other.1 (sym e))) ∙ also)
 ]
-none_step u (says.Read a) before rest none also = (none, also)
-none_step u (says.Write a fill) before rest none also = (none, also)
-none_step u says.Sync before rest none also = (none, also)
+none_step u it before rest none also = (none, also)
 
 none_declared : (u : ℕ) (xs : List Said) (before : Option DriveKind) → kind_in u xs before ≡ None → (before ≡ None) × (drives_in (map line_of xs) u ≡ None)
 none_declared u [] before none = (none, refl)
@@ -53,9 +51,7 @@ some_step u (says.Unit v kind) before rest has = elim (eqb_tells v u) [
   | inl same ↦ inr (kind, ap (λ t. if t then Some kind else rest) (eq-eqb u v (sym same.1)))
   | inr other ↦ inl (has.0, sym (ap (λ t. if t then Some kind else before) other.0) ∙ has.1)
 ]
-some_step u (says.Read a) before rest has = inl has
-some_step u (says.Write a fill) before rest has = inl has
-some_step u says.Sync before rest has = inl has
+some_step u it before rest has = inl has
 
 pub some_declared : (u : ℕ) (xs : List Said) (before : Option DriveKind) → Has (kind_in u xs before) → Has before ⊎ Has (drives_in (map line_of xs) u)
 some_declared u [] before has = inl has

@@ -35,52 +35,23 @@ room_behind s total done more used ids w acts room within are =
 -- AN INPUT brings one noise and one line of faults at most,
 pub few_noises : (input : Input) → noises_of input ≤ 1
 few_noises (script.Submit r) = omega arith
-few_noises (script.ArriveAt u) = omega arith
-few_noises (script.MoveAt a) = omega arith
-few_noises (script.AttendTo a) = omega arith
-few_noises script.Drain = omega arith
-few_noises (script.Turn u sector) = omega arith
-few_noises (script.Noise noise) = omega arith
-few_noises (script.Arm u kind times) = omega arith
-few_noises (script.SetOnline u on) = omega arith
-few_noises (script.SetLocked u on) = omega arith
+few_noises other = omega arith
 
 pub few_faults : (input : Input) → faults_of input ≤ 1
 few_faults (script.Submit r) = omega arith
-few_faults (script.ArriveAt u) = omega arith
-few_faults (script.MoveAt a) = omega arith
-few_faults (script.AttendTo a) = omega arith
-few_faults script.Drain = omega arith
-few_faults (script.Turn u sector) = omega arith
-few_faults (script.Noise noise) = omega arith
-few_faults (script.Arm u kind times) = omega arith
-few_faults (script.SetOnline u on) = omega arith
-few_faults (script.SetLocked u on) = omega arith
+few_faults other = omega arith
 
 -- and one of a drain nothing, and is allowed.
 pub nothing_armed : (w : World) (input : Input) → CanCome w input → (noises_of input ≡ 0) × (faults_of input ≡ 0) × IsAllowed w input
 nothing_armed w (script.ArriveAt u) can = (refl, refl, tt)
 nothing_armed w (script.MoveAt a) can = (refl, refl, tt)
 nothing_armed w (script.AttendTo a) can = (refl, refl, tt)
-nothing_armed w (script.Submit r) can = absurd can
-nothing_armed w script.Drain can = absurd can
-nothing_armed w (script.Turn u sector) can = absurd can
-nothing_armed w (script.Noise noise) can = absurd can
-nothing_armed w (script.Arm u kind times) can = absurd can
-nothing_armed w (script.SetOnline u on) can = absurd can
-nothing_armed w (script.SetLocked u on) can = absurd can
+nothing_armed w other can = absurd can
 
 pub asks_nothing : (w : World) (there : List ℕ) (input : Input) → IsAllowed w input → AsksSome input × IsOf there input
-asks_nothing w there (script.ArriveAt u) is = (tt, tt)
-asks_nothing w there (script.MoveAt a) is = (tt, tt)
-asks_nothing w there (script.AttendTo a) is = (tt, tt)
 asks_nothing w there (script.Submit r) is = absurd is
 asks_nothing w there script.Drain is = absurd is
-asks_nothing w there (script.Turn u sector) is = (tt, tt)
-asks_nothing w there (script.Noise noise) is = (tt, tt)
-asks_nothing w there (script.Arm u kind times) is = (tt, tt)
-asks_nothing w there (script.SetOnline u on) is = (tt, tt)
-asks_nothing w there (script.SetLocked u on) is = (tt, tt)
+asks_nothing w there other is = (tt, tt)
 
 module _ (s : Script) (total done : ℕ) (used : List ℕ) (w : World) (room : HasRoom s total done used w) (less : done < total) (small : total < 2 ^ 32) where
   armed_fits : w.book.armed < w.book.capacity
@@ -93,11 +64,10 @@ module _ (s : Script) (total done : ℕ) (used : List ℕ) (w : World) (room : H
   pub may_play : (input : Input) → (input ≡ script.Drain → ⊥) → ((r : _) → input ≡ script.Submit r → ⊥) → IsInput (drives_of s) input → IsAllowed w input × IsOfUnits w input
   may_play (script.Submit r) no_drain no_request there = absurd (no_request r refl)
   may_play (script.ArriveAt u) no_drain no_request there = (tt, set_up s w room.units u there)
-  may_play (script.MoveAt a) no_drain no_request there = (tt, there)
-  may_play (script.AttendTo a) no_drain no_request there = (tt, there)
   may_play script.Drain no_drain no_request there = absurd (no_drain refl)
   may_play (script.Turn u sector) no_drain no_request there = (may_turn s w room.units u sector there, tt)
   may_play (script.Noise noise) no_drain no_request there = (may_strike s w room.units noise armed_fits there, tt)
   may_play (script.Arm u kind times) no_drain no_request there = (may_arm s w room.units u kind times done total (room.within.faults u kind) (omega (arith, less)) small there, tt)
   may_play (script.SetOnline u on) no_drain no_request there = (set_up s w room.units u there, tt)
   may_play (script.SetLocked u on) no_drain no_request there = (set_up s w room.units u there, tt)
+  may_play other no_drain no_request there = (tt, there)

@@ -105,15 +105,7 @@ quiet_event s w line input t acts rest is cut = quiet_write_nothing s (lines_of_
 
 pub later_events_write_nothing : LaterEventsWriteNothing
 later_events_write_nothing s w line (script.MoveAt a) t acts rest sound shows off cut = move_nothing s w line a t acts rest sound shows off cut
-later_events_write_nothing s w line (script.Submit r) t acts rest sound shows off cut = quiet_event s w line (script.Submit r) t acts rest tt cut
-later_events_write_nothing s w line (script.ArriveAt u) t acts rest sound shows off cut = quiet_event s w line (script.ArriveAt u) t acts rest tt cut
-later_events_write_nothing s w line (script.AttendTo a) t acts rest sound shows off cut = quiet_event s w line (script.AttendTo a) t acts rest tt cut
-later_events_write_nothing s w line script.Drain t acts rest sound shows off cut = quiet_event s w line script.Drain t acts rest tt cut
-later_events_write_nothing s w line (script.Turn u y) t acts rest sound shows off cut = quiet_event s w line (script.Turn u y) t acts rest tt cut
-later_events_write_nothing s w line (script.Noise n) t acts rest sound shows off cut = quiet_event s w line (script.Noise n) t acts rest tt cut
-later_events_write_nothing s w line (script.Arm u kind times) t acts rest sound shows off cut = quiet_event s w line (script.Arm u kind times) t acts rest tt cut
-later_events_write_nothing s w line (script.SetOnline u on) t acts rest sound shows off cut = quiet_event s w line (script.SetOnline u on) t acts rest tt cut
-later_events_write_nothing s w line (script.SetLocked u on) t acts rest sound shows off cut = quiet_event s w line (script.SetLocked u on) t acts rest tt cut
+later_events_write_nothing s w line other t acts rest sound shows off cut = quiet_event s w line other t acts rest tt cut
 
 -- THE FIRST EVENT of a drain
 pub first_events_write_nothing : FirstEventsWriteNothing
@@ -128,15 +120,7 @@ quiet_line s w line input t acts rest is cut = (refl, quiet_event (after_moment 
 pub events_write_nothing : EventsWriteNothing
 events_write_nothing s w line (script.MoveAt a) t acts rest sound shows off cut =
     (refl, move_nothing (after_moment s (Played line (script.MoveAt a))) w line a t acts rest sound (same_shown w s _ shows) off cut)
-events_write_nothing s w line (script.Submit r) t acts rest sound shows off cut = quiet_line s w line (script.Submit r) t acts rest tt cut
-events_write_nothing s w line (script.ArriveAt u) t acts rest sound shows off cut = quiet_line s w line (script.ArriveAt u) t acts rest tt cut
-events_write_nothing s w line (script.AttendTo a) t acts rest sound shows off cut = quiet_line s w line (script.AttendTo a) t acts rest tt cut
-events_write_nothing s w line script.Drain t acts rest sound shows off cut = quiet_line s w line script.Drain t acts rest tt cut
-events_write_nothing s w line (script.Turn u y) t acts rest sound shows off cut = quiet_line s w line (script.Turn u y) t acts rest tt cut
-events_write_nothing s w line (script.Noise n) t acts rest sound shows off cut = quiet_line s w line (script.Noise n) t acts rest tt cut
-events_write_nothing s w line (script.Arm u kind times) t acts rest sound shows off cut = quiet_line s w line (script.Arm u kind times) t acts rest tt cut
-events_write_nothing s w line (script.SetOnline u on) t acts rest sound shows off cut = quiet_line s w line (script.SetOnline u on) t acts rest tt cut
-events_write_nothing s w line (script.SetLocked u on) t acts rest sound shows off cut = quiet_line s w line (script.SetLocked u on) t acts rest tt cut
+events_write_nothing s w line other t acts rest sound shows off cut = quiet_line s w line other t acts rest tt cut
 
 -- A SUBMISSION, and a drain that finds nothing to do
 pub submissions_write_nothing : SubmissionsWriteNothing

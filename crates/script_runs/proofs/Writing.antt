@@ -17,20 +17,8 @@ use Rattle.script_runs.specs.Writing.{was_written_at, WriteNothing, QuietWriteNo
 
 -- WITHOUT A SECTOR nothing is written.
 quiet_told : (s : Replay) (line unit id : ℕ) (deed : Deed) → IsNoSector (Told line unit id deed) → was_written_at s (Told line unit id deed) ≡ false
-quiet_told s line unit id (Search c y) none = refl
-quiet_told s line unit id (Seek c) none = refl
-quiet_told s line unit id Recal none = refl
-quiet_told s line unit id (Offset o) none = refl
-quiet_told s line unit id Centre none = refl
-quiet_told s line unit id Clear none = refl
-quiet_told s line unit id Pack none = refl
-quiet_told s line unit id (Transfer w b k) none = refl
-quiet_told s line unit id Arrive none = refl
 quiet_told s line unit id (Sector b v) none = absurd none
-quiet_told s line unit id Intr none = refl
-quiet_told s line unit id (Try b f) none = refl
-quiet_told s line unit id Attn none = refl
-quiet_told s line unit id (End a) none = refl
+quiet_told s line unit id other none = refl
 
 pub quiet_write_nothing : QuietWriteNothing
 quiet_write_nothing s [] none = tt
@@ -46,21 +34,9 @@ unwritten false true s unit block d r k off = refl
 unwritten false false s unit block d r k off = refl
 
 deed_same : (s : Replay) (line unit id : ℕ) (deed : Deed) → was_written_at s (Told line unit id deed) ≡ false → (surface_after s unit deed).sector ≡ s.surface.sector
-deed_same s line unit id (Search c y) off = refl
-deed_same s line unit id (Seek c) off = refl
-deed_same s line unit id Recal off = refl
-deed_same s line unit id (Offset o) off = refl
-deed_same s line unit id Centre off = refl
-deed_same s line unit id Clear off = refl
-deed_same s line unit id Pack off = refl
-deed_same s line unit id (Transfer w b k) off = refl
-deed_same s line unit id Arrive off = refl
 deed_same s line unit id (Sector b v) off =
     unwritten (was_written (s.units unit).drive v) (was_read (s.units unit).drive v) s.surface unit b (s.units unit).drive (in_hand (s.units unit).service) (s.units unit).progress.done off
-deed_same s line unit id Intr off = refl
-deed_same s line unit id (Try b f) off = refl
-deed_same s line unit id Attn off = refl
-deed_same s line unit id (End a) off = refl
+deed_same s line unit id other off = refl
 
 moment_same : (s : Replay) (m : Moment) → was_written_at s m ≡ false → Same s (after_moment s m)
 moment_same s (Played line input) off = played_same s line input
@@ -87,19 +63,7 @@ never unit u block long false off = at (unit == u)
 
 told_long : (s : Replay) (line u id : ℕ) (d : Deed) (unit long : ℕ) → was_written_at s (Told line u id d) ≡ false → length_told s (Told line u id d) unit long ≡ long
 told_long s line u id (Sector b v) unit long off = never unit u b long (was_written (s.units u).drive v) off
-told_long s line u id (Search c y) unit long off = refl
-told_long s line u id (Seek c) unit long off = refl
-told_long s line u id Recal unit long off = refl
-told_long s line u id (Offset o) unit long off = refl
-told_long s line u id Centre unit long off = refl
-told_long s line u id Clear unit long off = refl
-told_long s line u id Pack unit long off = refl
-told_long s line u id (Transfer w b k) unit long off = refl
-told_long s line u id Arrive unit long off = refl
-told_long s line u id Intr unit long off = refl
-told_long s line u id (Try b f) unit long off = refl
-told_long s line u id Attn unit long off = refl
-told_long s line u id (End a) unit long off = refl
+told_long s line u id other unit long off = refl
 
 nothing_long : (s : Replay) (ms : List Moment) (unit long : ℕ) → WriteNothing s ms → length_behind s ms unit long ≡ long
 nothing_long s [] unit long none = refl

@@ -108,29 +108,14 @@ told_back (told.Transfer true block count) h =
     commanded commands.Write (codes "wcom") (decimal block ∷ decimal count ∷ []) (told.Transfer true block count) (command_complete commands.Write) (transfer_back true block count h.0 h.1.0 h.1.1)
 told_back (told.Transfer false block count) h =
     commanded commands.Read (codes "rcom") (decimal block ∷ decimal count ∷ []) (told.Transfer false block count) (command_complete commands.Read) (transfer_back false block count h.0 h.1.0 h.1.1)
-told_back told.Arrive h = refl
 told_back (told.Sector block v) h = sector_back block v h.0 h.1
-told_back told.Intr h = refl
 told_back (told.Try block failures) h =
     two_back block_in (decimal_in 1 28) (λ x y. told.Try x y) (decimal block) (decimal failures) block failures (block_read block h.0) (decimal_complete 1 28 failures (omega arith) h.1.0 h.1.1)
-told_back told.Attn h = refl
-told_back told.End h = refl
+told_back other h = refl
 
 verb_is : (t : Told) → first_word (deed_of WriteOk t) ≡ verb_word (verb_of t)
 verb_is (told.Search cylinder sector) = refl
-verb_is (told.Seek cylinder) = refl
-verb_is told.Recal = refl
-verb_is (told.Offset code) = refl
-verb_is told.Centre = refl
-verb_is told.Clear = refl
-verb_is told.Pack = refl
-verb_is (told.Transfer write block count) = refl
-verb_is told.Arrive = refl
-verb_is (told.Sector block v) = refl
-verb_is told.Intr = refl
-verb_is (told.Try block failures) = refl
-verb_is told.Attn = refl
-verb_is told.End = refl
+verb_is other = refl
 
 -- a line's words
 deed_back : (line u id : ℕ) (t : Told) → IsLine (Deed line u id t) → deed_form (verb_of t) (decimal line ∷ decimal u ∷ decimal id ∷ last_words (deed_of WriteOk t)) ≡ Ok (Deed line u id t)
@@ -147,12 +132,7 @@ deed_back line u id t h =
 verb_then : (verb : Verb) (words : List (List ℕ)) → line_form (verb_word verb ∷ words) ≡ deed_form verb words
 unfolding line_form verb_in
 verb_then verbs.Cmd words = refl
-verb_then verbs.Arrive words = refl
-verb_then verbs.Sector words = refl
-verb_then verbs.Intr words = refl
-verb_then verbs.Try words = refl
-verb_then verbs.Attn words = refl
-verb_then verbs.End words = refl
+verb_then other words = refl
 
 idle_back : (line : ℕ) → 1 ≤ line → line ≤ 1000001 → line_form (codes "idle" ∷ decimal line ∷ []) ≡ Ok (Idle line)
 unfolding line_form
@@ -179,20 +159,12 @@ verdict_whole verdict.Offline h = (refl, tt)
 
 code_whole : (code : OffsetCode) → AreWhole (offset_word code ∷ [])
 code_whole Plus400 = (refl, tt)
-code_whole Minus400 = (refl, tt)
-code_whole Plus800 = (refl, tt)
-code_whole Minus800 = (refl, tt)
-code_whole Plus1200 = (refl, tt)
-code_whole Minus1200 = (refl, tt)
+code_whole other = (refl, tt)
 
 last_whole : (t : Told) → IsTold t → AreWhole (last_words (deed_of WriteOk t))
 last_whole (told.Search cylinder sector) h = (refl, (decimal_whole cylinder (omega arith), (decimal_whole sector (omega arith), tt)))
 last_whole (told.Seek cylinder) h = (refl, (decimal_whole cylinder (omega arith), tt))
-last_whole told.Recal h = (refl, tt)
 last_whole (told.Offset code) h = (refl, code_whole code)
-last_whole told.Centre h = (refl, tt)
-last_whole told.Clear h = (refl, tt)
-last_whole told.Pack h = (refl, tt)
 last_whole (told.Transfer true block count) h = (refl, (decimal_whole block (omega arith), (decimal_whole count (omega arith), tt)))
 last_whole (told.Transfer false block count) h = (refl, (decimal_whole block (omega arith), (decimal_whole count (omega arith), tt)))
 last_whole told.Arrive h = tt
@@ -201,15 +173,11 @@ last_whole told.Intr h = tt
 last_whole (told.Try block failures) h = (decimal_whole block (omega arith), (decimal_whole failures (omega arith), tt))
 last_whole told.Attn h = tt
 last_whole told.End h = tt
+last_whole other h = (refl, tt)
 
 verb_whole : (verb : Verb) → AreWhole (verb_word verb ∷ [])
 verb_whole verbs.Cmd = (refl, tt)
-verb_whole verbs.Arrive = (refl, tt)
-verb_whole verbs.Sector = (refl, tt)
-verb_whole verbs.Intr = (refl, tt)
-verb_whole verbs.Try = (refl, tt)
-verb_whole verbs.Attn = (refl, tt)
-verb_whole verbs.End = (refl, tt)
+verb_whole other = (refl, tt)
 
 pub line_whole : (l : TraceLine) → IsLine l → AreWhole (words_in l)
 line_whole (Deed line u id t) h =

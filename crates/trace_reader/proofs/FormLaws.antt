@@ -95,12 +95,7 @@ verb_sound word verb e = (named_gives (λ v. Unit {0}) verb_word all_verbs word 
 pub verb_complete : (verb : Verb) → verb_in (verb_word verb) ≡ Ok verb
 unfolding verb_in
 verb_complete verbs.Cmd = refl
-verb_complete verbs.Arrive = refl
-verb_complete verbs.Sector = refl
-verb_complete verbs.Intr = refl
-verb_complete verbs.Try = refl
-verb_complete verbs.Attn = refl
-verb_complete verbs.End = refl
+verb_complete other = refl
 
 command_sound : (word : List ℕ) (command : Command) → command_in word ≡ Ok command → word ≡ command_word command
 unfolding command_in
@@ -111,14 +106,7 @@ command_sound word command e =
 pub command_complete : (command : Command) → command_in (command_word command) ≡ Ok command
 unfolding command_in
 command_complete commands.Search = refl
-command_complete commands.Seek = refl
-command_complete commands.Recal = refl
-command_complete commands.Offset = refl
-command_complete commands.Centre = refl
-command_complete commands.Clear = refl
-command_complete commands.Pack = refl
-command_complete commands.Write = refl
-command_complete commands.Read = refl
+command_complete other = refl
 
 code_sound : (word : List ℕ) (code : OffsetCode) → code_in word ≡ Ok code → word ≡ offset_word code
 unfolding code_in
@@ -128,11 +116,7 @@ code_sound word code e =
 pub code_complete : (code : OffsetCode) → code_in (offset_word code) ≡ Ok code
 unfolding code_in
 code_complete Plus400 = refl
-code_complete Minus400 = refl
-code_complete Plus800 = refl
-code_complete Minus800 = refl
-code_complete Plus1200 = refl
-code_complete Minus1200 = refl
+code_complete other = refl
 
 -- a verdict of one word
 pub record IsPlain (v : Moved) : Type 0 where

@@ -19,19 +19,7 @@ use Rattle.trace_replay.specs.Text.{ended, moment_text, trace_text}
 -- the text of a moment is that of its line
 told_text : (line u id : ℕ) (deed : Deed) → moment_text (Said line u id deed) ≡ line_text (lines.Deed line u id (told_of deed))
 told_text line u id (Search cylinder sector) = refl
-told_text line u id (Seek cylinder) = refl
-told_text line u id Recal = refl
-told_text line u id (Offset code) = refl
-told_text line u id Centre = refl
-told_text line u id Clear = refl
-told_text line u id Pack = refl
-told_text line u id (Transfer write block count) = refl
-told_text line u id Arrive = refl
-told_text line u id (Sector block verdict) = refl
-told_text line u id Intr = refl
-told_text line u id (Try block failures) = refl
-told_text line u id Attn = refl
-told_text line u id (End answer) = refl
+told_text line u id other = refl
 
 trace_is : (ms : List Moment) → trace_text ms ≡ flat_map line_text (lines_told ms)
 trace_is [] = refl

@@ -42,17 +42,7 @@ online_of_either false x y c a b = b
 
 effect_online : (f : Function) (d : DriveState) → (effect f d).online ≡ d.online
 effect_online function.Nop d = refl
-effect_online function.Seek d = refl
-effect_online function.Search d = refl
-effect_online function.Recal d = refl
-effect_online function.Offset d = refl
-effect_online function.Centre d = refl
-effect_online function.Clear d = refl
-effect_online function.Preset d = refl
-effect_online function.Pack d = refl
-effect_online function.Read d = refl
-effect_online function.Write d = refl
-effect_online function.WriteHeader d = refl
+effect_online other d = refl
 
 performed_online : (f : Function) (d : DriveState) → (performed f d).online ≡ d.online
 performed_online f d =
@@ -61,8 +51,7 @@ performed_online f d =
 
 arrived_online : (w : Work) (d : DriveState) → (arrived_from w d).online ≡ d.online
 arrived_online work.Ready d = refl
-arrived_online (work.Positioning c y) d = refl
-arrived_online (work.Transfer write) d = refl
+arrived_online other d = refl
 
 marked_online : (kind : DriveKind) (v : Moved) (block : ℕ) (d : DriveState) → d.kind ≡ kind → (after_move v block d).online ≡ d.online
 marked_online kind verdict.Clean block d is = refl
@@ -98,10 +87,7 @@ after_online d a target Pack = performed_online function.Pack d
 after_online d a target (Transfer w b k) = transfer_online w (addressed (place_at d.kind b) d)
 after_online d a target Arrive = arrived_online d.work d
 after_online d a target (Sector b v) = stepped_online v a d
-after_online d a target Intr = refl
-after_online d a target (Try b f) = refl
-after_online d a target Attn = refl
-after_online d a target (End answer) = refl
+after_online d a target other = refl
 
 -- ---- locked
 locked_of_either : (b : Bool) (x y : DriveState) (c : Bool) → x.locked ≡ c → y.locked ≡ c → (if b then x else y).locked ≡ c
@@ -110,17 +96,7 @@ locked_of_either false x y c a b = b
 
 effect_locked : (f : Function) (d : DriveState) → (effect f d).locked ≡ d.locked
 effect_locked function.Nop d = refl
-effect_locked function.Seek d = refl
-effect_locked function.Search d = refl
-effect_locked function.Recal d = refl
-effect_locked function.Offset d = refl
-effect_locked function.Centre d = refl
-effect_locked function.Clear d = refl
-effect_locked function.Preset d = refl
-effect_locked function.Pack d = refl
-effect_locked function.Read d = refl
-effect_locked function.Write d = refl
-effect_locked function.WriteHeader d = refl
+effect_locked other d = refl
 
 performed_locked : (f : Function) (d : DriveState) → (performed f d).locked ≡ d.locked
 performed_locked f d =
@@ -129,8 +105,7 @@ performed_locked f d =
 
 arrived_locked : (w : Work) (d : DriveState) → (arrived_from w d).locked ≡ d.locked
 arrived_locked work.Ready d = refl
-arrived_locked (work.Positioning c y) d = refl
-arrived_locked (work.Transfer write) d = refl
+arrived_locked other d = refl
 
 marked_locked : (kind : DriveKind) (v : Moved) (block : ℕ) (d : DriveState) → d.kind ≡ kind → (after_move v block d).locked ≡ d.locked
 marked_locked kind verdict.Clean block d is = refl
@@ -166,10 +141,7 @@ after_locked d a target Pack = performed_locked function.Pack d
 after_locked d a target (Transfer w b k) = transfer_locked w (addressed (place_at d.kind b) d)
 after_locked d a target Arrive = arrived_locked d.work d
 after_locked d a target (Sector b v) = stepped_locked v a d
-after_locked d a target Intr = refl
-after_locked d a target (Try b f) = refl
-after_locked d a target Attn = refl
-after_locked d a target (End answer) = refl
+after_locked d a target other = refl
 
 -- ---- a line of the script
 online_played : (unit : ℕ) (d : DriveState) (input : Input) → (drive_played unit d input).online ≡ online_said unit input d.online
@@ -238,19 +210,7 @@ line_said s unit deed online locked h = record {
 
 told_said : (wish : Wish) (s : Replay) (unit : ℕ) (deed : Deed) (online locked : ℕ → Bool) → Said s online locked → Said (told_after wish s unit deed) online locked
 told_said (Refusal u i why) s unit deed online locked h = record { on = h.on; lock = h.lock }
-told_said NoLine s unit deed online locked h =
-    drained_keeps (λ t. Said t online locked) (replay_told s unit deed (unit_after s unit deed)) (λ event. said_again (line_said s unit deed online locked h))
-told_said (DueLine u) s unit deed online locked h =
-    drained_keeps (λ t. Said t online locked) (replay_told s unit deed (unit_after s unit deed)) (λ event. said_again (line_said s unit deed online locked h))
-told_said (Arrival u) s unit deed online locked h =
-    drained_keeps (λ t. Said t online locked) (replay_told s unit deed (unit_after s unit deed)) (λ event. said_again (line_said s unit deed online locked h))
-told_said (SectorLine u) s unit deed online locked h =
-    drained_keeps (λ t. Said t online locked) (replay_told s unit deed (unit_after s unit deed)) (λ event. said_again (line_said s unit deed online locked h))
-told_said (Interrupt u) s unit deed online locked h =
-    drained_keeps (λ t. Said t online locked) (replay_told s unit deed (unit_after s unit deed)) (λ event. said_again (line_said s unit deed online locked h))
-told_said (Attention u) s unit deed online locked h =
-    drained_keeps (λ t. Said t online locked) (replay_told s unit deed (unit_after s unit deed)) (λ event. said_again (line_said s unit deed online locked h))
-told_said IdleLine s unit deed online locked h =
+told_said other s unit deed online locked h =
     drained_keeps (λ t. Said t online locked) (replay_told s unit deed (unit_after s unit deed)) (λ event. said_again (line_said s unit deed online locked h))
 
 joined_said : (s : Replay) (r : Request) (met : Submission) (online locked : ℕ → Bool) → Said s online locked → Said (submitted s r met) online locked
@@ -269,30 +229,14 @@ joined_said s r Joined online locked h = record {
 input_said : (s : Replay) (input : Input) (online locked : ℕ → Bool) → Said s online locked
     → Said (replay_played s input) (λ x. online_said x input (online x)) (λ x. locked_said x input (locked x))
 input_said s (Submit r) online locked h = joined_said s r (submission s r) online locked h
-input_said s (Turn u y) online locked h = record {
-  on = λ x. online_played x (s.units x).drive (Turn u y) ∙ ap (λ z. online_said x (Turn u y) z) (h.on x);
-  lock = λ x. locked_played x (s.units x).drive (Turn u y) ∙ ap (λ z. locked_said x (Turn u y) z) (h.lock x);
-}
-input_said s (Noise n) online locked h = record {
-  on = λ x. online_played x (s.units x).drive (Noise n) ∙ ap (λ z. online_said x (Noise n) z) (h.on x);
-  lock = λ x. locked_played x (s.units x).drive (Noise n) ∙ ap (λ z. locked_said x (Noise n) z) (h.lock x);
-}
-input_said s (Arm u k n) online locked h = record {
-  on = λ x. online_played x (s.units x).drive (Arm u k n) ∙ ap (λ z. online_said x (Arm u k n) z) (h.on x);
-  lock = λ x. locked_played x (s.units x).drive (Arm u k n) ∙ ap (λ z. locked_said x (Arm u k n) z) (h.lock x);
-}
-input_said s (SetOnline u b) online locked h = record {
-  on = λ x. online_played x (s.units x).drive (SetOnline u b) ∙ ap (λ z. online_said x (SetOnline u b) z) (h.on x);
-  lock = λ x. locked_played x (s.units x).drive (SetOnline u b) ∙ ap (λ z. locked_said x (SetOnline u b) z) (h.lock x);
-}
-input_said s (SetLocked u b) online locked h = record {
-  on = λ x. online_played x (s.units x).drive (SetLocked u b) ∙ ap (λ z. online_said x (SetLocked u b) z) (h.on x);
-  lock = λ x. locked_played x (s.units x).drive (SetLocked u b) ∙ ap (λ z. locked_said x (SetLocked u b) z) (h.lock x);
-}
 input_said s (ArriveAt u) online locked h = h
 input_said s (MoveAt a) online locked h = h
 input_said s (AttendTo a) online locked h = h
 input_said s Drain online locked h = h
+input_said s other online locked h = record {
+  on = λ x. online_played x (s.units x).drive other ∙ ap (λ z. online_said x other z) (h.on x);
+  lock = λ x. locked_played x (s.units x).drive other ∙ ap (λ z. locked_said x other z) (h.lock x);
+}
 
 moments_said : (s : Replay) (ms : List Moment) (online locked : ℕ → Bool) → Said s online locked
     → Said (after_moments s ms) (λ x. online_behind x (online x) ms) (λ x. locked_behind x (locked x) ms)

@@ -21,15 +21,7 @@ there_asks (Some kind) r is = is.some
 
 input_asks : (drives : ℕ → Option DriveKind) (input : Input) → IsInput drives input → AsksSome input
 input_asks drives (Submit r) is = there_asks (drives r.unit) r is
-input_asks drives (ArriveAt u) is = tt
-input_asks drives (MoveAt a) is = tt
-input_asks drives (AttendTo a) is = tt
-input_asks drives Drain is = tt
-input_asks drives (Turn u y) is = tt
-input_asks drives (Noise n) is = tt
-input_asks drives (Arm u k n) is = tt
-input_asks drives (SetOnline u on) is = tt
-input_asks drives (SetLocked u on) is = tt
+input_asks drives other is = tt
 
 with_asks : (drives : ℕ → Option DriveKind) (number : ℕ) (statement : Statement) (inputs : List Numbered) → IsStatement drives statement → AllAsk inputs
     → AllAsk (with_input number statement inputs)

@@ -49,12 +49,9 @@ tried_sort tried = 0
 
 fails_sort : (block : ℕ) (v : Moved) → fails v ≡ true → tried_sort (TriedAt block v) ≡ 3
 unfolding tried_sort
-fails_sort block verdict.Clean is = absurd (no is)
-fails_sort block (verdict.Burst at q) is = absurd (no is)
 fails_sort block verdict.Hard is = refl
 fails_sort block (verdict.Faulted k) is = refl
-fails_sort block verdict.Marked is = absurd (no is)
-fails_sort block verdict.Offline is = absurd (no is)
+fails_sort block other is = absurd (no is)
 
 reached_sort : (t : Tried) → WasReached t → (tried_sort t ≡ 1 → ⊥) × (tried_sort t ≡ 2 → ⊥)
 unfolding tried_sort
@@ -155,9 +152,7 @@ unfolding failed_number
 ended_explained d service (ReadOk bytes) p table lines e = ok_explained d service (ReadOk bytes) p table lines refl tt e
 ended_explained d service WriteOk p table lines e = ok_explained d service WriteOk p table lines refl tt e
 ended_explained d service (Failed cause done) p table lines e = failed_explained d service cause done p table lines e
-ended_explained d service OutsidePartition p table lines e = absurd e
-ended_explained d service EndOfPartition p table lines e = absurd e
-ended_explained d service NoFrames p table lines e = absurd e
+ended_explained d service other p table lines e = absurd e
 
 -- an end in place of a command
 is_end : Deed → Bool
@@ -245,16 +240,12 @@ open_explained u segment lines answer locking o wants out back (inr lock) = reco
 -- which of the two it is, for each stage that wants a command
 step_unlocked : (step : Positioning) (locked : Bool) → needs_unlocked (command_of step) && locked ≡ true → ⊥
 step_unlocked (SearchFor c y) locked is = no is
-step_unlocked Recalibrate locked is = no is
-step_unlocked (SeekTo c) locked is = no is
-step_unlocked (OffsetBy code) locked is = no is
+step_unlocked other locked is = no is
 
 step_is_none : (step : Positioning) → is_end (command_of step) ≡ false
 unfolding is_end
 step_is_none (SearchFor c y) = refl
-step_is_none Recalibrate = refl
-step_is_none (SeekTo c) = refl
-step_is_none (OffsetBy code) = refl
+step_is_none other = refl
 
 line_is_none : (line : Deed) (rest : List Deed) → AreSaid (line ∷ rest) → is_end line ≡ false
 unfolding is_end
@@ -306,19 +297,7 @@ told_explained : (wish : Wish) (s : Replay) (line unit id : ℕ) (answer : Answe
 unfolding answer_of Over
 told_explained (Refusal u i why) s line unit id answer lines may kept f =
     absurd (no (sym kept ∙ ap is_refusal (ap answer_of may.answered) ∙ refused_is why))
-told_explained NoLine s line unit id answer lines may kept f =
-    explained_at (s.units unit).drive (s.units unit).service (s.units unit).stage (s.units unit).progress (s.units unit).table lines answer f.fits may.talk
-told_explained (DueLine u) s line unit id answer lines may kept f =
-    explained_at (s.units unit).drive (s.units unit).service (s.units unit).stage (s.units unit).progress (s.units unit).table lines answer f.fits may.talk
-told_explained (Arrival u) s line unit id answer lines may kept f =
-    explained_at (s.units unit).drive (s.units unit).service (s.units unit).stage (s.units unit).progress (s.units unit).table lines answer f.fits may.talk
-told_explained (SectorLine u) s line unit id answer lines may kept f =
-    explained_at (s.units unit).drive (s.units unit).service (s.units unit).stage (s.units unit).progress (s.units unit).table lines answer f.fits may.talk
-told_explained (Interrupt u) s line unit id answer lines may kept f =
-    explained_at (s.units unit).drive (s.units unit).service (s.units unit).stage (s.units unit).progress (s.units unit).table lines answer f.fits may.talk
-told_explained (Attention u) s line unit id answer lines may kept f =
-    explained_at (s.units unit).drive (s.units unit).service (s.units unit).stage (s.units unit).progress (s.units unit).table lines answer f.fits may.talk
-told_explained IdleLine s line unit id answer lines may kept f =
+told_explained other s line unit id answer lines may kept f =
     explained_at (s.units unit).drive (s.units unit).service (s.units unit).stage (s.units unit).progress (s.units unit).table lines answer f.fits may.talk
 
 cause_sort : Cause → ℕ
@@ -363,19 +342,7 @@ pub told_ends : (wish : Wish) (s : Replay) (line unit id done : ℕ) (lines : Li
     → EndsFailed (hand_of (s.units unit)) Unforwarded done lines
 unfolding answer_of Over
 told_ends (Refusal u i why) s line unit id done lines may f = absurd (no (ap is_refusal (ap answer_of may.answered) ∙ refused_is why))
-told_ends NoLine s line unit id done lines may f =
-    ending_at (s.units unit).drive (s.units unit).service (s.units unit).stage (s.units unit).progress (s.units unit).table lines done f.fits may.talk
-told_ends (DueLine u) s line unit id done lines may f =
-    ending_at (s.units unit).drive (s.units unit).service (s.units unit).stage (s.units unit).progress (s.units unit).table lines done f.fits may.talk
-told_ends (Arrival u) s line unit id done lines may f =
-    ending_at (s.units unit).drive (s.units unit).service (s.units unit).stage (s.units unit).progress (s.units unit).table lines done f.fits may.talk
-told_ends (SectorLine u) s line unit id done lines may f =
-    ending_at (s.units unit).drive (s.units unit).service (s.units unit).stage (s.units unit).progress (s.units unit).table lines done f.fits may.talk
-told_ends (Interrupt u) s line unit id done lines may f =
-    ending_at (s.units unit).drive (s.units unit).service (s.units unit).stage (s.units unit).progress (s.units unit).table lines done f.fits may.talk
-told_ends (Attention u) s line unit id done lines may f =
-    ending_at (s.units unit).drive (s.units unit).service (s.units unit).stage (s.units unit).progress (s.units unit).table lines done f.fits may.talk
-told_ends IdleLine s line unit id done lines may f =
+told_ends other s line unit id done lines may f =
     ending_at (s.units unit).drive (s.units unit).service (s.units unit).stage (s.units unit).progress (s.units unit).table lines done f.fits may.talk
 
 pub are_explained : AreExplained

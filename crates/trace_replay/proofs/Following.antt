@@ -39,25 +39,13 @@ refusal_kept s line unit id deed u i why may rule = tt
 told_kept : (wish : Wish) (s : Replay) (line unit id : ℕ) (deed : Deed) → ToldMay wish s line unit id deed
     → (rule : RuleName) → ToldKeeps rule wish s line unit id deed
 told_kept (Refusal u i why) s line unit id deed may rule = refusal_kept s line unit id deed u i why may rule
-told_kept NoLine s line unit id deed may rule = kept s line unit id deed may rule
-told_kept (DueLine u) s line unit id deed may rule = kept s line unit id deed may rule
-told_kept (Arrival u) s line unit id deed may rule = kept s line unit id deed may rule
-told_kept (SectorLine u) s line unit id deed may rule = kept s line unit id deed may rule
-told_kept (Interrupt u) s line unit id deed may rule = kept s line unit id deed may rule
-told_kept (Attention u) s line unit id deed may rule = kept s line unit id deed may rule
-told_kept IdleLine s line unit id deed may rule = kept s line unit id deed may rule
+told_kept other s line unit id deed may rule = kept s line unit id deed may rule
 
 told_all : (wish : Wish) (s : Replay) (line unit id : ℕ) (deed : Deed) → ((rule : RuleName) → ToldKeeps rule wish s line unit id deed)
     → ToldMay wish s line unit id deed
 told_all (Refusal u i why) s line unit id deed keeps =
     record { number = keeps Number; same_unit = keeps Events; same_id = keeps Service; answered = keeps Conversation }
-told_all NoLine s line unit id deed keeps = all_kept s line unit id deed keeps
-told_all (DueLine u) s line unit id deed keeps = all_kept s line unit id deed keeps
-told_all (Arrival u) s line unit id deed keeps = all_kept s line unit id deed keeps
-told_all (SectorLine u) s line unit id deed keeps = all_kept s line unit id deed keeps
-told_all (Interrupt u) s line unit id deed keeps = all_kept s line unit id deed keeps
-told_all (Attention u) s line unit id deed keeps = all_kept s line unit id deed keeps
-told_all IdleLine s line unit id deed keeps = all_kept s line unit id deed keeps
+told_all other s line unit id deed keeps = all_kept s line unit id deed keeps
 
 input_kept : (s : Replay) (line : ℕ) → InputMay s line → (rule : RuleName) → InputKeeps rule s line
 input_kept s line may Number = may.later

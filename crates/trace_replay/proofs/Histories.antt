@@ -149,20 +149,10 @@ none_more : (n : ℕ) → 0 + n ≡ n
 none_more n = omega arith
 
 same : (deed : Deed) (lines : List Deed) → IsQuiet deed → Same deed lines
-same (Search c y) lines q = record { done = none_more (done_in lines); tried = refl; marks = refl; tries = refl }
-same (Seek c) lines q = record { done = none_more (done_in lines); tried = refl; marks = refl; tries = refl }
-same Recal lines q = record { done = none_more (done_in lines); tried = refl; marks = refl; tries = refl }
-same (Offset o) lines q = record { done = none_more (done_in lines); tried = refl; marks = refl; tries = refl }
-same Centre lines q = record { done = none_more (done_in lines); tried = refl; marks = refl; tries = refl }
-same Clear lines q = record { done = none_more (done_in lines); tried = refl; marks = refl; tries = refl }
-same Pack lines q = record { done = none_more (done_in lines); tried = refl; marks = refl; tries = refl }
-same (Transfer w b k) lines q = record { done = none_more (done_in lines); tried = refl; marks = refl; tries = refl }
-same Arrive lines q = record { done = none_more (done_in lines); tried = refl; marks = refl; tries = refl }
 same (Sector b v) lines q = absurd q
-same Intr lines q = record { done = none_more (done_in lines); tried = refl; marks = refl; tries = refl }
 same (Try b f) lines q = absurd q
-same Attn lines q = record { done = none_more (done_in lines); tried = refl; marks = refl; tries = refl }
 same (End a) lines q = absurd q
+same other lines q = record { done = none_more (done_in lines); tried = refl; marks = refl; tries = refl }
 
 still : (n : ℕ) (deed : Deed) (block : ℕ) (lines : List Deed) → IsQuiet deed → AreFailures false n block lines → AreFailures false n block (deed ∷ lines)
 still zero deed block lines q f = tt
@@ -298,22 +288,12 @@ no e = grind (arith, e)
 
 pub arrive_fits : (h : Hand) (stage : Stage) (lines : List Deed) → is_under_way stage ≡ true → Fits h stage lines → Fits h stage (Arrive ∷ lines)
 arrive_fits h (UnderWay left segment) lines is f = open_quiet Arrive h segment 1 lines tt f
-arrive_fits h Waiting lines is f = absurd (no is)
-arrive_fits h (Steps left segment) lines is f = absurd (no is)
-arrive_fits h (AtOnce segment) lines is f = absurd (no is)
-arrive_fits h (Moving segment left last) lines is f = absurd (no is)
-arrive_fits h (Saying rest next) lines is f = absurd (no is)
-arrive_fits h (Ending answer) lines is f = absurd (no is)
+arrive_fits h other lines is f = absurd (no is)
 
 pub attn_fits : (d : DriveState) (h : Hand) (next : Option Request) (stage : Stage) (lines : List Deed) → is_under_way stage ≡ true → Fits h stage lines
     → Fits h (stage_after stage Attn d h next) (Attn ∷ lines)
 attn_fits d h next (UnderWay left segment) lines is f = open_quiet Attn h segment 1 lines tt f
-attn_fits d h next Waiting lines is f = absurd (no is)
-attn_fits d h next (Steps left segment) lines is f = absurd (no is)
-attn_fits d h next (AtOnce segment) lines is f = absurd (no is)
-attn_fits d h next (Moving segment left last) lines is f = absurd (no is)
-attn_fits d h next (Saying rest then_stage) lines is f = absurd (no is)
-attn_fits d h next (Ending answer) lines is f = absurd (no is)
+attn_fits d h next other lines is f = absurd (no is)
 
 -- ---- sectors
 pub both : (a b : Bool) → a && b ≡ true → (a ≡ true) × (b ≡ true)
@@ -384,10 +364,7 @@ sector_moved h bytes segment n block verdict.Clean lines is o =
 sector_moved h bytes segment n block (verdict.Burst at q) lines is o =
     stopped (record h { progress = record h.progress { struck = bytes } }) segment n block (verdict.Burst at q) lines (is ∙ struck_start h bytes segment)
     (open_struck h bytes segment (suc n) lines o)
-sector_moved h bytes segment n block verdict.Hard lines is o = stopped h segment n block verdict.Hard lines is o
-sector_moved h bytes segment n block (verdict.Faulted k) lines is o = stopped h segment n block (verdict.Faulted k) lines is o
-sector_moved h bytes segment n block verdict.Marked lines is o = stopped h segment n block verdict.Marked lines is o
-sector_moved h bytes segment n block verdict.Offline lines is o = stopped h segment n block verdict.Offline lines is o
+sector_moved h bytes segment n block other lines is o = stopped h segment n block other lines is o
 
 never_of_none : (block start : ℕ) → nat_lt 0 0 && (block == start) ≡ true → ⊥
 never_of_none block start is = no is
@@ -478,28 +455,19 @@ behind_centre block v before lines e =
 
 -- behind a failure
 goes_failed : (h : Hand) (block : ℕ) (v : Moved) (marks : ℕ) → fails v ≡ true → Goes h (TriedAt block v) marks
-goes_failed h block verdict.Clean marks is = tt
-goes_failed h block (verdict.Burst at q) marks is = tt
-goes_failed h block verdict.Hard marks is = tt
-goes_failed h block (verdict.Faulted k) marks is = tt
 goes_failed h block verdict.Marked marks is = absurd (no is)
 goes_failed h block verdict.Offline marks is = absurd (no is)
+goes_failed h block other marks is = tt
 
 failed_moves : (v : Moved) → fails v ≡ true → moved_by v ≡ 0
 failed_moves verdict.Clean is = absurd (no is)
 failed_moves (verdict.Burst at q) is = absurd (no is)
-failed_moves verdict.Hard is = refl
-failed_moves (verdict.Faulted k) is = refl
-failed_moves verdict.Marked is = refl
-failed_moves verdict.Offline is = refl
+failed_moves other is = refl
 
 failed_marks : (v : Moved) (block : ℕ) (before : List Deed) → fails v ≡ true → marks_in (Sector block v ∷ before) ≡ marks_in before
-failed_marks verdict.Clean block before is = absurd (no is)
-failed_marks (verdict.Burst at q) block before is = absurd (no is)
 failed_marks verdict.Hard block before is = refl
 failed_marks (verdict.Faulted k) block before is = refl
-failed_marks verdict.Marked block before is = absurd (no is)
-failed_marks verdict.Offline block before is = absurd (no is)
+failed_marks other block before is = absurd (no is)
 
 -- the hand with one failure more
 abbrev pub once_more : Hand → Hand
@@ -720,9 +688,4 @@ moved_interrupted d h segment left verdict.Offline lines is f =
 pub intr_fits : (d : DriveState) (h : Hand) (next : Option Request) (stage : Stage) (lines : List Deed) → intr_may stage ≡ true → Fits h stage lines
     → Fits (interrupted h (last_of stage)) (stage_after stage Intr d (interrupted h (last_of stage)) next) (Intr ∷ lines)
 intr_fits d h next (Moving segment left last) lines is f = moved_interrupted d h segment left last lines is f
-intr_fits d h next Waiting lines is f = absurd (no is)
-intr_fits d h next (Steps left segment) lines is f = absurd (no is)
-intr_fits d h next (UnderWay left segment) lines is f = absurd (no is)
-intr_fits d h next (AtOnce segment) lines is f = absurd (no is)
-intr_fits d h next (Saying rest then_stage) lines is f = absurd (no is)
-intr_fits d h next (Ending answer) lines is f = absurd (no is)
+intr_fits d h next other lines is f = absurd (no is)

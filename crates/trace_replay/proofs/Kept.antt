@@ -51,17 +51,7 @@ kind_of_either false x y kind a b = b
 
 effect_kind : (f : Function) (d : DriveState) → (effect f d).kind ≡ d.kind
 effect_kind function.Nop d = refl
-effect_kind function.Seek d = refl
-effect_kind function.Search d = refl
-effect_kind function.Recal d = refl
-effect_kind function.Offset d = refl
-effect_kind function.Centre d = refl
-effect_kind function.Clear d = refl
-effect_kind function.Preset d = refl
-effect_kind function.Pack d = refl
-effect_kind function.Read d = refl
-effect_kind function.Write d = refl
-effect_kind function.WriteHeader d = refl
+effect_kind other d = refl
 
 pub performed_kind : (f : Function) (d : DriveState) → (performed f d).kind ≡ d.kind
 performed_kind f d =
@@ -70,8 +60,7 @@ performed_kind f d =
 
 arrived_kind : (w : Work) (d : DriveState) → (arrived_from w d).kind ≡ d.kind
 arrived_kind work.Ready d = refl
-arrived_kind (work.Positioning c y) d = refl
-arrived_kind (work.Transfer write) d = refl
+arrived_kind other d = refl
 
 marked_kind : (kind : DriveKind) (v : Moved) (block : ℕ) (d : DriveState) → d.kind ≡ kind → (after_move v block d).kind ≡ d.kind
 marked_kind kind verdict.Clean block d is = refl
@@ -107,26 +96,18 @@ after_kind d a target Pack = performed_kind function.Pack d
 after_kind d a target (Transfer w b k) = transfer_kind w (addressed (place_at d.kind b) d)
 after_kind d a target Arrive = arrived_kind d.work d
 after_kind d a target (Sector b v) = stepped_kind v a d
-after_kind d a target Intr = refl
-after_kind d a target (Try b f) = refl
-after_kind d a target Attn = refl
-after_kind d a target (End answer) = refl
+after_kind d a target other = refl
 
 online_kind : (on : Bool) (d : DriveState) → (online_set on d).kind ≡ d.kind
 online_kind true d = refl
 online_kind false d = refl
 
 pub played_kind : (unit : ℕ) (d : DriveState) (input : Input) → (drive_played unit d input).kind ≡ d.kind
-played_kind unit d (Submit r) = refl
-played_kind unit d (ArriveAt u) = refl
-played_kind unit d (MoveAt a) = refl
-played_kind unit d (AttendTo a) = refl
-played_kind unit d Drain = refl
 played_kind unit d (Turn u sector) = kind_of_either (unit == u) (turned sector d) d d.kind refl refl
-played_kind unit d (Noise noise) = refl
 played_kind unit d (Arm u k n) = kind_of_either (unit == u) (fault_armed k n d) d d.kind refl refl
 played_kind unit d (SetOnline u on) = kind_of_either (unit == u) (online_set on d) d d.kind (online_kind on d) refl
 played_kind unit d (SetLocked u on) = kind_of_either (unit == u) (locked_set on d) d d.kind refl refl
+played_kind unit d other = refl
 
 -- ---- a unit and the lines of its request
 abbrev pub AskSomeBlocks : List (Waiter Request) → Type 0
@@ -157,21 +138,11 @@ with_drive u d lines is f = record {
 
 not_waiting : (h : Hand) (stage : Stage) (deed : Deed) (lines : List Deed) → Fits h stage (deed ∷ lines) → is_waiting stage ≡ false
 not_waiting h Waiting deed lines f = absurd (grind (arith, f))
-not_waiting h (Steps left segment) deed lines f = refl
-not_waiting h (UnderWay left segment) deed lines f = refl
-not_waiting h (AtOnce segment) deed lines f = refl
-not_waiting h (Moving segment left last) deed lines f = refl
-not_waiting h (Saying rest next) deed lines f = refl
-not_waiting h (Ending answer) deed lines f = refl
+not_waiting h other deed lines f = refl
 
 never_waiting : (h : Hand) (stage : Stage) (deed : Deed) (lines : List Deed) → Fits h stage (deed ∷ lines) → is_waiting stage ≡ true → ⊥
 never_waiting h Waiting deed lines f is = grind (arith, f)
-never_waiting h (Steps left segment) deed lines f is = no is
-never_waiting h (UnderWay left segment) deed lines f is = no is
-never_waiting h (AtOnce segment) deed lines f is = no is
-never_waiting h (Moving segment left last) deed lines f is = no is
-never_waiting h (Saying rest next) deed lines f is = no is
-never_waiting h (Ending answer) deed lines f is = no is
+never_waiting h other deed lines f is = no is
 
 -- a unit's next stage
 abbrev pub UnitTold : UnitSeen → Deed → DriveState → Progress → Service Request → UnitSeen
@@ -202,9 +173,7 @@ EndKept deed = Unit {0}
 
 step_kept : (step : Positioning) → EndKept (command_of step)
 step_kept (SearchFor c y) = tt
-step_kept Recalibrate = tt
-step_kept (SeekTo c) = tt
-step_kept (OffsetBy code) = tt
+step_kept other = tt
 
 line_kept : (line : Deed) (rest : List Deed) → AreSaid (line ∷ rest) → EndKept line
 line_kept Clear rest a = tt
@@ -213,12 +182,10 @@ line_kept (Try b t) rest a = tt
 line_kept line rest a = absurd a
 
 answer_kept : (h : Hand) (answer : Answer) (lines : List Deed) → EndFits h answer lines → is_refusal answer ≡ false
-answer_kept h (ReadOk bytes) lines f = refl
-answer_kept h WriteOk lines f = refl
-answer_kept h (Failed cause done) lines f = refl
 answer_kept h OutsidePartition lines f = absurd f
 answer_kept h EndOfPartition lines f = absurd f
 answer_kept h NoFrames lines f = absurd f
+answer_kept h other lines f = refl
 
 pub end_kept : (d : DriveState) (h : Hand) (stage : Stage) (deed : Deed) (lines : List Deed) → due d h stage ≡ Some deed → Fits h stage lines → EndKept deed
 end_kept d h Waiting deed lines is f = absurd (none-some deed is)
@@ -278,13 +245,6 @@ ended u answer d lines is f = record {
 told : (u : UnitSeen) (deed : Deed) (d : DriveState) (bytes : List ℕ) (lines : List Deed) → d.kind ≡ u.drive.kind → UnitFits u lines → IsHeld u.service.waiting
     → TalkMay u.drive (hand_of u) u.stage deed
     → UnitFits (UnitTold u deed d (progress_after u.stage deed bytes u.progress) (service_after u.service deed)) (with_deed deed lines)
-told u (Search c y) d bytes lines is f held may = goes_with u (Search c y) d u.progress lines is f held (due_fits u.drive d (hand_of u) (head_of u.service) u.stage (Search c y) lines may f.fits)
-told u (Seek c) d bytes lines is f held may = goes_with u (Seek c) d u.progress lines is f held (due_fits u.drive d (hand_of u) (head_of u.service) u.stage (Seek c) lines may f.fits)
-told u Recal d bytes lines is f held may = goes_with u Recal d u.progress lines is f held (due_fits u.drive d (hand_of u) (head_of u.service) u.stage Recal lines may f.fits)
-told u (Offset o) d bytes lines is f held may = goes_with u (Offset o) d u.progress lines is f held (due_fits u.drive d (hand_of u) (head_of u.service) u.stage (Offset o) lines may f.fits)
-told u Centre d bytes lines is f held may = goes_with u Centre d u.progress lines is f held (due_fits u.drive d (hand_of u) (head_of u.service) u.stage Centre lines may f.fits)
-told u Clear d bytes lines is f held may = goes_with u Clear d u.progress lines is f held (due_fits u.drive d (hand_of u) (head_of u.service) u.stage Clear lines may f.fits)
-told u Pack d bytes lines is f held may = goes_with u Pack d u.progress lines is f held (due_fits u.drive d (hand_of u) (head_of u.service) u.stage Pack lines may f.fits)
 told u (Transfer w b k) d bytes lines is f held may =
     goes_with u (Transfer w b k) d u.progress lines is f held (due_fits u.drive d (hand_of u) (head_of u.service) u.stage (Transfer w b k) lines may f.fits)
 told u Arrive d bytes lines is f held may = goes_with u Arrive d u.progress lines is f held (arrive_fits (hand_of u) u.stage lines may f.fits)
@@ -293,11 +253,11 @@ told u (Sector b v) d bytes lines is f held may =
     (sector_fits (hand_of u) bytes u.stage b v d (head_of u.service) lines may f.fits)
 told u Intr d bytes lines is f held may =
     goes_with u Intr d (progress_after u.stage Intr bytes u.progress) lines is f held (intr_fits d (hand_of u) (head_of u.service) u.stage lines may f.fits)
-told u (Try b t) d bytes lines is f held may = goes_with u (Try b t) d u.progress lines is f held (due_fits u.drive d (hand_of u) (head_of u.service) u.stage (Try b t) lines may f.fits)
 told u Attn d bytes lines is f held may = goes_with u Attn d u.progress lines is f held (attn_fits d (hand_of u) (head_of u.service) u.stage lines may f.fits)
 told u (End answer) d bytes lines is f held may =
     subst (λ z. UnitFits (UnitTold u (End answer) d not_begun (after_leave u.service)) (if z then lines else [])) (sym (end_kept u.drive (hand_of u) u.stage (End answer) lines may f.fits))
     (ended u answer d lines is f)
+told u other d bytes lines is f held may = goes_with u other d u.progress lines is f held (due_fits u.drive d (hand_of u) (head_of u.service) u.stage other lines may f.fits)
 
 -- ---- a request joins
 first_stays : (c : Request → ℕ) (r : Request) (t : ℕ) (y : Waiter Request) (ys : List (Waiter Request)) → IsPlaced c y.cylinder y.sweep t y
@@ -321,21 +281,11 @@ held_joined x (y ∷ ys) = at (is_before y x)
 
 is_begun : (stage : Stage) (d : DriveState) (r : Request) → is_waiting (stage_joined stage d r) ≡ false
 is_begun Waiting d r = refl
-is_begun (Steps left segment) d r = refl
-is_begun (UnderWay left segment) d r = refl
-is_begun (AtOnce segment) d r = refl
-is_begun (Moving segment left last) d r = refl
-is_begun (Saying rest next) d r = refl
-is_begun (Ending answer) d r = refl
+is_begun other d r = refl
 
 never_empty : (stage : Stage) (d : DriveState) (r : Request) → is_waiting (stage_joined stage d r) ≡ true → ⊥
 never_empty Waiting d r is = no is
-never_empty (Steps left segment) d r is = no is
-never_empty (UnderWay left segment) d r is = no is
-never_empty (AtOnce segment) d r is = no is
-never_empty (Moving segment left last) d r is = no is
-never_empty (Saying rest next) d r is = no is
-never_empty (Ending answer) d r is = no is
+never_empty other d r is = no is
 
 -- the hand over a queue
 abbrev pub HandOver : DriveKind → Progress → Option Table → List (Waiter Request) → Hand
@@ -425,8 +375,7 @@ line_all s line unit id deed lines may all x =
 
 pub refused_is : (why : Rejection) → is_refusal (rejection_answer why) ≡ true
 refused_is AtEnd = refl
-refused_is Beyond = refl
-refused_is FramesShort = refl
+refused_is other = refl
 
 -- a refusal changes no lines
 refusal_all : (s : Replay) (line unit id : ℕ) (why : Rejection) (lines : ℕ → List Deed) → AllFit s lines
@@ -441,25 +390,7 @@ pub told_all : (wish : Wish) (s : Replay) (line unit id : ℕ) (deed : Deed) (li
     → AllFit (told_after wish s unit deed) (λ x. lines_after x (Told line unit id deed) (lines x))
 told_all (Refusal u i why) s line unit id deed lines may all =
     subst (λ z. AllFit (told_after (Refusal u i why) s unit deed) (λ x. lines_after x (Told line unit id z) (lines x))) (sym may.answered) (refusal_all s line unit id why lines all)
-told_all NoLine s line unit id deed lines may all =
-    drained_keeps (λ t. AllFit t (λ x. lines_after x (Told line unit id deed) (lines x))) (replay_told s unit deed (unit_after s unit deed))
-    (λ event. line_all s line unit id deed lines may all)
-told_all (DueLine u) s line unit id deed lines may all =
-    drained_keeps (λ t. AllFit t (λ x. lines_after x (Told line unit id deed) (lines x))) (replay_told s unit deed (unit_after s unit deed))
-    (λ event. line_all s line unit id deed lines may all)
-told_all (Arrival u) s line unit id deed lines may all =
-    drained_keeps (λ t. AllFit t (λ x. lines_after x (Told line unit id deed) (lines x))) (replay_told s unit deed (unit_after s unit deed))
-    (λ event. line_all s line unit id deed lines may all)
-told_all (SectorLine u) s line unit id deed lines may all =
-    drained_keeps (λ t. AllFit t (λ x. lines_after x (Told line unit id deed) (lines x))) (replay_told s unit deed (unit_after s unit deed))
-    (λ event. line_all s line unit id deed lines may all)
-told_all (Interrupt u) s line unit id deed lines may all =
-    drained_keeps (λ t. AllFit t (λ x. lines_after x (Told line unit id deed) (lines x))) (replay_told s unit deed (unit_after s unit deed))
-    (λ event. line_all s line unit id deed lines may all)
-told_all (Attention u) s line unit id deed lines may all =
-    drained_keeps (λ t. AllFit t (λ x. lines_after x (Told line unit id deed) (lines x))) (replay_told s unit deed (unit_after s unit deed))
-    (λ event. line_all s line unit id deed lines may all)
-told_all IdleLine s line unit id deed lines may all =
+told_all other s line unit id deed lines may all =
     drained_keeps (λ t. AllFit t (λ x. lines_after x (Told line unit id deed) (lines x))) (replay_told s unit deed (unit_after s unit deed))
     (λ event. line_all s line unit id deed lines may all)
 
@@ -472,14 +403,12 @@ played_all s (Submit r) lines some all = submitted_all s r (submission s r) line
 played_all s (Turn u y) lines some all = λ x. with_drive (s.units x) (drive_played x (s.units x).drive (Turn u y)) (lines x) (played_kind x (s.units x).drive (Turn u y)) (all x)
 played_all s (Noise n) lines some all = λ x. with_drive (s.units x) (drive_played x (s.units x).drive (Noise n)) (lines x) (played_kind x (s.units x).drive (Noise n)) (all x)
 played_all s (Arm u k n) lines some all = λ x. with_drive (s.units x) (drive_played x (s.units x).drive (Arm u k n)) (lines x) (played_kind x (s.units x).drive (Arm u k n)) (all x)
-played_all s (SetOnline u b) lines some all =
-    λ x. with_drive (s.units x) (drive_played x (s.units x).drive (SetOnline u b)) (lines x) (played_kind x (s.units x).drive (SetOnline u b)) (all x)
-played_all s (SetLocked u b) lines some all =
-    λ x. with_drive (s.units x) (drive_played x (s.units x).drive (SetLocked u b)) (lines x) (played_kind x (s.units x).drive (SetLocked u b)) (all x)
 played_all s (ArriveAt u) lines some all = all
 played_all s (MoveAt a) lines some all = all
 played_all s (AttendTo a) lines some all = all
 played_all s Drain lines some all = all
+played_all s other lines some all =
+    λ x. with_drive (s.units x) (drive_played x (s.units x).drive other) (lines x) (played_kind x (s.units x).drive other) (all x)
 
 pub moments_all : (s : Replay) (ms : List Moment) (lines : ℕ → List Deed) → AskSome ms → Follows s ms → AllFit s lines
     → AllFit (after_moments s ms) (λ x. lines_behind x (lines x) ms)

@@ -60,126 +60,55 @@ verdict_once None false false places v w a b = read_once places v w a b
 
 -- ---- the sort of a deed
 sort : Deed → ℕ
-sort (Search c y) = 4
-sort (Seek c) = 4
-sort Recal = 4
-sort (Offset o) = 4
-sort Centre = 4
-sort Clear = 4
-sort Pack = 4
-sort (Transfer w b k) = 4
 sort Arrive = 0
 sort (Sector b v) = 1
 sort Intr = 2
-sort (Try b f) = 4
 sort Attn = 3
-sort (End a) = 4
+sort other = 4
 
 unit_in : Wish → ℕ
-unit_in NoLine = 0
 unit_in (DueLine unit) = unit
 unit_in (Arrival unit) = unit
 unit_in (SectorLine unit) = unit
 unit_in (Interrupt unit) = unit
 unit_in (Attention unit) = unit
 unit_in (Refusal unit id why) = unit
-unit_in IdleLine = 0
+unit_in other = 0
 
 sort_in : Wish → ℕ
-sort_in NoLine = 5
 sort_in (DueLine unit) = 4
 sort_in (Arrival unit) = 0
 sort_in (SectorLine unit) = 1
 sort_in (Interrupt unit) = 2
 sort_in (Attention unit) = 3
-sort_in (Refusal unit id why) = 5
 sort_in IdleLine = 6
+sort_in other = 5
 
 unit_of_wish : (unit : ℕ) (deed : Deed) → unit_in (wish_of unit deed) ≡ unit
 unfolding unit_in
 unit_of_wish unit (Search c y) = refl
-unit_of_wish unit (Seek c) = refl
-unit_of_wish unit Recal = refl
-unit_of_wish unit (Offset o) = refl
-unit_of_wish unit Centre = refl
-unit_of_wish unit Clear = refl
-unit_of_wish unit Pack = refl
-unit_of_wish unit (Transfer w b k) = refl
-unit_of_wish unit Arrive = refl
-unit_of_wish unit (Sector b v) = refl
-unit_of_wish unit Intr = refl
-unit_of_wish unit (Try b f) = refl
-unit_of_wish unit Attn = refl
-unit_of_wish unit (End a) = refl
+unit_of_wish unit other = refl
 
 sort_of_wish : (unit : ℕ) (deed : Deed) → sort_in (wish_of unit deed) ≡ sort deed
 unfolding sort_in sort
 sort_of_wish unit (Search c y) = refl
-sort_of_wish unit (Seek c) = refl
-sort_of_wish unit Recal = refl
-sort_of_wish unit (Offset o) = refl
-sort_of_wish unit Centre = refl
-sort_of_wish unit Clear = refl
-sort_of_wish unit Pack = refl
-sort_of_wish unit (Transfer w b k) = refl
-sort_of_wish unit Arrive = refl
-sort_of_wish unit (Sector b v) = refl
-sort_of_wish unit Intr = refl
-sort_of_wish unit (Try b f) = refl
-sort_of_wish unit Attn = refl
-sort_of_wish unit (End a) = refl
+sort_of_wish unit other = refl
 
 -- ---- the deed of a sort
 arrival_only : (deed : Deed) → sort deed ≡ 0 → deed ≡ Arrive
 unfolding sort
-arrival_only (Search c y) h = absurd (omega (arith, h))
-arrival_only (Seek c) h = absurd (omega (arith, h))
-arrival_only Recal h = absurd (omega (arith, h))
-arrival_only (Offset o) h = absurd (omega (arith, h))
-arrival_only Centre h = absurd (omega (arith, h))
-arrival_only Clear h = absurd (omega (arith, h))
-arrival_only Pack h = absurd (omega (arith, h))
-arrival_only (Transfer w b k) h = absurd (omega (arith, h))
 arrival_only Arrive h = refl
-arrival_only (Sector b v) h = absurd (omega (arith, h))
-arrival_only Intr h = absurd (omega (arith, h))
-arrival_only (Try b f) h = absurd (omega (arith, h))
-arrival_only Attn h = absurd (omega (arith, h))
-arrival_only (End a) h = absurd (omega (arith, h))
+arrival_only other h = absurd (omega (arith, h))
 
 interrupt_only : (deed : Deed) → sort deed ≡ 2 → deed ≡ Intr
 unfolding sort
-interrupt_only (Search c y) h = absurd (omega (arith, h))
-interrupt_only (Seek c) h = absurd (omega (arith, h))
-interrupt_only Recal h = absurd (omega (arith, h))
-interrupt_only (Offset o) h = absurd (omega (arith, h))
-interrupt_only Centre h = absurd (omega (arith, h))
-interrupt_only Clear h = absurd (omega (arith, h))
-interrupt_only Pack h = absurd (omega (arith, h))
-interrupt_only (Transfer w b k) h = absurd (omega (arith, h))
-interrupt_only Arrive h = absurd (omega (arith, h))
-interrupt_only (Sector b v) h = absurd (omega (arith, h))
 interrupt_only Intr h = refl
-interrupt_only (Try b f) h = absurd (omega (arith, h))
-interrupt_only Attn h = absurd (omega (arith, h))
-interrupt_only (End a) h = absurd (omega (arith, h))
+interrupt_only other h = absurd (omega (arith, h))
 
 attention_only : (deed : Deed) → sort deed ≡ 3 → deed ≡ Attn
 unfolding sort
-attention_only (Search c y) h = absurd (omega (arith, h))
-attention_only (Seek c) h = absurd (omega (arith, h))
-attention_only Recal h = absurd (omega (arith, h))
-attention_only (Offset o) h = absurd (omega (arith, h))
-attention_only Centre h = absurd (omega (arith, h))
-attention_only Clear h = absurd (omega (arith, h))
-attention_only Pack h = absurd (omega (arith, h))
-attention_only (Transfer w b k) h = absurd (omega (arith, h))
-attention_only Arrive h = absurd (omega (arith, h))
-attention_only (Sector b v) h = absurd (omega (arith, h))
-attention_only Intr h = absurd (omega (arith, h))
-attention_only (Try b f) h = absurd (omega (arith, h))
 attention_only Attn h = refl
-attention_only (End a) h = absurd (omega (arith, h))
+attention_only other h = absurd (omega (arith, h))
 
 record IsSector (deed : Deed) : Type 0 where
   block : ℕ
@@ -188,37 +117,16 @@ record IsSector (deed : Deed) : Type 0 where
 
 sector_only : (deed : Deed) → sort deed ≡ 1 → IsSector deed
 unfolding sort
-sector_only (Search c y) h = absurd (omega (arith, h))
-sector_only (Seek c) h = absurd (omega (arith, h))
-sector_only Recal h = absurd (omega (arith, h))
-sector_only (Offset o) h = absurd (omega (arith, h))
-sector_only Centre h = absurd (omega (arith, h))
-sector_only Clear h = absurd (omega (arith, h))
-sector_only Pack h = absurd (omega (arith, h))
-sector_only (Transfer w b k) h = absurd (omega (arith, h))
-sector_only Arrive h = absurd (omega (arith, h))
 sector_only (Sector b v) h = record { block = b; verdict = v; is = refl }
-sector_only Intr h = absurd (omega (arith, h))
-sector_only (Try b f) h = absurd (omega (arith, h))
-sector_only Attn h = absurd (omega (arith, h))
-sector_only (End a) h = absurd (omega (arith, h))
+sector_only other h = absurd (omega (arith, h))
 
 due_of : (d : DriveState) (h : Hand) (stage : Stage) (deed : Deed) → sort deed ≡ 4 → TalkMay d h stage deed → due d h stage ≡ Some deed
 unfolding sort
-due_of d h stage (Search c y) four may = may
-due_of d h stage (Seek c) four may = may
-due_of d h stage Recal four may = may
-due_of d h stage (Offset o) four may = may
-due_of d h stage Centre four may = may
-due_of d h stage Clear four may = may
-due_of d h stage Pack four may = may
-due_of d h stage (Transfer w b k) four may = may
 due_of d h stage Arrive four may = absurd (omega (arith, four))
 due_of d h stage (Sector b v) four may = absurd (omega (arith, four))
 due_of d h stage Intr four may = absurd (omega (arith, four))
-due_of d h stage (Try b f) four may = may
 due_of d h stage Attn four may = absurd (omega (arith, four))
-due_of d h stage (End a) four may = may
+due_of d h stage other four may = may
 
 both_due : (d : DriveState) (h : Hand) (stage : Stage) (deed other : Deed) → sort deed ≡ 4 → sort other ≡ 4
     → TalkMay d h stage deed → TalkMay d h stage other → deed ≡ other
@@ -248,20 +156,11 @@ same_sector d h stage a s unit b v other may may' sector = ap₂ Sector blocks v
 same_deed : (d : DriveState) (h : Hand) (stage : Stage) (a : AdapterState) (s : Surface) (unit : ℕ) (deed other : Deed)
     → sort deed ≡ sort other → DeedMay d h stage a s unit deed → DeedMay d h stage a s unit other → deed ≡ other
 unfolding sort
-same_deed d h stage a s unit (Search c y) other same may may' = both_due d h stage (Search c y) other refl (sym same) may.talk may'.talk
-same_deed d h stage a s unit (Seek c) other same may may' = both_due d h stage (Seek c) other refl (sym same) may.talk may'.talk
-same_deed d h stage a s unit Recal other same may may' = both_due d h stage Recal other refl (sym same) may.talk may'.talk
-same_deed d h stage a s unit (Offset o) other same may may' = both_due d h stage (Offset o) other refl (sym same) may.talk may'.talk
-same_deed d h stage a s unit Centre other same may may' = both_due d h stage Centre other refl (sym same) may.talk may'.talk
-same_deed d h stage a s unit Clear other same may may' = both_due d h stage Clear other refl (sym same) may.talk may'.talk
-same_deed d h stage a s unit Pack other same may may' = both_due d h stage Pack other refl (sym same) may.talk may'.talk
-same_deed d h stage a s unit (Transfer w b k) other same may may' = both_due d h stage (Transfer w b k) other refl (sym same) may.talk may'.talk
 same_deed d h stage a s unit Arrive other same may may' = sym (arrival_only other (sym same))
 same_deed d h stage a s unit (Sector b v) other same may may' = same_sector d h stage a s unit b v other may may' (sector_only other (sym same))
 same_deed d h stage a s unit Intr other same may may' = sym (interrupt_only other (sym same))
-same_deed d h stage a s unit (Try b f) other same may may' = both_due d h stage (Try b f) other refl (sym same) may.talk may'.talk
 same_deed d h stage a s unit Attn other same may may' = sym (attention_only other (sym same))
-same_deed d h stage a s unit (End answer) other same may may' = both_due d h stage (End answer) other refl (sym same) may.talk may'.talk
+same_deed d h stage a s unit it other same may may' = both_due d h stage it other refl (sym same) may.talk may'.talk
 
 -- ---- two lines of units
 line_once : (s : Replay) (line unit id line' unit' id' : ℕ) (deed deed' : Deed)
@@ -300,14 +199,8 @@ refusal_once s line unit id line' unit' id' u i why deed deed' may may' =
 
 told_once : (wish : Wish) (s : Replay) (line unit id line' unit' id' : ℕ) (deed deed' : Deed)
     → ToldMay wish s line unit id deed → ToldMay wish s line' unit' id' deed' → Told line unit id deed ≡ Told line' unit' id' deed'
-told_once NoLine s line unit id line' unit' id' deed deed' may may' = line_once s line unit id line' unit' id' deed deed' may may'
-told_once (DueLine u) s line unit id line' unit' id' deed deed' may may' = line_once s line unit id line' unit' id' deed deed' may may'
-told_once (Arrival u) s line unit id line' unit' id' deed deed' may may' = line_once s line unit id line' unit' id' deed deed' may may'
-told_once (SectorLine u) s line unit id line' unit' id' deed deed' may may' = line_once s line unit id line' unit' id' deed deed' may may'
-told_once (Interrupt u) s line unit id line' unit' id' deed deed' may may' = line_once s line unit id line' unit' id' deed deed' may may'
-told_once (Attention u) s line unit id line' unit' id' deed deed' may may' = line_once s line unit id line' unit' id' deed deed' may may'
-told_once IdleLine s line unit id line' unit' id' deed deed' may may' = line_once s line unit id line' unit' id' deed deed' may may'
 told_once (Refusal u i why) s line unit id line' unit' id' deed deed' may may' = refusal_once s line unit id line' unit' id' u i why deed deed' may may'
+told_once other s line unit id line' unit' id' deed deed' may may' = line_once s line unit id line' unit' id' deed deed' may may'
 
 -- ---- a line of a unit, an idle line and a line of the script never come at once
 unfoldable pub is_told : Wish → ℕ
@@ -323,30 +216,12 @@ is_told IdleLine = 2
 told_is : (unit : ℕ) (deed : Deed) → is_told (wish_of unit deed) ≡ 1
 unfolding is_told
 told_is unit (Search c y) = refl
-told_is unit (Seek c) = refl
-told_is unit Recal = refl
-told_is unit (Offset o) = refl
-told_is unit Centre = refl
-told_is unit Clear = refl
-told_is unit Pack = refl
-told_is unit (Transfer w b k) = refl
-told_is unit Arrive = refl
-told_is unit (Sector b v) = refl
-told_is unit Intr = refl
-told_is unit (Try b f) = refl
-told_is unit Attn = refl
-told_is unit (End a) = refl
+told_is unit other = refl
 
 told_wish : (wish : Wish) (s : Replay) (line unit id : ℕ) (deed : Deed) → next_wish s ≡ wish → ToldMay wish s line unit id deed → is_told wish ≡ 1
 unfolding is_told
-told_wish NoLine s line unit id deed is may = ap is_told (sym is ∙ may.wished) ∙ told_is unit deed
-told_wish (DueLine u) s line unit id deed is may = ap is_told (sym is ∙ may.wished) ∙ told_is unit deed
-told_wish (Arrival u) s line unit id deed is may = ap is_told (sym is ∙ may.wished) ∙ told_is unit deed
-told_wish (SectorLine u) s line unit id deed is may = ap is_told (sym is ∙ may.wished) ∙ told_is unit deed
-told_wish (Interrupt u) s line unit id deed is may = ap is_told (sym is ∙ may.wished) ∙ told_is unit deed
-told_wish (Attention u) s line unit id deed is may = ap is_told (sym is ∙ may.wished) ∙ told_is unit deed
-told_wish IdleLine s line unit id deed is may = ap is_told (sym is ∙ may.wished) ∙ told_is unit deed
 told_wish (Refusal u i why) s line unit id deed is may = refl
+told_wish other s line unit id deed is may = ap is_told (sym is ∙ may.wished) ∙ told_is unit deed
 
 pub told_now : (s : Replay) (line unit id : ℕ) (deed : Deed) → MayCome s (Told line unit id deed) → is_told (next_wish s) ≡ 1
 told_now s line unit id deed may = told_wish (next_wish s) s line unit id deed refl may

@@ -36,8 +36,7 @@ agree (Idle line) n ms ns same = tt
 
 tails : (m : Moment) (ms ns : List Moment) → played (m ∷ ms) ≡ played (m ∷ ns) → played ms ≡ played ns
 tails (Played line input) ms ns same = ap (λ xs. drop 1 xs) same
-tails (Told line unit id deed) ms ns same = same
-tails (Idle line) ms ns same = same
+tails other ms ns same = same
 
 same_moments : (s : Replay) (ms ns : List Moment) → Follows s ms → Follows s ns → IsOver (after_moments s ms) → IsOver (after_moments s ns)
     → played ms ≡ played ns → ms ≡ ns

@@ -147,21 +147,12 @@ due_smooth d d' h next (Ending answer) deed lines is f b = subst (AfterSmooth d'
 arrive_smooth : (h : Hand) (stage : Stage) (lines : List Deed) → is_under_way stage ≡ true → (AreClean lines → Smooth h stage lines) → AreClean (Arrive ∷ lines) → Smooth h stage (Arrive ∷ lines)
 arrive_smooth h (UnderWay left segment) lines is b clean = early_more Arrive segment left lines (refl, refl) (b clean.1)
 arrive_smooth h Waiting lines is b clean = tt
-arrive_smooth h (Steps left segment) lines is b clean = absurd (no is)
-arrive_smooth h (AtOnce segment) lines is b clean = absurd (no is)
-arrive_smooth h (Moving segment left last) lines is b clean = absurd (no is)
-arrive_smooth h (Saying rest next) lines is b clean = absurd (no is)
-arrive_smooth h (Ending answer) lines is b clean = absurd (no is)
+arrive_smooth h other lines is b clean = absurd (no is)
 
 attn_smooth : (d : DriveState) (h : Hand) (next : Option Request) (stage : Stage) (lines : List Deed) → is_under_way stage ≡ true → (AreClean lines → Smooth h stage lines)
     → AreClean (Attn ∷ lines) → Smooth h (stage_after stage Attn d h next) (Attn ∷ lines)
 attn_smooth d h next (UnderWay left segment) lines is b clean = early_more Attn segment left lines (refl, refl) (b clean.1)
-attn_smooth d h next Waiting lines is b clean = absurd (no is)
-attn_smooth d h next (Steps left segment) lines is b clean = absurd (no is)
-attn_smooth d h next (AtOnce segment) lines is b clean = absurd (no is)
-attn_smooth d h next (Moving segment left last) lines is b clean = absurd (no is)
-attn_smooth d h next (Saying rest then_stage) lines is b clean = absurd (no is)
-attn_smooth d h next (Ending answer) lines is b clean = absurd (no is)
+attn_smooth d h next other lines is b clean = absurd (no is)
 
 clean_moved : (h : Hand) (bytes : List ℕ) (segment : Segment) (n block : ℕ) (lines : List Deed) → MovesOnce h segment (suc n) lines
     → MovesOnce (record h { progress = progress_tried verdict.Clean bytes h.progress }) segment (suc n - 1) (Sector block verdict.Clean ∷ lines)
@@ -227,12 +218,7 @@ intr_smooth d h segment left verdict.Offline lines is f b clean = absurd (unclea
 pub intr_stage : (d : DriveState) (h : Hand) (next : Option Request) (stage : Stage) (lines : List Deed) → intr_may stage ≡ true → Fits h stage lines
     → (AreClean lines → Smooth h stage lines) → AreClean (Intr ∷ lines) → Smooth (interrupted h (last_of stage)) (stage_after stage Intr d (interrupted h (last_of stage)) next) (Intr ∷ lines)
 intr_stage d h next (Moving segment left last) lines is f b clean = intr_smooth d h segment left last lines is f b clean
-intr_stage d h next Waiting lines is f b clean = absurd (no is)
-intr_stage d h next (Steps left segment) lines is f b clean = absurd (no is)
-intr_stage d h next (UnderWay left segment) lines is f b clean = absurd (no is)
-intr_stage d h next (AtOnce segment) lines is f b clean = absurd (no is)
-intr_stage d h next (Saying rest then_stage) lines is f b clean = absurd (no is)
-intr_stage d h next (Ending answer) lines is f b clean = absurd (no is)
+intr_stage d h next other lines is f b clean = absurd (no is)
 
 -- ---- a unit
 abbrev pub UnitSmooth : UnitSeen → List Deed → Type 0
@@ -256,15 +242,6 @@ begun_smooth kind d p table (w ∷ rest) = record { own = tt; none = refl; few =
 told_smooth : (u : UnitSeen) (deed : Deed) (d : DriveState) (bytes : List ℕ) (lines : List Deed) → d.kind ≡ u.drive.kind → UnitFits u lines → UnitSmooth u lines
     → TalkMay u.drive (hand_of u) u.stage deed
     → UnitSmooth (UnitTold u deed d (progress_after u.stage deed bytes u.progress) (service_after u.service deed)) (with_deed deed lines)
-told_smooth u (Search c y) d bytes lines is f b may = smooth_with u (Search c y) d u.progress lines is (due_smooth u.drive d (hand_of u) (head_of u.service) u.stage (Search c y) lines may f.fits b)
-told_smooth u (Seek c) d bytes lines is f b may = smooth_with u (Seek c) d u.progress lines is (due_smooth u.drive d (hand_of u) (head_of u.service) u.stage (Seek c) lines may f.fits b)
-told_smooth u Recal d bytes lines is f b may = smooth_with u Recal d u.progress lines is (due_smooth u.drive d (hand_of u) (head_of u.service) u.stage Recal lines may f.fits b)
-told_smooth u (Offset o) d bytes lines is f b may = smooth_with u (Offset o) d u.progress lines is (due_smooth u.drive d (hand_of u) (head_of u.service) u.stage (Offset o) lines may f.fits b)
-told_smooth u Centre d bytes lines is f b may = smooth_with u Centre d u.progress lines is (due_smooth u.drive d (hand_of u) (head_of u.service) u.stage Centre lines may f.fits b)
-told_smooth u Clear d bytes lines is f b may = smooth_with u Clear d u.progress lines is (due_smooth u.drive d (hand_of u) (head_of u.service) u.stage Clear lines may f.fits b)
-told_smooth u Pack d bytes lines is f b may = smooth_with u Pack d u.progress lines is (due_smooth u.drive d (hand_of u) (head_of u.service) u.stage Pack lines may f.fits b)
-told_smooth u (Transfer w k n) d bytes lines is f b may = smooth_with u (Transfer w k n) d u.progress lines is (due_smooth u.drive d (hand_of u) (head_of u.service) u.stage (Transfer w k n) lines may f.fits b)
-told_smooth u (Try k t) d bytes lines is f b may = smooth_with u (Try k t) d u.progress lines is (due_smooth u.drive d (hand_of u) (head_of u.service) u.stage (Try k t) lines may f.fits b)
 told_smooth u Arrive d bytes lines is f b may = smooth_with u Arrive d u.progress lines is (arrive_smooth (hand_of u) u.stage lines may b)
 told_smooth u (Sector k v) d bytes lines is f b may =
     smooth_with u (Sector k v) d (progress_after u.stage (Sector k v) bytes u.progress) lines is (sector_smooth (hand_of u) bytes u.stage k v d (head_of u.service) lines may b)
@@ -274,6 +251,7 @@ told_smooth u Attn d bytes lines is f b may = smooth_with u Attn d u.progress li
 told_smooth u (End answer) d bytes lines is f b may =
     subst (λ z. UnitSmooth (UnitTold u (End answer) d not_begun (after_leave u.service)) (if z then lines else [])) (sym (end_kept u.drive (hand_of u) u.stage (End answer) lines may f.fits))
     (λ clean. begun_smooth d.kind d not_begun u.table (drop 1 u.service.waiting))
+told_smooth u other d bytes lines is f b may = smooth_with u other d u.progress lines is (due_smooth u.drive d (hand_of u) (head_of u.service) u.stage other lines may f.fits b)
 
 joined_at : (stage : Stage) (d : DriveState) (service : Service Request) (p : Progress) (table : Option Table) (r : Request) (lines : List Deed)
     → UnitFits (record { drive = d; service = service; stage = stage; progress = p; table = table }) lines
@@ -283,23 +261,8 @@ joined_at Waiting d service p table r lines f b clean =
     subst (λ z. Smooth (HandOver d.kind p table (put (newcomer (cylinder_of d.kind) r service.joined z) z)) (begun d (Some r)) lines) (sym (f.empty refl))
     (subst (λ z. Smooth (HandOver d.kind p table (newcomer (cylinder_of d.kind) r service.joined [] ∷ [])) (begun d (Some r)) z) (sym f.fits)
     (begun_smooth d.kind d p table (newcomer (cylinder_of d.kind) r service.joined [] ∷ [])))
-joined_at (Steps left segment) d service p table r lines f b clean =
-    subst (λ z. Smooth (record { kind = d.kind; request = request_or_none z; progress = p; table = table }) (Steps left segment) lines)
-    (sym (head_stays (cylinder_of d.kind) r service.joined service.waiting f.order (f.held refl))) (b clean)
-joined_at (UnderWay left segment) d service p table r lines f b clean =
-    subst (λ z. Smooth (record { kind = d.kind; request = request_or_none z; progress = p; table = table }) (UnderWay left segment) lines)
-    (sym (head_stays (cylinder_of d.kind) r service.joined service.waiting f.order (f.held refl))) (b clean)
-joined_at (AtOnce segment) d service p table r lines f b clean =
-    subst (λ z. Smooth (record { kind = d.kind; request = request_or_none z; progress = p; table = table }) (AtOnce segment) lines)
-    (sym (head_stays (cylinder_of d.kind) r service.joined service.waiting f.order (f.held refl))) (b clean)
-joined_at (Moving segment left last) d service p table r lines f b clean =
-    subst (λ z. Smooth (record { kind = d.kind; request = request_or_none z; progress = p; table = table }) (Moving segment left last) lines)
-    (sym (head_stays (cylinder_of d.kind) r service.joined service.waiting f.order (f.held refl))) (b clean)
-joined_at (Saying rest next) d service p table r lines f b clean =
-    subst (λ z. Smooth (record { kind = d.kind; request = request_or_none z; progress = p; table = table }) (Saying rest next) lines)
-    (sym (head_stays (cylinder_of d.kind) r service.joined service.waiting f.order (f.held refl))) (b clean)
-joined_at (Ending answer) d service p table r lines f b clean =
-    subst (λ z. Smooth (record { kind = d.kind; request = request_or_none z; progress = p; table = table }) (Ending answer) lines)
+joined_at other d service p table r lines f b clean =
+    subst (λ z. Smooth (record { kind = d.kind; request = request_or_none z; progress = p; table = table }) other lines)
     (sym (head_stays (cylinder_of d.kind) r service.joined service.waiting f.order (f.held refl))) (b clean)
 
 joined_smooth : (u : UnitSeen) (r : Request) (lines : List Deed) → UnitFits u lines → UnitSmooth u lines → UnitSmooth (unit_joined u r) lines
@@ -331,25 +294,7 @@ told_smooths : (wish : Wish) (s : Replay) (line unit id : ℕ) (deed : Deed) (li
     → AllSmooth (told_after wish s unit deed) (λ x. lines_after x (Told line unit id deed) (lines x))
 told_smooths (Refusal u i why) s line unit id deed lines may all smooth =
     subst (λ z. AllSmooth (told_after (Refusal u i why) s unit deed) (λ x. lines_after x (Told line unit id z) (lines x))) (sym may.answered) (refusal_smooth s line unit id why lines smooth)
-told_smooths NoLine s line unit id deed lines may all smooth =
-    drained_keeps (λ t. AllSmooth t (λ x. lines_after x (Told line unit id deed) (lines x))) (replay_told s unit deed (unit_after s unit deed))
-    (λ event. line_smooths s line unit id deed lines may all smooth)
-told_smooths (DueLine u) s line unit id deed lines may all smooth =
-    drained_keeps (λ t. AllSmooth t (λ x. lines_after x (Told line unit id deed) (lines x))) (replay_told s unit deed (unit_after s unit deed))
-    (λ event. line_smooths s line unit id deed lines may all smooth)
-told_smooths (Arrival u) s line unit id deed lines may all smooth =
-    drained_keeps (λ t. AllSmooth t (λ x. lines_after x (Told line unit id deed) (lines x))) (replay_told s unit deed (unit_after s unit deed))
-    (λ event. line_smooths s line unit id deed lines may all smooth)
-told_smooths (SectorLine u) s line unit id deed lines may all smooth =
-    drained_keeps (λ t. AllSmooth t (λ x. lines_after x (Told line unit id deed) (lines x))) (replay_told s unit deed (unit_after s unit deed))
-    (λ event. line_smooths s line unit id deed lines may all smooth)
-told_smooths (Interrupt u) s line unit id deed lines may all smooth =
-    drained_keeps (λ t. AllSmooth t (λ x. lines_after x (Told line unit id deed) (lines x))) (replay_told s unit deed (unit_after s unit deed))
-    (λ event. line_smooths s line unit id deed lines may all smooth)
-told_smooths (Attention u) s line unit id deed lines may all smooth =
-    drained_keeps (λ t. AllSmooth t (λ x. lines_after x (Told line unit id deed) (lines x))) (replay_told s unit deed (unit_after s unit deed))
-    (λ event. line_smooths s line unit id deed lines may all smooth)
-told_smooths IdleLine s line unit id deed lines may all smooth =
+told_smooths other s line unit id deed lines may all smooth =
     drained_keeps (λ t. AllSmooth t (λ x. lines_after x (Told line unit id deed) (lines x))) (replay_told s unit deed (unit_after s unit deed))
     (λ event. line_smooths s line unit id deed lines may all smooth)
 
@@ -365,15 +310,11 @@ other_drive u d lines is b = λ clean. subst (λ k. Smooth (record (hand_of u) {
 
 played_smooth : (s : Replay) (input : Input) (lines : ℕ → List Deed) → AllFit s lines → AllSmooth s lines → AllSmooth (replay_played s input) lines
 played_smooth s (Submit r) lines all smooth = submitted_smooth s r (submission s r) lines all smooth
-played_smooth s (Turn u y) lines all smooth = λ x. other_drive (s.units x) (drive_played x (s.units x).drive (Turn u y)) (lines x) (played_kind x (s.units x).drive (Turn u y)) (smooth x)
-played_smooth s (Noise n) lines all smooth = λ x. other_drive (s.units x) (drive_played x (s.units x).drive (Noise n)) (lines x) (played_kind x (s.units x).drive (Noise n)) (smooth x)
-played_smooth s (Arm u k n) lines all smooth = λ x. other_drive (s.units x) (drive_played x (s.units x).drive (Arm u k n)) (lines x) (played_kind x (s.units x).drive (Arm u k n)) (smooth x)
-played_smooth s (SetOnline u b) lines all smooth = λ x. other_drive (s.units x) (drive_played x (s.units x).drive (SetOnline u b)) (lines x) (played_kind x (s.units x).drive (SetOnline u b)) (smooth x)
-played_smooth s (SetLocked u b) lines all smooth = λ x. other_drive (s.units x) (drive_played x (s.units x).drive (SetLocked u b)) (lines x) (played_kind x (s.units x).drive (SetLocked u b)) (smooth x)
 played_smooth s (ArriveAt u) lines all smooth = smooth
 played_smooth s (MoveAt a) lines all smooth = smooth
 played_smooth s (AttendTo a) lines all smooth = smooth
 played_smooth s Drain lines all smooth = smooth
+played_smooth s other lines all smooth = λ x. other_drive (s.units x) (drive_played x (s.units x).drive other) (lines x) (played_kind x (s.units x).drive other) (smooth x)
 
 moments_smooth : (s : Replay) (ms : List Moment) (lines : ℕ → List Deed) → AskSome ms → Follows s ms → AllFit s lines → AllSmooth s lines
     → AllSmooth (after_moments s ms) (λ x. lines_behind x (lines x) ms)
@@ -401,9 +342,7 @@ ok_in_place true false true done command answer ok is = is
 step_no_end : (step : Positioning) → IsOk (end_answer (command_of step)) → ⊥
 unfolding end_answer
 step_no_end (SearchFor c y) ok = ok
-step_no_end Recalibrate ok = ok
-step_no_end (SeekTo c) ok = ok
-step_no_end (OffsetBy code) ok = ok
+step_no_end other ok = ok
 
 line_no_end : (line : Deed) (rest : List Deed) → AreSaid (line ∷ rest) → IsOk (end_answer line) → ⊥
 unfolding end_answer
@@ -431,20 +370,13 @@ once_at d h (Ending other) lines answer ok is f b = b
 
 refused_no_ok : (why : Rejection) → IsOk (rejection_answer why) → ⊥
 refused_no_ok AtEnd ok = ok
-refused_no_ok Beyond ok = ok
-refused_no_ok FramesShort ok = ok
+refused_no_ok other ok = ok
 
 once_told : (wish : Wish) (s : Replay) (line unit id : ℕ) (answer : Answer) (lines : List Deed) → ToldMay wish s line unit id (End answer) → IsOk answer → UnitFits (s.units unit) lines
     → UnitSmooth (s.units unit) lines → AreClean lines → Once lines
 unfolding end_answer
 once_told (Refusal u i why) s line unit id answer lines may ok f b clean = absurd (refused_no_ok why (subst IsOk (ap end_answer may.answered) ok))
-once_told NoLine s line unit id answer lines may ok f b clean = once_at (s.units unit).drive (hand_of (s.units unit)) (s.units unit).stage lines answer ok may.talk f.fits (b clean)
-once_told (DueLine u) s line unit id answer lines may ok f b clean = once_at (s.units unit).drive (hand_of (s.units unit)) (s.units unit).stage lines answer ok may.talk f.fits (b clean)
-once_told (Arrival u) s line unit id answer lines may ok f b clean = once_at (s.units unit).drive (hand_of (s.units unit)) (s.units unit).stage lines answer ok may.talk f.fits (b clean)
-once_told (SectorLine u) s line unit id answer lines may ok f b clean = once_at (s.units unit).drive (hand_of (s.units unit)) (s.units unit).stage lines answer ok may.talk f.fits (b clean)
-once_told (Interrupt u) s line unit id answer lines may ok f b clean = once_at (s.units unit).drive (hand_of (s.units unit)) (s.units unit).stage lines answer ok may.talk f.fits (b clean)
-once_told (Attention u) s line unit id answer lines may ok f b clean = once_at (s.units unit).drive (hand_of (s.units unit)) (s.units unit).stage lines answer ok may.talk f.fits (b clean)
-once_told IdleLine s line unit id answer lines may ok f b clean = once_at (s.units unit).drive (hand_of (s.units unit)) (s.units unit).stage lines answer ok may.talk f.fits (b clean)
+once_told other s line unit id answer lines may ok f b clean = once_at (s.units unit).drive (hand_of (s.units unit)) (s.units unit).stage lines answer ok may.talk f.fits (b clean)
 
 starts_smooth : (drives : ℕ → Option DriveKind) (tables : ℕ → Option Table) (surface : Surface) → AllSmooth (new_replay drives tables surface) (λ x. [])
 starts_smooth drives tables surface x = λ clean. tt

@@ -34,14 +34,8 @@ pub told_keeps : (R : Replay → Type 0) (wish : Wish) (s : Replay) (unit : ℕ)
     → ((event : Event) → R (record s { event = event }))
     → ((event : Event) → R (record (replay_told s unit deed (unit_after s unit deed)) { event = event }))
     → R (told_after wish s unit deed)
-told_keeps R NoLine s unit deed same other = drained_keeps R (replay_told s unit deed (unit_after s unit deed)) other
-told_keeps R (DueLine u) s unit deed same other = drained_keeps R (replay_told s unit deed (unit_after s unit deed)) other
-told_keeps R (Arrival u) s unit deed same other = drained_keeps R (replay_told s unit deed (unit_after s unit deed)) other
-told_keeps R (SectorLine u) s unit deed same other = drained_keeps R (replay_told s unit deed (unit_after s unit deed)) other
-told_keeps R (Interrupt u) s unit deed same other = drained_keeps R (replay_told s unit deed (unit_after s unit deed)) other
-told_keeps R (Attention u) s unit deed same other = drained_keeps R (replay_told s unit deed (unit_after s unit deed)) other
-told_keeps R IdleLine s unit deed same other = drained_keeps R (replay_told s unit deed (unit_after s unit deed)) other
 told_keeps R (Refusal u i why) s unit deed same other = same (record s.event { act = Done })
+told_keeps R it s unit deed same other = drained_keeps R (replay_told s unit deed (unit_after s unit deed)) other
 
 pub one_unit : ChangesOneUnit
 one_unit s line unit id deed other apart =
@@ -80,42 +74,18 @@ read_marks false s unit d block = refl
 
 surface_other : (s : Replay) (unit : ℕ) (deed : Deed) (other at : ℕ) → other ≢ unit
     → (surface_after s unit deed).sector other at ≡ s.surface.sector other at
-surface_other s unit (Search c y) other at apart = refl
-surface_other s unit (Seek c) other at apart = refl
-surface_other s unit Recal other at apart = refl
-surface_other s unit (Offset o) other at apart = refl
-surface_other s unit Centre other at apart = refl
-surface_other s unit Clear other at apart = refl
-surface_other s unit Pack other at apart = refl
-surface_other s unit (Transfer w b k) other at apart = refl
-surface_other s unit Arrive other at apart = refl
 surface_other s unit (Sector b v) other at apart =
     written_other (was_written (s.units unit).drive v) (surface_read (was_read (s.units unit).drive v) s.surface unit (s.units unit).drive b) unit b
     (in_hand (s.units unit).service) (s.units unit).progress.done other at apart
     ∙ ap (λ f. f other at) (read_same (was_read (s.units unit).drive v) s.surface unit (s.units unit).drive b)
-surface_other s unit Intr other at apart = refl
-surface_other s unit (Try b f) other at apart = refl
-surface_other s unit Attn other at apart = refl
-surface_other s unit (End a) other at apart = refl
+surface_other s unit it other at apart = refl
 
 pub surface_marks : (s : Replay) (unit : ℕ) (deed : Deed) → (surface_after s unit deed).is_marked ≡ s.surface.is_marked
-surface_marks s unit (Search c y) = refl
-surface_marks s unit (Seek c) = refl
-surface_marks s unit Recal = refl
-surface_marks s unit (Offset o) = refl
-surface_marks s unit Centre = refl
-surface_marks s unit Clear = refl
-surface_marks s unit Pack = refl
-surface_marks s unit (Transfer w b k) = refl
-surface_marks s unit Arrive = refl
 surface_marks s unit (Sector b v) =
     written_marks (was_written (s.units unit).drive v) (surface_read (was_read (s.units unit).drive v) s.surface unit (s.units unit).drive b) unit b
     (in_hand (s.units unit).service) (s.units unit).progress.done
     ∙ read_marks (was_read (s.units unit).drive v) s.surface unit (s.units unit).drive b
-surface_marks s unit Intr = refl
-surface_marks s unit (Try b f) = refl
-surface_marks s unit Attn = refl
-surface_marks s unit (End a) = refl
+surface_marks s unit other = refl
 
 pub one_pack : ChangesOnePack
 one_pack s line unit id deed other block apart =

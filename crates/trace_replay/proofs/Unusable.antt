@@ -153,31 +153,7 @@ told_both (Refusal u i why) s line unit id deed lines kinds tables marked may h 
   record { kind = h.kind; table = h.table; marks = h.marks },
   subst (λ z. AreTrue marked (λ x. lines_after x (Told line unit id z) (lines x))) (sym may.answered) (refusal_true line unit id why lines marked all),
 )
-told_both NoLine s line unit id deed lines kinds tables marked may h all = (
-  drained_keeps (λ t. Steady kinds tables marked t) (replay_told s unit deed (unit_after s unit deed)) (λ event. again (line_steady s unit deed kinds tables marked h)),
-  told_true s line unit id deed lines marked h.marks may all,
-)
-told_both (DueLine u) s line unit id deed lines kinds tables marked may h all = (
-  drained_keeps (λ t. Steady kinds tables marked t) (replay_told s unit deed (unit_after s unit deed)) (λ event. again (line_steady s unit deed kinds tables marked h)),
-  told_true s line unit id deed lines marked h.marks may all,
-)
-told_both (Arrival u) s line unit id deed lines kinds tables marked may h all = (
-  drained_keeps (λ t. Steady kinds tables marked t) (replay_told s unit deed (unit_after s unit deed)) (λ event. again (line_steady s unit deed kinds tables marked h)),
-  told_true s line unit id deed lines marked h.marks may all,
-)
-told_both (SectorLine u) s line unit id deed lines kinds tables marked may h all = (
-  drained_keeps (λ t. Steady kinds tables marked t) (replay_told s unit deed (unit_after s unit deed)) (λ event. again (line_steady s unit deed kinds tables marked h)),
-  told_true s line unit id deed lines marked h.marks may all,
-)
-told_both (Interrupt u) s line unit id deed lines kinds tables marked may h all = (
-  drained_keeps (λ t. Steady kinds tables marked t) (replay_told s unit deed (unit_after s unit deed)) (λ event. again (line_steady s unit deed kinds tables marked h)),
-  told_true s line unit id deed lines marked h.marks may all,
-)
-told_both (Attention u) s line unit id deed lines kinds tables marked may h all = (
-  drained_keeps (λ t. Steady kinds tables marked t) (replay_told s unit deed (unit_after s unit deed)) (λ event. again (line_steady s unit deed kinds tables marked h)),
-  told_true s line unit id deed lines marked h.marks may all,
-)
-told_both IdleLine s line unit id deed lines kinds tables marked may h all = (
+told_both other s line unit id deed lines kinds tables marked may h all = (
   drained_keeps (λ t. Steady kinds tables marked t) (replay_told s unit deed (unit_after s unit deed)) (λ event. again (line_steady s unit deed kinds tables marked h)),
   told_true s line unit id deed lines marked h.marks may all,
 )
@@ -200,15 +176,11 @@ submitted_steady s r Joined kinds tables marked h = record {
 played_steady : (s : Replay) (input : Input) (kinds : ℕ → DriveKind) (tables : ℕ → Option Table) (marked : ℕ → ℕ → Bool) → Steady kinds tables marked s
     → Steady kinds tables marked (replay_played s input)
 played_steady s (Submit r) kinds tables marked h = submitted_steady s r (submission s r) kinds tables marked h
-played_steady s (Turn u y) kinds tables marked h = record { kind = λ x. played_kind x (s.units x).drive (Turn u y) ∙ h.kind x; table = h.table; marks = h.marks }
-played_steady s (Noise n) kinds tables marked h = record { kind = λ x. played_kind x (s.units x).drive (Noise n) ∙ h.kind x; table = h.table; marks = h.marks }
-played_steady s (Arm u k n) kinds tables marked h = record { kind = λ x. played_kind x (s.units x).drive (Arm u k n) ∙ h.kind x; table = h.table; marks = h.marks }
-played_steady s (SetOnline u b) kinds tables marked h = record { kind = λ x. played_kind x (s.units x).drive (SetOnline u b) ∙ h.kind x; table = h.table; marks = h.marks }
-played_steady s (SetLocked u b) kinds tables marked h = record { kind = λ x. played_kind x (s.units x).drive (SetLocked u b) ∙ h.kind x; table = h.table; marks = h.marks }
 played_steady s (ArriveAt u) kinds tables marked h = h
 played_steady s (MoveAt a) kinds tables marked h = h
 played_steady s (AttendTo a) kinds tables marked h = h
 played_steady s Drain kinds tables marked h = h
+played_steady s other kinds tables marked h = record { kind = λ x. played_kind x (s.units x).drive other ∙ h.kind x; table = h.table; marks = h.marks }
 
 moments_both : (s : Replay) (ms : List Moment) (lines : ℕ → List Deed) (kinds : ℕ → DriveKind) (tables : ℕ → Option Table) (marked : ℕ → ℕ → Bool) → Follows s ms
     → Steady kinds tables marked s → AreTrue marked lines → Steady kinds tables marked (after_moments s ms) × AreTrue marked (λ x. lines_behind x (lines x) ms)

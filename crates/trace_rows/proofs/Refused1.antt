@@ -11,81 +11,49 @@ use Rattle.std.specs.Prelude.{◌≢◌, take}
 use Rattle.trace_rows.specs.Rows1.{attentions_together_start, attentions_together, first_read_start, first_read}
 
 pub wrong_search_alone : (other : RuleName) → other ≢ Conversation → Keeps other (after_moments first_read_start (take 1 first_read)) (Told 2 0 1 (Search 0 18))
-wrong_search_alone Number apart = refl
-wrong_search_alone Events apart = refl
-wrong_search_alone Service apart = refl
 wrong_search_alone Conversation apart = absurd (apart refl)
-wrong_search_alone Drives apart = refl
 wrong_search_alone Adapters apart = tt
 wrong_search_alone Packs apart = tt
 wrong_search_alone Work apart = tt
+wrong_search_alone it apart = refl
 
 pub groundless_mark_alone : (other : RuleName) → other ≢ Packs → Keeps other (after_moments first_read_start (take 6 first_read)) (Told 3 0 1 (Sector 0 Marked))
-groundless_mark_alone Number apart = refl
-groundless_mark_alone Events apart = refl
-groundless_mark_alone Service apart = refl
-groundless_mark_alone Conversation apart = refl
-groundless_mark_alone Drives apart = refl
 groundless_mark_alone Adapters apart = (refl, refl)
 groundless_mark_alone Packs apart = absurd (apart refl)
-groundless_mark_alone Work apart = refl
+groundless_mark_alone it apart = refl
 
 pub wrong_number_alone : (other : RuleName) → other ≢ Number → Keeps other (after_moments first_read_start (take 8 first_read)) (Told 4 0 1 (End (ReadOk (replicate 512 0))))
 wrong_number_alone Number apart = absurd (apart refl)
 wrong_number_alone Events apart = refl
 wrong_number_alone Service apart = refl
 wrong_number_alone Conversation apart = refl
-wrong_number_alone Drives apart = tt
-wrong_number_alone Adapters apart = tt
-wrong_number_alone Packs apart = tt
-wrong_number_alone Work apart = tt
+wrong_number_alone it apart = tt
 
 pub wrong_id_alone : (other : RuleName) → other ≢ Service → Keeps other (after_moments first_read_start (take 8 first_read)) (Told 3 0 2 (End (ReadOk (replicate 512 0))))
 wrong_id_alone Number apart = refl
 wrong_id_alone Events apart = refl
 wrong_id_alone Service apart = absurd (apart refl)
 wrong_id_alone Conversation apart = refl
-wrong_id_alone Drives apart = tt
-wrong_id_alone Adapters apart = tt
-wrong_id_alone Packs apart = tt
-wrong_id_alone Work apart = tt
+wrong_id_alone it apart = tt
 
 pub attentions_descending_alone : (other : RuleName) → other ≢ Events → Keeps other (after_moments attentions_together_start (take 10 attentions_together)) (Told 8 1 2 Attn)
-attentions_descending_alone Number apart = refl
 attentions_descending_alone Events apart = absurd (apart refl)
-attentions_descending_alone Service apart = refl
-attentions_descending_alone Conversation apart = refl
-attentions_descending_alone Drives apart = refl
-attentions_descending_alone Adapters apart = refl
 attentions_descending_alone Packs apart = tt
 attentions_descending_alone Work apart = tt
+attentions_descending_alone it apart = refl
 
 pub skewed_adapter_alone : (other : RuleName) → other ≢ Adapters → Keeps other (after_moments skewed_start (take 0 first_read)) (Told 3 0 1 (Sector 0 Clean))
-skewed_adapter_alone Number apart = refl
-skewed_adapter_alone Events apart = refl
-skewed_adapter_alone Service apart = refl
-skewed_adapter_alone Conversation apart = refl
-skewed_adapter_alone Drives apart = refl
 skewed_adapter_alone Adapters apart = absurd (apart refl)
-skewed_adapter_alone Packs apart = refl
-skewed_adapter_alone Work apart = refl
+skewed_adapter_alone it apart = refl
 
 pub busy_drive_alone : (other : RuleName) → other ≢ Drives → Keeps other (after_moments busy_start (take 1 first_read)) (Told 2 0 1 (Search 0 19))
-busy_drive_alone Number apart = refl
-busy_drive_alone Events apart = refl
-busy_drive_alone Service apart = refl
-busy_drive_alone Conversation apart = refl
 busy_drive_alone Drives apart = absurd (apart refl)
 busy_drive_alone Adapters apart = tt
 busy_drive_alone Packs apart = tt
 busy_drive_alone Work apart = tt
+busy_drive_alone it apart = refl
 
 pub stranded_unit_alone : (other : RuleName) → other ≢ Work → Keeps other (after_moments stranded_start (take 4 first_read)) (Told 3 0 1 Attn)
-stranded_unit_alone Number apart = refl
-stranded_unit_alone Events apart = refl
-stranded_unit_alone Service apart = refl
-stranded_unit_alone Conversation apart = refl
-stranded_unit_alone Drives apart = refl
-stranded_unit_alone Adapters apart = refl
 stranded_unit_alone Packs apart = tt
 stranded_unit_alone Work apart = absurd (apart refl)
+stranded_unit_alone it apart = refl

@@ -31,8 +31,7 @@ in_job t valid none =
 
 above : (kind : DriveKind) (i : ℕ) → i < 126 → limit_of kind ≤ replacement_at kind i
 above Rp06 i small = omega arith
-above Rm03 i small = omega arith
-above Rm05 i small = omega arith
+above other i small = omega arith
 
 pub is_replacement : (t : TransferState) (i : ℕ) → IsTransfer t → t.index ≡ Some i → IsReplacement t i
 is_replacement t i valid some =

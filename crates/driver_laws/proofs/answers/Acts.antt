@@ -142,12 +142,9 @@ changed_capacity (script.SetLocked u on) w = refl
 changed_capacity input w = refl
 
 act_capacity : (w : World) (act : Act) → (after w act).book.capacity ≡ w.book.capacity
-act_capacity w (Refuse line r kind) = refl
-act_capacity w (Submit line p h) = refl
 act_capacity w (Of line u id d) = (deed_arms_none line u (slot_in_hand (unit_at w u)) d (scene_of w u)).capacity
 act_capacity w (Change input) = changed_capacity input w
-act_capacity w (Nothing line) = refl
-act_capacity w Taken = refl
+act_capacity w other = refl
 
 pub capacity_stays : CapacityStays
 capacity_stays w [] = refl

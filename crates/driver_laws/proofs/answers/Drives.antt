@@ -60,17 +60,7 @@ armed_more kind times more d few = put_armed kind (times_armed kind d.armed + ti
 -- WHAT A DRIVE DOES
 effect_armed : (f : Function) (d : DriveState) → (effect f d).armed ≡ d.armed
 effect_armed function.Nop d = refl
-effect_armed function.Seek d = refl
-effect_armed function.Recal d = refl
-effect_armed function.Clear d = refl
-effect_armed function.Offset d = refl
-effect_armed function.Centre d = refl
-effect_armed function.Preset d = refl
-effect_armed function.Pack d = refl
-effect_armed function.Search d = refl
-effect_armed function.Write d = refl
-effect_armed function.WriteHeader d = refl
-effect_armed function.Read d = refl
+effect_armed other d = refl
 
 either : {A : Type 0} (P : A → Type 0) (b : Bool) (x y : A) → P x → P y → P (if b then x else y)
 either P true x y holds fails = holds
@@ -83,20 +73,15 @@ performed_armed f d =
 
 arrived_armed : (w : Work) (d : DriveState) → (arrived_from w d).armed ≡ d.armed
 arrived_armed work.Ready d = refl
-arrived_armed (work.Transfer write) d = refl
-arrived_armed (work.Positioning cylinder sector) d = refl
+arrived_armed other d = refl
 
 marked_armed : (kind : DriveKind) (d : DriveState) → (with_mark_bits kind d).armed ≡ d.armed
 marked_armed Rp06 d = refl
-marked_armed Rm03 d = refl
-marked_armed Rm05 d = refl
+marked_armed other d = refl
 
 fault_bits_armed : (kind : FaultKind) (d : DriveState) → (with_fault_bits kind d).armed ≡ d.armed
 fault_bits_armed fault.Seek d = refl
-fault_bits_armed fault.Opi d = refl
-fault_bits_armed fault.Dte d = refl
-fault_bits_armed fault.Hcrc d = refl
-fault_bits_armed fault.Late d = refl
+fault_bits_armed other d = refl
 
 -- a fault that strikes is used
 faulted_armed : (kind : FaultKind) (d : DriveState) → IsArmedBy 0 d.armed (with_fault_bits kind (fault_used kind d)).armed
@@ -105,12 +90,9 @@ faulted_armed kind d =
     (put_armed kind (times_armed kind d.armed - 1) 0 d.armed (omega arith))
 
 moved_armed : (v : Moved) (block : ℕ) (d : DriveState) → IsArmedBy 0 d.armed (after_move v block d).armed
-moved_armed verdict.Clean block d = no_more _ _ refl
-moved_armed (verdict.Burst at pattern) block d = no_more _ _ refl
-moved_armed verdict.Hard block d = no_more _ _ refl
 moved_armed verdict.Marked block d = no_more _ _ (marked_armed d.kind d)
 moved_armed (verdict.Faulted kind) block d = faulted_armed kind d
-moved_armed verdict.Offline block d = no_more _ _ refl
+moved_armed other block d = no_more _ _ refl
 
 stepped_armed : (v : Moved) (a : AdapterState) (d : DriveState) → IsArmedBy 0 d.armed (drive_stepped v a d).armed
 stepped_armed v a d =

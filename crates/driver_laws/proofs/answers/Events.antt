@@ -33,13 +33,7 @@ none = record { requests = refl; noises = refl; faults = refl }
 one_more : (act : Act) (acts : List Act) → BringsNothing act → BringNothing acts → BringNothing (act ∷ acts)
 one_more (Submit line p h) acts is rest = absurd is
 one_more (Change input) acts is rest = absurd is
-one_more (Refuse line r kind) acts is rest =
-    record { requests = omega (arith, rest.requests); noises = omega (arith, rest.noises); faults = omega (arith, rest.faults) }
-one_more (Of line u id d) acts is rest =
-    record { requests = omega (arith, rest.requests); noises = omega (arith, rest.noises); faults = omega (arith, rest.faults) }
-one_more (Nothing line) acts is rest =
-    record { requests = omega (arith, rest.requests); noises = omega (arith, rest.noises); faults = omega (arith, rest.faults) }
-one_more Taken acts is rest =
+one_more other acts is rest =
     record { requests = omega (arith, rest.requests); noises = omega (arith, rest.noises); faults = omega (arith, rest.faults) }
 
 -- each act of a list brings nothing
@@ -169,13 +163,9 @@ events_add r n f w line (script.MoveAt a) tried run within =
     event_none r n f w (move_acts line a tried w) (move_bare line a tried w) run within
 events_add r n f w line (script.AttendTo a) tried run within =
     event_none r n f w (attend_acts line a w) (attend_bare line a w) run within
-events_add r n f w line (script.Turn u sector) tried run within = condition r n f w (script.Turn u sector) run within
-events_add r n f w line (script.Noise noise) tried run within = condition r n f w (script.Noise noise) run within
-events_add r n f w line (script.Arm u kind times) tried run within = condition r n f w (script.Arm u kind times) run within
-events_add r n f w line (script.SetOnline u on) tried run within = condition r n f w (script.SetOnline u on) run within
-events_add r n f w line (script.SetLocked u on) tried run within = condition r n f w (script.SetLocked u on) run within
 events_add r n f w line (script.Submit request) tried run within = absurd run.0
 events_add r n f w line script.Drain tried run within = absurd run.0
+events_add r n f w line other tried run within = condition r n f w other run within
 
 -- A SUBMISSION is refused, or one request joins.
 submit_adds : (refused : Option AnswerKind) (q : Request) (line p : ℕ) (h : Held) (r n f : ℕ) (w : World) → Run w (submit_by refused q line p h w)

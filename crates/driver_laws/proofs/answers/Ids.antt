@@ -94,12 +94,11 @@ pub taking_adds_none : TakingAddsNone
 taking_adds_none ids w are p h e = are p h (freed_was w.answers w.slots p h e)
 
 pub acts_add : ActsAdd
-acts_add ids w (Refuse line r kind) may are = are
 acts_add ids w (Submit line p h) may are = join_of (h.id ∷ ids) w line p h may.free (Contains-first h.id ids) (weaker ids h.id w are)
 acts_add ids w (Of line u id d) may are = deed_of ids w line u id d may.0 are
 acts_add ids w (Change input) may are = changed_of ids w input may are
-acts_add ids w (Nothing line) may are = are
 acts_add ids w Taken may are = taking_adds_none ids w are
+acts_add ids w other may are = are
 
 pub runs_add : RunsAdd
 runs_add ids w [] run are = are
@@ -112,11 +111,10 @@ IsWithin ids act = Unit {0}
 
 act_within : (ids : List ℕ) (w : World) (act : Act) → Allowed w act → IsWithin ids act → AreOf ids w → AreOf ids (after w act)
 act_within ids w (Submit line p h) may within are = join_of ids w line p h may.free within are
-act_within ids w (Refuse line r kind) may within are = are
 act_within ids w (Of line u id d) may within are = deed_of ids w line u id d may.0 are
 act_within ids w (Change input) may within are = changed_of ids w input may are
-act_within ids w (Nothing line) may within are = are
 act_within ids w Taken may within are = taking_adds_none ids w are
+act_within ids w other may within are = are
 
 run_within : (ids : List ℕ) (w : World) (acts : List Act) → Run w acts → AreAll (IsWithin ids) acts → AreOf ids w → AreOf ids (after_all w acts)
 run_within ids w [] run within are = are

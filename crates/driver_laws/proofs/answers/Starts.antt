@@ -31,10 +31,7 @@ set_up_unarmed (s ∷ setups) units are u =
 
 none_times : (kind : FaultKind) → times_armed kind none_armed ≡ 0
 none_times fault.Seek = refl
-none_times fault.Opi = refl
-none_times fault.Dte = refl
-none_times fault.Hcrc = refl
-none_times fault.Late = refl
+none_times other = refl
 
 no_times : (kind : FaultKind) (a : Armed) → a ≡ none_armed → times_armed kind a ≤ 1000 * 0
 no_times kind a is = by _ (ap (times_armed kind) is ∙ none_times kind)

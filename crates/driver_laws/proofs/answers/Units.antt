@@ -32,7 +32,6 @@ changed_unit (script.SetLocked u on) w x =
 changed_unit input w x = same_unit (unit_at w x)
 
 act_unit : (w : World) (act : Act) (x : ℕ) → IsSetAs (unit_at w x) (unit_at (after w act) x)
-act_unit w (Refuse line r kind) x = same_unit (unit_at w x)
 act_unit w (Submit line p h) x =
     put_unit w h.unit x (joined p h (unit_at w h.unit)) (record { declared = refl; table = refl; kind = refl })
 act_unit w (Of line u id d) x =
@@ -40,8 +39,7 @@ act_unit w (Of line u id d) x =
     put_unit w u x (effect line u (slot_in_hand (unit_at w u)) d (scene_of w u)).unit
     (record { declared = same.declared; table = same.table; kind = same.kind })
 act_unit w (Change input) x = changed_unit input w x
-act_unit w (Nothing line) x = same_unit (unit_at w x)
-act_unit w Taken x = same_unit (unit_at w x)
+act_unit w other x = same_unit (unit_at w x)
 
 pub setups_stay : SetupsStay
 setups_stay w [] u = same_unit (unit_at w u)

@@ -56,14 +56,12 @@ arriving_goal u s ok on =
     goal_of s.unit.drive (phase_is u s (Positioning at.0) ok at.1).1 on
 
 moving_arrived : (k : Work) (d : DriveState) → IsGoal d.kind k → IsClear d → IsMoving (arrived_from k d)
-moving_arrived work.Ready d goal c = absurd goal
-moving_arrived (work.Transfer write) d goal c = absurd goal
 moving_arrived (work.Positioning cylinder sector) d goal c = record { either = inr (refl, refl); clear = record { er1 = c.er1; er2 = c.er2 } }
+moving_arrived other d goal c = absurd goal
 
 attention_arrived : (k : Work) (d : DriveState) → IsGoal d.kind k → (arrived_from k d).attention ≡ true
-attention_arrived work.Ready d goal = absurd goal
-attention_arrived (work.Transfer write) d goal = absurd goal
 attention_arrived (work.Positioning cylinder sector) d goal = refl
+attention_arrived other d goal = absurd goal
 
 pub arrive_phase : (line u p : ℕ) (s : Scene) → SceneOk u s → is_positioning s.unit.drive.work ≡ true
     → IsPhase u (effect line u p deed.Arrive s).unit (effect line u p deed.Arrive s).adapter s.held s.unit.phase

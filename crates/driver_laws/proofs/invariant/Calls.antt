@@ -65,11 +65,8 @@ least n = omega arith
 
 -- SUBMISSION
 work_needs : (phase : Phase) (queue : List Waiter) → WorkOf phase queue → needs_free phase ≡ true → ⊥
-work_needs Waiting queue work needs = false_true needs
 work_needs (Due task) queue work needs = work
-work_needs (Positioning taken) queue work needs = false_true needs
-work_needs Queued queue work needs = false_true needs
-work_needs Transferring queue work needs = false_true needs
+work_needs other queue work needs = false_true needs
 
 join_doing : SoundAfter → (line p : ℕ) (h : Held) (w : World) → Sound w → AtWork w → Allowed w (Submit line p h)
     → Doing (Unit {0}) h.unit (outstanding (after w (Submit line p h))) (after w (Submit line p h))
@@ -197,11 +194,7 @@ both false false e = absurd (false_true e)
 
 stepped_busy : (v : Moved) (a : AdapterState) → (stepped v a).busy ≡ a.busy
 stepped_busy verdict.Clean a = refl
-stepped_busy (verdict.Burst at pattern) a = refl
-stepped_busy verdict.Hard a = refl
-stepped_busy verdict.Marked a = refl
-stepped_busy (verdict.Faulted kind) a = refl
-stepped_busy verdict.Offline a = refl
+stepped_busy other a = refl
 
 -- an adapter that is busy is one of the four, and the unit that it transfers for is in hand
 pub record IsServing (w : World) (a : ℕ) : Type 0 where
@@ -309,8 +302,7 @@ attn_phase : (u : ℕ) (phase : Phase) (v : UnitView) (a : AdapterView) (h : Hel
 attn_phase u Waiting v a h is work up = absurd (false_true (sym is.0.attention ∙ up))
 attn_phase u (Due task) v a h is work up = absurd work
 attn_phase u (Positioning taken) v a h is work up = refl
-attn_phase u Queued v a h is work up = absurd (false_true (sym is.1.attention ∙ up))
-attn_phase u Transferring v a h is work up = absurd (false_true (sym is.1.attention ∙ up))
+attn_phase u other v a h is work up = absurd (false_true (sym is.1.attention ∙ up))
 
 attention_by : SoundAfter → (line a n k : ℕ) (up : Bool) (w : World) → a < 4 → k < 8 → (unit_at w (unit_on a k)).drive.attention ≡ up
     → Rests (Unit {0}) a n w
@@ -412,13 +404,9 @@ event_works stays line (script.MoveAt a) tried w sound work may =
     (λ can. move_by stays line a tried w sound work can (may can))
 event_works stays line (script.AttendTo a) tried w sound work may =
     only_where (can_attend (adapter_at w a)) line (attended line a) w sound work (λ can. attend_by stays line a w sound work can)
-event_works stays line (script.Turn u sector) tried w sound work may = change stays (script.Turn u sector) w sound work may
-event_works stays line (script.Noise noise) tried w sound work may = change stays (script.Noise noise) w sound work may
-event_works stays line (script.Arm u kind times) tried w sound work may = change stays (script.Arm u kind times) w sound work may
-event_works stays line (script.SetOnline u on) tried w sound work may = change stays (script.SetOnline u on) w sound work may
-event_works stays line (script.SetLocked u on) tried w sound work may = change stays (script.SetLocked u on) w sound work may
 event_works stays line (script.Submit request) tried w sound work may = absurd may
 event_works stays line script.Drain tried w sound work may = absurd may
+event_works stays line other tried w sound work may = change stays other w sound work may
 
 -- AN ANSWER IS TAKEN
 pub taken_works : SoundAfter → (w : World) → Sound w → AtWork w → 0 < length w.answers → Works w (Taken ∷ [])

@@ -118,22 +118,18 @@ may_come u d s next free = may_by u d s next (due_facts s.unit s.held d next) fr
 -- and the adapter stays free for the next one
 free_by : (line u p : ℕ) (d : Deed) (s : Scene) → IsDue s.unit s.held d → IsFree s.unit s.adapter
     → IsFree (effect line u p d s).unit (effect line u p d s).adapter
-free_by line u p (deed.Search target sector) s due free = λ needs. absurd (false_true needs)
-free_by line u p (deed.Do step taken) s due free = λ needs. absurd (false_true needs)
-free_by line u p (deed.Move write segment) s due free = λ needs. absurd (false_true needs)
 free_by line u p deed.Pack s due free = free
 free_by line u p (deed.Dclr moved last) s due free = λ needs. free (ap needs_free due)
 free_by line u p deed.Rtc s due free = free
-free_by line u p (deed.Ready transfer) s due free = λ needs. absurd (false_true needs)
 free_by line u p (deed.Repair moved at pattern) s due free = λ needs. free (ap needs_free due.phase)
 free_by line u p (deed.Forward moved index) s due free = λ needs. free (ap needs_free due.0.phase)
 free_by line u p (deed.Continue moved) s due free = λ needs. free (ap needs_free due.0.phase)
 free_by line u p (deed.Try moved block number next) s due free = λ needs. free (ap needs_free due.2.phase)
-free_by line u p (deed.End kind) s due free = λ needs. absurd (false_true needs)
 free_by line u p deed.Arrive s due free = absurd due
 free_by line u p (deed.Sector block tried) s due free = absurd due
 free_by line u p (deed.Intr moved last) s due free = absurd due
 free_by line u p (deed.Attn taken) s due free = absurd due
+free_by line u p other s due free = λ needs. absurd (false_true needs)
 
 -- THE OTHERS are at work as before.
 pub others_kept : (w : World) (u p : ℕ) (s : Scene) → OthersWork w u → OthersWork (with_scene w u p s) u

@@ -44,10 +44,9 @@ seek_to true c steps are = are
 seek_to false c steps are = (refl, are)
 
 steps_to : (c : ℕ) (step : retried.Step) → AreStepsTo c (steps_for c step)
-steps_to c retry.Again = tt
 steps_to c (retry.Offset code) = (tt, tt)
 steps_to c (retry.Recalibrate code) = (tt, seek_to (c == 0) c (offset_steps code) (offset_to c code))
-steps_to c retry.GiveUp = tt
+steps_to c other = tt
 
 drop_to : (c n : ℕ) (steps : List RetryStep) → AreStepsTo c steps → AreStepsTo c (drop n steps)
 drop_to c zero steps are = are
@@ -116,10 +115,9 @@ do_drive line u p step taken s ok may =
 
 step_attention : (u taken : ℕ) (step : RetryStep) (s : Scene) → SceneOk u s → IsBegun s.unit s.held → IsStep s.unit step taken
     → (stepping step s.unit.drive).attention ≡ s.unit.drive.attention
-step_attention u taken Recalibrate s ok is step = refl
 step_attention u taken (Seek cylinder) s ok is step =
     ap (λ (d : DriveState). d.attention) (performed-seek s.unit.drive cylinder (seek_inside u taken cylinder s is step) ok.drive.address)
-step_attention u taken (Offset code) s ok is step = refl
+step_attention u taken other s ok is step = refl
 
 pub do_left : (line u p : ℕ) (step : RetryStep) (taken : ℕ) (s : Scene) → SceneOk u s → SceneAdapter u s → May u (deed.Do step taken) s
     → AdapterLeft u s.adapter (effect line u p (deed.Do step taken) s).unit (effect line u p (deed.Do step taken) s).adapter (effect line u p (deed.Do step taken) s).held

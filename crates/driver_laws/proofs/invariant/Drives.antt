@@ -33,33 +33,27 @@ use Rattle.driver_machine.specs.Sound.{IsDrive, IsGoal, code_word}
 -- PLACES. A block of the pack lies on the drive.
 pub place_inside : (kind : DriveKind) (block : ℕ) → block < block_count kind → IsInside kind (place_at kind block)
 place_inside Rp06 block lt = record { cylinder = omega arith; track = omega arith; sector = omega arith }
-place_inside Rm03 block lt = record { cylinder = omega arith; track = omega arith; sector = omega arith }
-place_inside Rm05 block lt = record { cylinder = omega arith; track = omega arith; sector = omega arith }
+place_inside other block lt = record { cylinder = omega arith; track = omega arith; sector = omega arith }
 
 sizes_small : (kind : DriveKind) → (cylinders_of kind ≤ 1024) × (tracks_of kind ≤ 256) × (sectors_of kind ≤ 256)
 sizes_small Rp06 = (omega arith, omega arith, omega arith)
-sizes_small Rm03 = (omega arith, omega arith, omega arith)
-sizes_small Rm05 = (omega arith, omega arith, omega arith)
+sizes_small other = (omega arith, omega arith, omega arith)
 
 pub below_limit : (kind : DriveKind) (block : ℕ) → block < limit_of kind → block < block_count kind
 below_limit Rp06 block lt = omega arith
-below_limit Rm03 block lt = omega arith
-below_limit Rm05 block lt = omega arith
+below_limit other block lt = omega arith
 
 pub replacement_below : (kind : DriveKind) (i : ℕ) → i < 126 → replacement_at kind i < block_count kind
 replacement_below Rp06 i lt = omega arith
-replacement_below Rm03 i lt = omega arith
-replacement_below Rm05 i lt = omega arith
+replacement_below other i lt = omega arith
 
 pub some_cylinder : (kind : DriveKind) → 0 < cylinders_of kind
 some_cylinder Rp06 = omega arith
-some_cylinder Rm03 = omega arith
-some_cylinder Rm05 = omega arith
+some_cylinder other = omega arith
 
 pub sector_below : (kind : DriveKind) (n : ℕ) → n % sectors_of kind < sectors_of kind
 sector_below Rp06 n = omega arith
-sector_below Rm03 n = omega arith
-sector_below Rm05 n = omega arith
+sector_below other n = omega arith
 
 -- FUNCTIONS that are not refused are done.
 pub performed_as : (f : Function) (d : DriveState) → refusals f d ≡ 0 → performed f d ≡ effect f (record d { cs1 = function_code f })
@@ -212,11 +206,7 @@ drive_centred d is = record {
 
 word_sum : (c : OffsetCode) → bit_or bits.sixteen_bit_format (offset_code c) ≡ bits.sixteen_bit_format + code_word (Some c)
 word_sum code.Plus400 = refl
-word_sum code.Minus400 = refl
-word_sum code.Plus800 = refl
-word_sum code.Minus800 = refl
-word_sum code.Plus1200 = refl
-word_sum code.Minus1200 = refl
+word_sum other = refl
 
 pub drive_offset : (d : DriveState) (c : OffsetCode) → IsDrive d → IsDrive (performed function.Offset (offset_written (offset_code c) d))
 drive_offset d c is = record {
@@ -279,23 +269,18 @@ drive_passed d block lt is = record {
 
 drive_marked : (kind : DriveKind) (d : DriveState) → IsDrive d → IsDrive (with_mark_bits kind d)
 drive_marked Rp06 d is = drive_as d _ _ _ _ _ _ _ _ is
-drive_marked Rm03 d is = drive_as d _ _ _ _ _ _ _ _ is
-drive_marked Rm05 d is = drive_as d _ _ _ _ _ _ _ _ is
+drive_marked other d is = drive_as d _ _ _ _ _ _ _ _ is
 
 drive_faulted : (kind : FaultKind) (d : DriveState) → IsDrive d → IsDrive (with_fault_bits kind (fault_used kind d))
 drive_faulted fault.Seek d is = drive_as d _ _ _ _ _ _ _ _ is
-drive_faulted fault.Opi d is = drive_as d _ _ _ _ _ _ _ _ is
-drive_faulted fault.Dte d is = drive_as d _ _ _ _ _ _ _ _ is
-drive_faulted fault.Hcrc d is = drive_as d _ _ _ _ _ _ _ _ is
-drive_faulted fault.Late d is = drive_as d _ _ _ _ _ _ _ _ is
+drive_faulted other d is = drive_as d _ _ _ _ _ _ _ _ is
 
 drive_moved : (v : Moved) (block : ℕ) (d : DriveState) → block < block_count d.kind → IsDrive d → IsDrive (after_move v block d)
 drive_moved verdict.Clean block d lt is = drive_passed d block lt is
-drive_moved (verdict.Burst at pattern) block d lt is = drive_as (passed block d) _ _ _ _ _ _ _ _ (drive_passed d block lt is)
-drive_moved verdict.Hard block d lt is = drive_as (passed block d) _ _ _ _ _ _ _ _ (drive_passed d block lt is)
 drive_moved verdict.Marked block d lt is = drive_marked d.kind d is
 drive_moved (verdict.Faulted kind) block d lt is = drive_faulted kind d is
 drive_moved verdict.Offline block d lt is = drive_as d _ _ _ _ _ _ _ _ is
+drive_moved other block d lt is = drive_as (passed block d) _ _ _ _ _ _ _ _ (drive_passed d block lt is)
 
 -- what holds of both values of a choice holds of it
 pub by_if : {A : Type 0} (b : Bool) (P : A → Type 0) (x y : A) → P x → P y → P (if b then x else y)

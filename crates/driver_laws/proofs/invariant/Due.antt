@@ -67,9 +67,7 @@ work_by (Due task) w line u is sound lt none =
     let some : 0 < length (unit_at w u).queue = (sound.each_unit u lt).head (ap is_waiting is) in
     let empty : length (unit_at w u).queue ≡ 0 = ap (λ (l : List Waiter). length l) (none_due (unit_at w u).queue line u _ w none) in
     absurd (grind (arith, some, empty))
-work_by (Positioning taken) w line u is sound lt none = tt
-work_by Queued w line u is sound lt none = tt
-work_by Transferring w line u is sound lt none = tt
+work_by other w line u is sound lt none = tt
 
 pub rests : (E : Type 0) (line u n : ℕ) (w : World) → u < 32 → Doing E u n w → next_acts line u w ≡ [] → Rests E (adapter_of u) n w
 rests E line u n w lt doing none = record {

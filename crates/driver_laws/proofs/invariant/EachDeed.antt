@@ -57,7 +57,6 @@ own_phase line u p d s ok may =
 pub own_drive : (line u p : ℕ) (d : Deed) (s : Scene) → SceneOk u s → May u d s → IsDrive (effect line u p d s).unit.drive
 own_drive line u p deed.Arrive s ok may = arrive_drive line u p s ok may
 own_drive line u p (deed.Sector block t) s ok may = sector_drive line u p block t s ok may
-own_drive line u p (deed.Intr moved last) s ok may = ok.drive
 own_drive line u p (deed.Attn taken) s ok may = attn_drive line u p taken s ok may
 own_drive line u p (deed.Search target sector) s ok may = search_drive line u p target sector s ok may
 own_drive line u p (deed.Do step taken) s ok may = do_drive line u p step taken s ok may
@@ -65,12 +64,7 @@ own_drive line u p (deed.Move write segment) s ok may = move_drive line u p writ
 own_drive line u p deed.Pack s ok may = pack_drive line u p s ok may
 own_drive line u p (deed.Dclr moved last) s ok may = dclr_drive line u p moved last s ok may
 own_drive line u p deed.Rtc s ok may = rtc_drive line u p s ok may
-own_drive line u p (deed.Ready t) s ok may = ok.drive
-own_drive line u p (deed.Repair moved at pattern) s ok may = ok.drive
-own_drive line u p (deed.Forward moved index) s ok may = ok.drive
-own_drive line u p (deed.Continue moved) s ok may = ok.drive
-own_drive line u p (deed.Try moved block number next) s ok may = ok.drive
-own_drive line u p (deed.End kind) s ok may = ok.drive
+own_drive line u p other s ok may = ok.drive
 
 -- THE ADAPTER
 pub deed_left : (line u p : ℕ) (d : Deed) (s : Scene) → SceneOk u s → SceneAdapter u s → May u d s

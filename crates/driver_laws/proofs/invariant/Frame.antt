@@ -57,10 +57,7 @@ pub record Changed (w now : World) (u : ℕ) : Type 0 where
 -- where a unit waits, its phase says nothing of a request
 waiting_any : (x : ℕ) (v : UnitView) (a : AdapterView) (g h : Held) (phase : Phase) → is_waiting phase ≡ true → IsPhase x v a g phase → IsPhase x v a h phase
 waiting_any x v a g h Waiting waits is = is
-waiting_any x v a g h (Positioning taken) waits is = absurd (false≢true waits)
-waiting_any x v a g h Queued waits is = absurd (false≢true waits)
-waiting_any x v a g h Transferring waits is = absurd (false≢true waits)
-waiting_any x v a g h (Due task) waits is = absurd (false≢true waits)
+waiting_any x v a g h other waits is = absurd (false≢true waits)
 
 pub phase_for : (x : ℕ) (v : UnitView) (a : AdapterView) (g h : Held) (phase : Phase) → (is_waiting phase ≡ false → h ≡ g) → IsPhase x v a g phase
     → IsPhase x v a h phase

@@ -36,36 +36,8 @@ interrupted_by moved verdict.Clean v h is stopped clear ended only = (
   ended,
   only,
 )
-interrupted_by moved (verdict.Burst at pattern) v h is stopped clear ended only = (
-  begun_as v (in_phase (Due (interrupted moved (verdict.Burst at pattern))) v) h h is refl refl refl (same_ask h),
-  stopped,
-  λ e. absurd (grind (arith, e)),
-  ended,
-  only,
-)
-interrupted_by moved verdict.Hard v h is stopped clear ended only = (
-  begun_as v (in_phase (Due (interrupted moved verdict.Hard)) v) h h is refl refl refl (same_ask h),
-  stopped,
-  λ e. absurd (grind (arith, e)),
-  ended,
-  only,
-)
-interrupted_by moved verdict.Marked v h is stopped clear ended only = (
-  begun_as v (in_phase (Due (interrupted moved verdict.Marked)) v) h h is refl refl refl (same_ask h),
-  stopped,
-  λ e. absurd (grind (arith, e)),
-  ended,
-  only,
-)
-interrupted_by moved (verdict.Faulted kind) v h is stopped clear ended only = (
-  begun_as v (in_phase (Due (interrupted moved (verdict.Faulted kind))) v) h h is refl refl refl (same_ask h),
-  stopped,
-  λ e. absurd (grind (arith, e)),
-  ended,
-  only,
-)
-interrupted_by moved verdict.Offline v h is stopped clear ended only = (
-  begun_as v (in_phase (Due (interrupted moved verdict.Offline)) v) h h is refl refl refl (same_ask h),
+interrupted_by moved other v h is stopped clear ended only = (
+  begun_as v (in_phase (Due (interrupted moved other)) v) h h is refl refl refl (same_ask h),
   stopped,
   λ e. absurd (grind (arith, e)),
   ended,

@@ -47,23 +47,16 @@ same_but = record { kind = refl; work = refl; attention = refl }
 
 marked_same : (kind : DriveKind) (d : DriveState) → IsSameBut d (with_mark_bits kind d)
 marked_same Rp06 d = same_but
-marked_same Rm03 d = same_but
-marked_same Rm05 d = same_but
+marked_same other d = same_but
 
 faulted_same : (kind : FaultKind) (d : DriveState) → IsSameBut d (with_fault_bits kind (fault_used kind d))
 faulted_same fault.Seek d = same_but
-faulted_same fault.Opi d = same_but
-faulted_same fault.Dte d = same_but
-faulted_same fault.Hcrc d = same_but
-faulted_same fault.Late d = same_but
+faulted_same other d = same_but
 
 moved_same : (v : Moved) (block : ℕ) (d : DriveState) → IsSameBut d (after_move v block d)
-moved_same verdict.Clean block d = same_but
-moved_same (verdict.Burst at pattern) block d = same_but
-moved_same verdict.Hard block d = same_but
 moved_same verdict.Marked block d = marked_same d.kind d
 moved_same (verdict.Faulted kind) block d = faulted_same kind d
-moved_same verdict.Offline block d = same_but
+moved_same other block d = same_but
 
 attention_stepped : (v : Moved) (a : AdapterState) (d : DriveState) → (drive_stepped v a d).attention ≡ d.attention
 attention_stepped v a d =
@@ -105,17 +98,11 @@ way_stepped : (v : Moved) (a : AdapterState) (d : DriveState) → a.completion �
 way_stepped verdict.Clean a d up way =
     let does : d.work ≡ work.Transfer a.write = way.work ∙ ap (λ b. if b then work.Ready else work.Transfer a.write) up in
     clean_way (stepped verdict.Clean a).completion (next_block a) d (stepped verdict.Clean a) refl refl (way.quiet up).late does way.attention (way.quiet up).clear
-way_stepped (verdict.Burst at pattern) a d up way =
-    stopped_way (verdict.Burst at pattern) (next_block a) d (stepped (verdict.Burst at pattern) a) refl refl (way.quiet up).late way.attention (way.quiet up).clear
-way_stepped verdict.Hard a d up way =
-    stopped_way verdict.Hard (next_block a) d (stepped verdict.Hard a) refl refl (way.quiet up).late way.attention (way.quiet up).clear
-way_stepped verdict.Marked a d up way =
-    stopped_way verdict.Marked (next_block a) d (stepped verdict.Marked a) refl refl (way.quiet up).late way.attention (way.quiet up).clear
 way_stepped (verdict.Faulted kind) a d up way =
     stopped_way (verdict.Faulted kind) (next_block a) d (stepped (verdict.Faulted kind) a) refl refl (ap (late_after kind) (way.quiet up).late)
     way.attention (way.quiet up).clear
-way_stepped verdict.Offline a d up way =
-    stopped_way verdict.Offline (next_block a) d (stepped verdict.Offline a) refl refl (way.quiet up).late way.attention (way.quiet up).clear
+way_stepped other a d up way =
+    stopped_way other (next_block a) d (stepped other a) refl refl (way.quiet up).late way.attention (way.quiet up).clear
 
 -- a step leaves what was started
 pub record IsStepOf (a b : AdapterState) : Type 0 where
@@ -150,11 +137,7 @@ step_of = record {
 
 is_step : (v : Moved) (a : AdapterState) → IsStepOf a (stepped v a)
 is_step verdict.Clean a = step_of
-is_step (verdict.Burst at pattern) a = step_of
-is_step verdict.Hard a = step_of
-is_step verdict.Marked a = step_of
-is_step (verdict.Faulted kind) a = step_of
-is_step verdict.Offline a = step_of
+is_step other a = step_of
 
 pub sector_phase : (line u p block : ℕ) (t : Tried) (s : Scene) → SceneOk u s → IsBusyFor s.adapter.state (drive_of u) false
     → IsPhase u (effect line u p (deed.Sector block t) s).unit (effect line u p (deed.Sector block t) s).adapter s.held s.unit.phase
@@ -232,11 +215,7 @@ stepped_adapter verdict.Clean a k busy = record {
   counted = λ e. still_counted a.byte_count (bytes_loaded a) a.moved (k.counted busy);
   left = λ e f. some_left (a.byte_count - min 512 a.byte_count) f;
 }
-stepped_adapter (verdict.Burst at pattern) a k busy = stopped_adapter a _ _ k
-stepped_adapter verdict.Hard a k busy = stopped_adapter a _ _ k
-stepped_adapter verdict.Marked a k busy = stopped_adapter a _ _ k
-stepped_adapter (verdict.Faulted kind) a k busy = stopped_adapter a _ _ k
-stepped_adapter verdict.Offline a k busy = stopped_adapter a _ _ k
+stepped_adapter other a k busy = stopped_adapter a _ _ k
 
 -- where the completion goes up behind a clean sector, all moved
 all_moved : (bytes all moved count : ℕ) → bytes ≡ all - 512 * moved → 0 < bytes → all ≤ 512 * count → 512 * count < all + 512
@@ -246,11 +225,7 @@ all_moved bytes all moved count counted some few many none = omega arith
 over_stepped : (v : Moved) (a : AdapterState) → IsAdapter a → a.busy ≡ true → a.completion ≡ false
     → IsEndedAt (stepped v a).verdict (stepped v a).moved (stepped v a).count
 over_stepped verdict.Clean a k busy up = let less = moved_less a k busy up in (omega arith, omega (arith, less))
-over_stepped (verdict.Burst at pattern) a k busy up = moved_less a k busy up
-over_stepped verdict.Hard a k busy up = moved_less a k busy up
-over_stepped verdict.Marked a k busy up = moved_less a k busy up
-over_stepped (verdict.Faulted kind) a k busy up = moved_less a k busy up
-over_stepped verdict.Offline a k busy up = moved_less a k busy up
+over_stepped other a k busy up = moved_less a k busy up
 
 whole_stepped : (v : Moved) (a : AdapterState) → IsAdapter a → a.busy ≡ true → a.completion ≡ false → (stepped v a).completion ≡ true
     → (stepped v a).verdict ≡ verdict.Clean → (stepped v a).moved ≡ (stepped v a).count
@@ -259,19 +234,11 @@ whole_stepped verdict.Clean a k busy up on clean =
     let inside = k.inside in
     all_moved a.byte_count (bytes_loaded a) a.moved a.count (k.counted busy) (k.left busy up) (loaded_few a.blocks a.last a.skip a.count)
     (loaded_many a.blocks a.last a.skip a.count (k.last_some (omega (arith, inside, less))) (omega (arith, less))) (eqb-true _ _ on)
-whole_stepped (verdict.Burst at pattern) a k busy up on clean = absurd (grind (arith, clean))
-whole_stepped verdict.Hard a k busy up on clean = absurd (grind (arith, clean))
-whole_stepped verdict.Marked a k busy up on clean = absurd (grind (arith, clean))
-whole_stepped (verdict.Faulted kind) a k busy up on clean = absurd (grind (arith, clean))
-whole_stepped verdict.Offline a k busy up on clean = absurd (grind (arith, clean))
+whole_stepped other a k busy up on clean = absurd (grind (arith, clean))
 
 stepped_verdict : (v : Moved) (a : AdapterState) → (stepped v a).verdict ≡ v
 stepped_verdict verdict.Clean a = refl
-stepped_verdict (verdict.Burst at pattern) a = refl
-stepped_verdict verdict.Hard a = refl
-stepped_verdict verdict.Marked a = refl
-stepped_verdict (verdict.Faulted kind) a = refl
-stepped_verdict verdict.Offline a = refl
+stepped_verdict other a = refl
 
 -- a burst lies in the word
 burst_at : (at pattern r : ℕ) → IsBurst at pattern r → IsBurstAt at pattern

@@ -46,11 +46,8 @@ kept_held s new blocks on_bus declared queue kind held size frames answers = rec
 
 -- WHAT IS DUE is due nowhere in a transfer.
 none_in_transfer : (phase : Phase) (v : UnitView) (h : Held) (d : Deed) → next_by phase v h ≡ Some d → phase ≢ Transferring
-none_in_transfer Waiting v h d e same = grind (arith, same)
-none_in_transfer (Positioning taken) v h d e same = grind (arith, same)
-none_in_transfer Queued v h d e same = grind (arith, same)
-none_in_transfer (Due task) v h d e same = grind (arith, same)
 none_in_transfer Transferring v h d e same = grind (arith, e)
+none_in_transfer other v h d e same = grind (arith, same)
 
 pub not_transferring : (u : ℕ) (d : Deed) (s : Scene) → IsNext u d s → s.unit.phase ≢ Transferring
 not_transferring u d s (inl next) same = none_in_transfer s.unit.phase s.unit s.held d next same

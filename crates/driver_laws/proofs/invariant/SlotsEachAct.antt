@@ -46,22 +46,8 @@ going_parts w line u id d s i may on =
     (λ e. subst (λ (x : ℕ). (unit_at w x).phase ≡ Transferring) (own w s u id i) ((slot_ok w s u id i).bus e).1))
 
 done_parts : (w : World) (line u id : ℕ) (d : Deed) → Sound w → InHand w u id → May u d (scene_of w u) → AreParts (after w (Of line u id d))
-done_parts w line u id deed.Arrive s i may = going_parts w line u id deed.Arrive s i may tt
-done_parts w line u id (deed.Sector block t) s i may = going_parts w line u id (deed.Sector block t) s i may tt
-done_parts w line u id (deed.Intr moved last) s i may = going_parts w line u id (deed.Intr moved last) s i may tt
-done_parts w line u id (deed.Attn taken) s i may = going_parts w line u id (deed.Attn taken) s i may tt
-done_parts w line u id (deed.Search target sector) s i may = going_parts w line u id (deed.Search target sector) s i may tt
-done_parts w line u id (deed.Do step taken) s i may = going_parts w line u id (deed.Do step taken) s i may tt
-done_parts w line u id (deed.Move write segment) s i may = going_parts w line u id (deed.Move write segment) s i may tt
-done_parts w line u id deed.Pack s i may = going_parts w line u id deed.Pack s i may tt
-done_parts w line u id (deed.Dclr moved last) s i may = going_parts w line u id (deed.Dclr moved last) s i may tt
-done_parts w line u id deed.Rtc s i may = going_parts w line u id deed.Rtc s i may tt
-done_parts w line u id (deed.Ready t) s i may = going_parts w line u id (deed.Ready t) s i may tt
-done_parts w line u id (deed.Repair moved at pattern) s i may = going_parts w line u id (deed.Repair moved at pattern) s i may tt
-done_parts w line u id (deed.Forward moved index) s i may = going_parts w line u id (deed.Forward moved index) s i may tt
-done_parts w line u id (deed.Continue moved) s i may = going_parts w line u id (deed.Continue moved) s i may tt
-done_parts w line u id (deed.Try moved block number next) s i may = going_parts w line u id (deed.Try moved block number next) s i may tt
 done_parts w line u id (deed.End kind) s i may = end_parts w s line u id i kind may
+done_parts w line u id other s i may = going_parts w line u id other s i may tt
 
 changed_parts : (w : World) (input : Input) → Sound w → MayChange w input → AreParts (changed input w)
 changed_parts w (script.Turn u sector) s may = drive_parts w s u (turned sector) may.0.unit refl

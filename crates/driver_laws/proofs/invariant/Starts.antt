@@ -29,18 +29,15 @@ replicate_at (suc n) (suc i) x = replicate_at n i x
 
 some_cylinders : (kind : DriveKind) → 0 < cylinders_of kind
 some_cylinders Rp06 = omega arith
-some_cylinders Rm03 = omega arith
-some_cylinders Rm05 = omega arith
+some_cylinders other = omega arith
 
 some_sectors : (kind : DriveKind) → 0 < sectors_of kind
 some_sectors Rp06 = omega arith
-some_sectors Rm03 = omega arith
-some_sectors Rm05 = omega arith
+some_sectors other = omega arith
 
 first_addressed : (kind : DriveKind) (unit : ℕ) → is_addressed (attached kind unit) ≡ true
 first_addressed Rp06 unit = refl
-first_addressed Rm03 unit = refl
-first_addressed Rm05 unit = refl
+first_addressed other unit = refl
 
 attached_is : (kind : DriveKind) (unit : ℕ) → IsDrive (attached kind unit)
 attached_is kind unit = record {

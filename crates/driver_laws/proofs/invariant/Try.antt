@@ -39,10 +39,7 @@ failures_few moved failures most other = by_test (moved == 0) other
 pub failed_less : (last : Moved) (moved count : ℕ) → IsFailure last → IsEndedAt last moved count → moved < count
 failed_less (verdict.Faulted kind) moved count fails is = is
 failed_less verdict.Hard moved count fails is = is
-failed_less verdict.Clean moved count fails is = absurd fails
-failed_less (verdict.Burst at pattern) moved count fails is = absurd fails
-failed_less verdict.Marked moved count fails is = absurd fails
-failed_less verdict.Offline moved count fails is = absurd fails
+failed_less other moved count fails is = absurd fails
 
 -- what is listed stays so where the place does not move on
 listed_on : (index : Option ℕ) (job : Job) (places : List Place) (kind : DriveKind) (first done moved : ℕ) → moved < (segment_by index job done).count
@@ -81,16 +78,6 @@ try_by retry.Again moved s is still less at = (
   failed_begun moved Command s is less (λ e. absurd (grind (arith, at, last_try moved (transfer_of s.unit) e))),
   record { work = still.work; attention = still.attention; clear = still.clear },
 )
-try_by (retry.Offset code) moved s is still less at = (
-  failed_begun moved (Steps 0) s is less (λ e. absurd (grind (arith, at, last_try moved (transfer_of s.unit) e))),
-  record { work = still.work; attention = still.attention; clear = still.clear },
-  omega arith,
-)
-try_by (retry.Recalibrate code) moved s is still less at = (
-  failed_begun moved (Steps 0) s is less (λ e. absurd (grind (arith, at, last_try moved (transfer_of s.unit) e))),
-  record { work = still.work; attention = still.attention; clear = still.clear },
-  omega arith,
-)
 try_by retry.GiveUp moved s is still less at =
     let t : TransferState = transfer_of s.unit in
     let count : t.job.count ≡ s.held.loan.count = ap (λ (j : Job). j.count) is.job in (
@@ -98,6 +85,11 @@ try_by retry.GiveUp moved s is still less at =
       record { work = still.work; attention = still.attention; clear = still.clear },
       subst (λ n. t.done + moved < n) count (left_by t.index t.job t.done moved is.is.left less),
     )
+try_by other moved s is still less at = (
+  failed_begun moved (Steps 0) s is less (λ e. absurd (grind (arith, at, last_try moved (transfer_of s.unit) e))),
+  record { work = still.work; attention = still.attention; clear = still.clear },
+  omega arith,
+)
 
 next_of_try : (moved block number many from count : ℕ) (next task : Task) → deed.Try moved block number next ≡ deed.Try many from count task → next ≡ task
 next_of_try moved block number many from count next task e = cc

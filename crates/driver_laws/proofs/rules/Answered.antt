@@ -36,13 +36,7 @@ is_refused deed = false
 named : (wish : Wish) (s : Replay) (line unit id done : ℕ) (cause : Cause) → ToldMay wish s line unit id (End (Failed cause done)) → ServiceMay (s.units unit).service id
 unfolding is_refused
 named (Refusal u i why) s line unit id done cause may = absurd (no (ap is_refused may.answered ∙ refused_is why))
-named NoLine s line unit id done cause may = may.service
-named (DueLine u) s line unit id done cause may = may.service
-named (Arrival u) s line unit id done cause may = may.service
-named (SectorLine u) s line unit id done cause may = may.service
-named (Interrupt u) s line unit id done cause may = may.service
-named (Attention u) s line unit id done cause may = may.service
-named IdleLine s line unit id done cause may = may.service
+named other s line unit id done cause may = may.service
 
 id_of_head : (head : Option Request) (id : ℕ) → ids head ≡ Some id → (request_or_none head).id ≡ id
 id_of_head None id is = absurd (none-some id is)

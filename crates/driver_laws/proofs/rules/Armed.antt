@@ -71,17 +71,7 @@ same_armed new old is kind e = subst (λ z. nat_lt 0 (times_armed kind z) ≡ tr
 
 effect_armed : (f : Function) (d : DriveState) → (effect f d).armed ≡ d.armed
 effect_armed function.Nop d = refl
-effect_armed function.Seek d = refl
-effect_armed function.Search d = refl
-effect_armed function.Recal d = refl
-effect_armed function.Offset d = refl
-effect_armed function.Centre d = refl
-effect_armed function.Clear d = refl
-effect_armed function.Preset d = refl
-effect_armed function.Pack d = refl
-effect_armed function.Read d = refl
-effect_armed function.Write d = refl
-effect_armed function.WriteHeader d = refl
+effect_armed other d = refl
 
 armed_of_either : (b : Bool) (x y : DriveState) (c : Armed) → x.armed ≡ c → y.armed ≡ c → (if b then x else y).armed ≡ c
 armed_of_either true x y c p q = p
@@ -94,28 +84,20 @@ performed_armed f d =
 
 arrived_armed : (w : Work) (d : DriveState) → (arrived_from w d).armed ≡ d.armed
 arrived_armed work.Ready d = refl
-arrived_armed (work.Positioning c y) d = refl
-arrived_armed (work.Transfer write) d = refl
+arrived_armed other d = refl
 
 bits_armed : (k : FaultKind) (d : DriveState) → (with_fault_bits k d).armed ≡ d.armed
 bits_armed fault.Seek d = refl
-bits_armed fault.Opi d = refl
-bits_armed fault.Dte d = refl
-bits_armed fault.Hcrc d = refl
-bits_armed fault.Late d = refl
+bits_armed other d = refl
 
 marks_armed : (kind : DriveKind) (d : DriveState) → (with_mark_bits kind d).armed ≡ d.armed
 marks_armed Rp06 d = refl
-marks_armed Rm03 d = refl
-marks_armed Rm05 d = refl
+marks_armed other d = refl
 
 moved_less : (v : Moved) (block : ℕ) (d : DriveState) → IsLess (after_move v block d).armed d.armed
-moved_less verdict.Clean block d = λ kind e. e
-moved_less (verdict.Burst at q) block d = λ kind e. e
-moved_less verdict.Hard block d = λ kind e. e
 moved_less (verdict.Faulted k) block d = λ kind e. used_less k kind d.armed (subst (λ z. nat_lt 0 (times_armed kind z) ≡ true) (bits_armed k (fault_used k d)) e)
 moved_less verdict.Marked block d = same_armed (with_mark_bits d.kind d) d (marks_armed d.kind d)
-moved_less verdict.Offline block d = λ kind e. e
+moved_less other block d = λ kind e. e
 
 less_of_either : (b : Bool) (x : DriveState) (old : Armed) → IsLess x.armed old → IsLess (if b then transfer_ended x else x).armed old
 less_of_either true x old is = is
@@ -136,10 +118,7 @@ line_arms_none d a target Pack = same_armed (drive_after d a target Pack) d (per
 line_arms_none d a target (Transfer w b k) = same_armed (drive_after d a target (Transfer w b k)) d (transfer_armed w (addressed (place_at d.kind b) d))
 line_arms_none d a target Arrive = same_armed (drive_after d a target Arrive) d (arrived_armed d.work d)
 line_arms_none d a target (Sector b v) = less_of_either (stepped v a).completion (after_move v (next_block a) d) d.armed (moved_less v (next_block a) d)
-line_arms_none d a target Intr = λ kind e. e
-line_arms_none d a target (Try b f) = λ kind e. e
-line_arms_none d a target Attn = λ kind e. e
-line_arms_none d a target (End answer) = λ kind e. e
+line_arms_none d a target other = λ kind e. e
 
 -- ---- what a verdict tells
 tag : Moved → ℕ

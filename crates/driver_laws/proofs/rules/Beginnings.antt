@@ -26,11 +26,7 @@ use Rattle.driver_laws.proofs.rules.Asked.{AreFree, free_after_steps, free_joine
 -- ---- fewer reads are claimed
 fewer_claimed : (more less : Type 0) (blocks : Blocks) (first : ℕ) (r : Request) (answer : Answer) → (less → more) → MayAnswer more blocks first r answer → MayAnswer less blocks first r answer
 fewer_claimed more less blocks first r (ReadOk bytes) implied may = (may.0, may.1, may.2, (λ claimed. may.3 (implied claimed)))
-fewer_claimed more less blocks first r WriteOk implied may = may
-fewer_claimed more less blocks first r (Failed cause done) implied may = may
-fewer_claimed more less blocks first r OutsidePartition implied may = may
-fewer_claimed more less blocks first r EndOfPartition implied may = may
-fewer_claimed more less blocks first r NoFrames implied may = may
+fewer_claimed more less blocks first r other implied may = may
 
 pub steps_claim : (drives : ℕ → Option DriveKind) (more less : (line : ℕ) → Request → Type 0) (line : ℕ) (m : Machine) (answers : List Answered) (new : Machine) → ((r : Request) → less line r → more line r)
     → Steps drives more line m answers new → Steps drives less line m answers new
@@ -96,17 +92,9 @@ later_covers setup claims armed from line before covers at r le claimed = covers
 
 still_covers : (setup : Setup) (claims : (line : ℕ) → Request → Type 0) (armed : List LiveNoise) (from line : ℕ) (input : Input) → from ≤ line → covered_by setup claims line input → Covers setup claims armed from
     → Covers setup claims (armed_by armed input) line
-still_covers setup claims armed from line (Submit r) before is covers = later_covers setup claims armed from line before covers
-still_covers setup claims armed from line (ArriveAt u) before is covers = later_covers setup claims armed from line before covers
-still_covers setup claims armed from line (MoveAt a) before is covers = later_covers setup claims armed from line before covers
-still_covers setup claims armed from line (AttendTo a) before is covers = later_covers setup claims armed from line before covers
-still_covers setup claims armed from line Drain before is covers = later_covers setup claims armed from line before covers
-still_covers setup claims armed from line (Turn u y) before is covers = later_covers setup claims armed from line before covers
 still_covers setup claims armed from line (Noise n) before is covers = λ at r le claimed k sector lt home.
     (later_covers setup claims armed from line before covers at r le claimed k sector lt home, (λ unit here. is at r k le claimed lt unit (home ∙ ap Some (sym here))))
-still_covers setup claims armed from line (Arm u kind n) before is covers = later_covers setup claims armed from line before covers
-still_covers setup claims armed from line (SetOnline u on) before is covers = later_covers setup claims armed from line before covers
-still_covers setup claims armed from line (SetLocked u on) before is covers = later_covers setup claims armed from line before covers
+still_covers setup claims armed from line other before is covers = later_covers setup claims armed from line before covers
 
 -- ---- ids that are to come stay free
 free_submitted : (r : Request) (ids : List ℕ) (m : Machine) (met : Submission) → list_any (λ other. other == r.id) ids ≡ false → AreFree ids m.outstanding → AreFree ids (machine_submitted m r met).outstanding
@@ -121,15 +109,7 @@ pub record AreToCome (drives : ℕ → Option DriveKind) (m : Machine) (input : 
 come_behind : (drives : ℕ → Option DriveKind) (m : Machine) (line : ℕ) (input : Input) (ids : List ℕ) → AreApart (with_asked input ids) → AreFree (with_asked input ids) m.outstanding
     → IsNew m (Played line input) × AreToCome drives m input ids
 come_behind drives m line (Submit r) ids apart free = (free.0, record { apart = apart.1; free = free_submitted r ids m (meets drives m r) apart.0 free.1 })
-come_behind drives m line (ArriveAt u) ids apart free = (tt, record { apart = apart; free = free })
-come_behind drives m line (MoveAt a) ids apart free = (tt, record { apart = apart; free = free })
-come_behind drives m line (AttendTo a) ids apart free = (tt, record { apart = apart; free = free })
-come_behind drives m line Drain ids apart free = (tt, record { apart = apart; free = free })
-come_behind drives m line (Turn u y) ids apart free = (tt, record { apart = apart; free = free })
-come_behind drives m line (Noise n) ids apart free = (tt, record { apart = apart; free = free })
-come_behind drives m line (Arm u kind n) ids apart free = (tt, record { apart = apart; free = free })
-come_behind drives m line (SetOnline u on) ids apart free = (tt, record { apart = apart; free = free })
-come_behind drives m line (SetLocked u on) ids apart free = (tt, record { apart = apart; free = free })
+come_behind drives m line other ids apart free = (tt, record { apart = apart; free = free })
 
 -- ---- FROM A STATE ON. First the answers of the line that was played last, and then those to the lines behind it.
 pub record Goes (setup : Setup) (claims : (line : ℕ) → Request → Type 0) (armed : List LiveNoise) (s : Replay) (m : Machine) (ms : List Moment) : Type 0 where
@@ -184,19 +164,7 @@ played_goes setup claims armed s m line input ms after covers step g = record {
 
 answers_told : (line unit id : ℕ) (deed : Deed) (ms : List Moment) → answers_in (Told line unit id deed ∷ ms) ≡ told_by (Told line unit id deed) ++ answers_in ms
 answers_told line unit id (Search c y) ms = refl
-answers_told line unit id (Seek c) ms = refl
-answers_told line unit id Recal ms = refl
-answers_told line unit id (Offset o) ms = refl
-answers_told line unit id Centre ms = refl
-answers_told line unit id Clear ms = refl
-answers_told line unit id Pack ms = refl
-answers_told line unit id (Transfer w b k) ms = refl
-answers_told line unit id Arrive ms = refl
-answers_told line unit id (Sector b v) ms = refl
-answers_told line unit id Intr ms = refl
-answers_told line unit id (Try b f) ms = refl
-answers_told line unit id Attn ms = refl
-answers_told line unit id (End a) ms = refl
+answers_told line unit id other ms = refl
 
 le_same : (n : ℕ) → n ≤ n
 le_same n = omega arith

@@ -88,13 +88,7 @@ ids_join (n ∷ xs) ys = one n.input (ids_asked xs) (ids_asked ys) (ids_asked (x
 -- a refusal that is owed leaves the map
 owed_left : (drives : ℕ → Option DriveKind) (all : List Numbered) (blocks : ℕ → Blocks) (wish : Wish) (line : ℕ) → left_behind drives all blocks (owed_by wish line) ≡ blocks
 owed_left drives all blocks (Refusal unit id why) line = refusal_left drives (asked_in id all) why blocks
-owed_left drives all blocks NoLine line = refl
-owed_left drives all blocks (DueLine u) line = refl
-owed_left drives all blocks (Arrival u) line = refl
-owed_left drives all blocks (SectorLine u) line = refl
-owed_left drives all blocks (Interrupt u) line = refl
-owed_left drives all blocks (Attention u) line = refl
-owed_left drives all blocks IdleLine line = refl
+owed_left drives all blocks other line = refl
 
 -- ---- the laws that it follows from
 pub record Laws : Type 0 where

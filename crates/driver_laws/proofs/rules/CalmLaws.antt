@@ -35,19 +35,7 @@ verdict_calm s unit (Sector block v) calm may =
     (ap (λ (z : List LiveNoise). strikes unit block (s.units unit).drive.offset z) calm.live)
     (subst (λ z. IsVerdictBy z (s.surface.is_marked unit block) (is_writing (s.units unit).drive.work) (flips_at s.surface unit (s.units unit).drive block) v)
     (stopped_not (s.units unit).drive (calm.drives unit)) may))
-verdict_calm s unit (Search c y) calm may = tt
-verdict_calm s unit (Seek c) calm may = tt
-verdict_calm s unit Recal calm may = tt
-verdict_calm s unit (Offset o) calm may = tt
-verdict_calm s unit Centre calm may = tt
-verdict_calm s unit Clear calm may = tt
-verdict_calm s unit Pack calm may = tt
-verdict_calm s unit (Transfer w b k) calm may = tt
-verdict_calm s unit Arrive calm may = tt
-verdict_calm s unit Intr calm may = tt
-verdict_calm s unit (Try b f) calm may = tt
-verdict_calm s unit Attn calm may = tt
-verdict_calm s unit (End answer) calm may = tt
+verdict_calm s unit other calm may = tt
 
 -- ---- one unit is replaced
 each_unit : (P : UnitSeen → Type 0) (units : ℕ → UnitSeen) (k : ℕ) (u : UnitSeen) (x : ℕ) → P u → P (units x) → P (with_state units k u x)
@@ -70,19 +58,7 @@ live_calm : (s : Replay) (unit : ℕ) (deed : Deed) → s.surface.live ≡ [] �
 live_calm s unit (Sector block v) none =
     written_by (was_written (s.units unit).drive v) (surface_read (was_read (s.units unit).drive v) s.surface unit (s.units unit).drive block) unit block
     (in_hand (s.units unit).service) (s.units unit).progress.done (read_by (was_read (s.units unit).drive v) s.surface unit (s.units unit).drive block none)
-live_calm s unit (Search c y) none = none
-live_calm s unit (Seek c) none = none
-live_calm s unit Recal none = none
-live_calm s unit (Offset o) none = none
-live_calm s unit Centre none = none
-live_calm s unit Clear none = none
-live_calm s unit Pack none = none
-live_calm s unit (Transfer w b k) none = none
-live_calm s unit Arrive none = none
-live_calm s unit Intr none = none
-live_calm s unit (Try b f) none = none
-live_calm s unit Attn none = none
-live_calm s unit (End answer) none = none
+live_calm s unit other none = none
 
 -- ---- a line of a unit
 unit_good : (s : Replay) (unit : ℕ) (deed : Deed) → IsCalmDeed deed → IsCalm s → IsGood (unit_after s unit deed).drive
@@ -106,24 +82,13 @@ refusal_deed : (why : Rejection) → IsCalmDeed (End (rejection_answer why))
 refusal_deed why = tt
 
 deed_calm : (wish : Wish) (s : Replay) (line unit id : ℕ) (deed : Deed) → IsCalm s → ToldMay wish s line unit id deed → IsCalmDeed deed
-deed_calm NoLine s line unit id deed calm may = verdict_calm s unit deed calm may.verdict
-deed_calm (DueLine u) s line unit id deed calm may = verdict_calm s unit deed calm may.verdict
-deed_calm (Arrival u) s line unit id deed calm may = verdict_calm s unit deed calm may.verdict
-deed_calm (SectorLine u) s line unit id deed calm may = verdict_calm s unit deed calm may.verdict
-deed_calm (Interrupt u) s line unit id deed calm may = verdict_calm s unit deed calm may.verdict
-deed_calm (Attention u) s line unit id deed calm may = verdict_calm s unit deed calm may.verdict
 deed_calm (Refusal u i why) s line unit id deed calm may = subst IsCalmDeed (sym may.answered) (refusal_deed why)
-deed_calm IdleLine s line unit id deed calm may = verdict_calm s unit deed calm may.verdict
+deed_calm other s line unit id deed calm may = verdict_calm s unit deed calm may.verdict
 
 -- ---- a line of the script
 joined_stage : (stage : Stage) (d : DriveState) (r : Request) → is_calm_stage stage ≡ true → is_calm_stage (stage_joined stage d r) ≡ true
 joined_stage Waiting d r calm = begun_calm d (Some r)
-joined_stage (Steps left segment) d r calm = calm
-joined_stage (UnderWay left segment) d r calm = calm
-joined_stage (AtOnce segment) d r calm = calm
-joined_stage (Moving segment left last) d r calm = calm
-joined_stage (Saying lines next) d r calm = calm
-joined_stage (Ending answer) d r calm = calm
+joined_stage other d r calm = calm
 
 submitted_calm : (s : Replay) (r : Request) (met : Submission) → IsCalm s → IsCalm (submitted s r met)
 submitted_calm s r (Refused why) calm = calm
@@ -139,10 +104,6 @@ turned_good b sector d g = either_good b (turned sector d) d g g
 
 pub played_calm : (s : Replay) (input : Input) → is_calm_input input ≡ true → IsCalm s → IsCalm (replay_played s input)
 played_calm s (Submit r) is calm = submitted_calm s r (submission s r) calm
-played_calm s (ArriveAt u) is calm = calm
-played_calm s (MoveAt a) is calm = calm
-played_calm s (AttendTo a) is calm = calm
-played_calm s Drain is calm = calm
 played_calm s (Turn u sector) is calm = record {
   drives = λ x. turned_good (x == u) sector (s.units x).drive (calm.drives x);
   stages = calm.stages;
@@ -152,6 +113,7 @@ played_calm s (Noise noise) is calm = absurd (no is)
 played_calm s (Arm u kind times) is calm = absurd (no is)
 played_calm s (SetOnline u on) is calm = absurd (no is)
 played_calm s (SetLocked u on) is calm = absurd (no is)
+played_calm s other is calm = calm
 
 -- ---- ALL OF IT
 pub stays_calm : StaysCalm
@@ -179,14 +141,8 @@ refused_end answer why is none = absurd (no (sym (subst (λ z. is_refused_at_onc
     refusal FramesShort = refl
 
 end_by : (wish : Wish) (s : Replay) (line unit id : ℕ) (answer : Answer) → IsCalm s → ToldMay wish s line unit id (End answer) → IsCalmEnd answer
-end_by NoLine s line unit id answer calm may none = end_calm (s.units unit).drive (hand_of (s.units unit)) (s.units unit).stage answer (calm.drives unit) (calm.stages unit) may.talk
-end_by (DueLine u) s line unit id answer calm may none = end_calm (s.units unit).drive (hand_of (s.units unit)) (s.units unit).stage answer (calm.drives unit) (calm.stages unit) may.talk
-end_by (Arrival u) s line unit id answer calm may none = end_calm (s.units unit).drive (hand_of (s.units unit)) (s.units unit).stage answer (calm.drives unit) (calm.stages unit) may.talk
-end_by (SectorLine u) s line unit id answer calm may none = end_calm (s.units unit).drive (hand_of (s.units unit)) (s.units unit).stage answer (calm.drives unit) (calm.stages unit) may.talk
-end_by (Interrupt u) s line unit id answer calm may none = end_calm (s.units unit).drive (hand_of (s.units unit)) (s.units unit).stage answer (calm.drives unit) (calm.stages unit) may.talk
-end_by (Attention u) s line unit id answer calm may none = end_calm (s.units unit).drive (hand_of (s.units unit)) (s.units unit).stage answer (calm.drives unit) (calm.stages unit) may.talk
 end_by (Refusal u i why) s line unit id answer calm may none = refused_end answer why may.answered none
-end_by IdleLine s line unit id answer calm may none = end_calm (s.units unit).drive (hand_of (s.units unit)) (s.units unit).stage answer (calm.drives unit) (calm.stages unit) may.talk
+end_by other s line unit id answer calm may none = end_calm (s.units unit).drive (hand_of (s.units unit)) (s.units unit).stage answer (calm.drives unit) (calm.stages unit) may.talk
 
 pub ends_are_calm : EndsAreCalm
 ends_are_calm s line unit id answer calm may = end_by (next_wish s) s line unit id answer calm may

@@ -21,12 +21,6 @@ home_known None table pack block home is = absurd (none-some home is)
 home_known (Some kind) table pack block home is = is
 
 covered_one : (setup : Setup) (inputs : List Numbered) (at : ℕ) (input : Input) → Contains inputs (record { line = at; input = input }) → covered_by setup (unaliased setup.drives setup.tables setup.packs inputs) at input
-covered_one setup inputs at (Submit r) listed = tt
-covered_one setup inputs at (ArriveAt u) listed = tt
-covered_one setup inputs at (MoveAt a) listed = tt
-covered_one setup inputs at (AttendTo a) listed = tt
-covered_one setup inputs at Drain listed = tt
-covered_one setup inputs at (Turn u y) listed = tt
 covered_one setup inputs at (Noise n) listed = λ line r k before claimed is_block unit home alias. claimed (record {
   at = at;
   noise = n;
@@ -38,9 +32,7 @@ covered_one setup inputs at (Noise n) listed = λ line r k before claimed is_blo
   is_block = is_block;
   at_home = home_known (setup.drives r.unit) (setup.tables r.unit) (setup.packs r.unit) (first_block (kind_of setup.drives r.unit) r + k) n.block home;
 })
-covered_one setup inputs at (Arm u kind n) listed = tt
-covered_one setup inputs at (SetOnline u on) listed = tt
-covered_one setup inputs at (SetLocked u on) listed = tt
+covered_one setup inputs at other listed = tt
 
 each_from : {X : Type 0} (P Q : X → Type 0) → ((x : X) → P x → Q x) → (xs : List X) → All P xs → AllByRecursion Q xs
 each_from P Q implied [] all = tt
@@ -51,16 +43,8 @@ unaliased_covered setup inputs =
     each_from (Contains inputs) (λ (n : Numbered). covered_by setup (unaliased setup.drives setup.tables setup.packs inputs) n.line n.input) (λ n listed. covered_one setup inputs n.line n.input listed) inputs (All-contains_itself inputs)
 
 none_covered : (setup : Setup) (at : ℕ) (input : Input) → IsNoAlias input → covered_by setup all_claimed at input
-none_covered setup at (Submit r) is = tt
-none_covered setup at (ArriveAt u) is = tt
-none_covered setup at (MoveAt a) is = tt
-none_covered setup at (AttendTo a) is = tt
-none_covered setup at Drain is = tt
-none_covered setup at (Turn u y) is = tt
 none_covered setup at (Noise n) is = λ line r k before claimed is_block unit home. is
-none_covered setup at (Arm u kind n) is = tt
-none_covered setup at (SetOnline u on) is = tt
-none_covered setup at (SetLocked u on) is = tt
+none_covered setup at other is = tt
 
 pub all_covered : (setup : Setup) (inputs : List Numbered) → AreNoAliases inputs → AreCovered setup all_claimed inputs
 all_covered setup [] are = tt

@@ -94,28 +94,16 @@ tried_clean : (setup : Setup) (all : List Moment) (line unit id block : ℕ) (v 
 tried_clean setup all line unit id block verdict.Clean first bytes p calm home there clean k lt =
     one_more (λ j. MovedClean setup unit (first + j) all) p.done k lt clean (record { sector = block; home = home refl; line = line; id = id; moved = there })
 tried_clean setup all line unit id block (verdict.Burst at q) first bytes p calm home there clean k lt = absurd (no calm)
-tried_clean setup all line unit id block verdict.Hard first bytes p calm home there clean k lt = clean k lt
-tried_clean setup all line unit id block (verdict.Faulted f) first bytes p calm home there clean k lt = clean k lt
-tried_clean setup all line unit id block verdict.Marked first bytes p calm home there clean k lt = clean k lt
-tried_clean setup all line unit id block verdict.Offline first bytes p calm home there clean k lt = clean k lt
+tried_clean setup all line unit id block other first bytes p calm home there clean k lt = clean k lt
 
 -- an interrupt came
 last_calm : (stage : Stage) → is_calm_stage stage ≡ true → is_calm_verdict (last_of stage) ≡ true
-last_calm Waiting calm = refl
-last_calm (StepsLeft left segment) calm = refl
-last_calm (UnderWay left segment) calm = refl
-last_calm (AtOnce segment) calm = refl
 last_calm (Moving segment left last) calm = calm
-last_calm (Saying lines next) calm = refl
-last_calm (Ending answer) calm = refl
+last_calm other calm = refl
 
 interrupted_done : (v : Moved) (p : Progress) → is_calm_verdict v ≡ true → (progress_interrupted v p).done ≡ p.done
-interrupted_done verdict.Clean p calm = refl
 interrupted_done (verdict.Burst at q) p calm = absurd (no calm)
-interrupted_done verdict.Hard p calm = refl
-interrupted_done (verdict.Faulted f) p calm = refl
-interrupted_done verdict.Marked p calm = refl
-interrupted_done verdict.Offline p calm = refl
+interrupted_done other p calm = refl
 
 -- ---- A LINE of a unit
 module _ (setup : Setup) (all : List Moment) (s : Replay) (m : Machine) (line unit id : ℕ) (are : AreTablesOf setup.drives setup.packs setup.tables) (keeps : Keeps setup s)
@@ -136,31 +124,15 @@ module _ (setup : Setup) (all : List Moment) (s : Replay) (m : Machine) (line un
       (λ is. (try_of setup [] s m line unit id block v are keeps stands may).home (ap has_bytes is)) there clean k lt)
 
   own_clean : (deed : Deed) → Contains all (Told line unit id deed) → LineMay s line unit id deed → UnitClean setup all unit (unit_after s unit deed)
-  own_clean (Search c y) there may = plain (Search c y) (unit_after s unit (Search c y)).stage (s.units unit).progress refl
-  own_clean (Seek c) there may = plain (Seek c) (unit_after s unit (Seek c)).stage (s.units unit).progress refl
-  own_clean Recal there may = plain Recal (unit_after s unit Recal).stage (s.units unit).progress refl
-  own_clean (Offset o) there may = plain (Offset o) (unit_after s unit (Offset o)).stage (s.units unit).progress refl
-  own_clean Centre there may = plain Centre (unit_after s unit Centre).stage (s.units unit).progress refl
-  own_clean Clear there may = plain Clear (unit_after s unit Clear).stage (s.units unit).progress refl
-  own_clean Pack there may = plain Pack (unit_after s unit Pack).stage (s.units unit).progress refl
-  own_clean (Transfer w b c) there may = plain (Transfer w b c) (unit_after s unit (Transfer w b c)).stage (s.units unit).progress refl
-  own_clean Arrive there may = plain Arrive (unit_after s unit Arrive).stage (s.units unit).progress refl
   own_clean (Sector b v) there may = sector b v there may
   own_clean Intr there may = plain Intr (unit_after s unit Intr).stage (progress_interrupted (last_of (s.units unit).stage) (s.units unit).progress)
       (interrupted_done (last_of (s.units unit).stage) (s.units unit).progress (last_calm (s.units unit).stage (calm.stages unit)))
-  own_clean (Try b f) there may = plain (Try b f) (unit_after s unit (Try b f)).stage (s.units unit).progress refl
-  own_clean Attn there may = plain Attn (unit_after s unit Attn).stage (s.units unit).progress refl
   own_clean (End a) there may = λ k lt. absurd (none_below k lt)
+  own_clean other there may = plain other (unit_after s unit other).stage (s.units unit).progress refl
 
   told_own : (wish : Wish) (deed : Deed) → Contains all (Told line unit id deed) → ToldMay wish s line unit id deed → UnitClean setup all unit (unit_after s unit deed)
-  told_own NoLine deed there may = own_clean deed there may
-  told_own (DueLine u) deed there may = own_clean deed there may
-  told_own (Arrival u) deed there may = own_clean deed there may
-  told_own (SectorLine u) deed there may = own_clean deed there may
-  told_own (Interrupt u) deed there may = own_clean deed there may
-  told_own (Attention u) deed there may = own_clean deed there may
   told_own (Refusal u i why) deed there may = subst (λ z. UnitClean setup all unit (unit_after s unit z)) (sym may.answered) (λ k lt. absurd (none_below k lt))
-  told_own IdleLine deed there may = own_clean deed there may
+  told_own other deed there may = own_clean deed there may
 
 told_clean : (setup : Setup) (all : List Moment) (s : Replay) (m : Machine) (line unit id : ℕ) (deed : Deed) → AreTablesOf setup.drives setup.packs setup.tables → Keeps setup s
     → StandsFor setup [] s m → IsCalm s → AreClean setup all s → Contains all (Told line unit id deed) → ToldMay (next_wish s) s line unit id deed
@@ -209,17 +181,14 @@ abbrev EndClean : Setup → List Moment → Request → Answer → Type 0
 EndClean setup all r answer = (k : ℕ) → k < done_by answer r.count → MovedClean setup r.unit (first_in setup r + k) all
 
 done_same : (answer : Answer) (r : Request) (k : ℕ) → k < done_by answer r.count → k < done_in answer r
-done_same (ReadOk bytes) r k lt = lt
-done_same WriteOk r k lt = lt
-done_same (Failed cause done) r k lt = lt
 done_same OutsidePartition r k lt = absurd (none_below k lt)
 done_same EndOfPartition r k lt = absurd (none_below k lt)
 done_same NoFrames r k lt = absurd (none_below k lt)
+done_same other r k lt = lt
 
 refused_done : (why : Rejection) (count : ℕ) → done_by (rejection_answer why) count ≡ 0
 refused_done AtEnd count = refl
-refused_done Beyond count = refl
-refused_done FramesShort count = refl
+refused_done other count = refl
 
 module _ (setup : Setup) (all : List Moment) (r : Request) (s : Replay) (m : Machine) (line unit id : ℕ) (are : AreTablesOf setup.drives setup.packs setup.tables) (keeps : Keeps setup s)
     (stands : StandsFor setup [] s m) (only : IsOnly r m.outstanding) (clean : AreClean setup all s) where
@@ -268,20 +237,8 @@ record Come (setup : Setup) (all : List Moment) (r : Request) (s : Replay) (ms :
 
 told_ends : (P : Answered → Type 0) (line unit id : ℕ) (deed : Deed) (ms : List Moment) → ((answer : Answer) → deed ≡ End answer → P (record { line = line; id = id; answer = answer }))
     → AllByRecursion P (answers_in ms) → AllByRecursion P (answers_in (Told line unit id deed ∷ ms))
-told_ends P line unit id (Search c y) ms here rest = rest
-told_ends P line unit id (Seek c) ms here rest = rest
-told_ends P line unit id Recal ms here rest = rest
-told_ends P line unit id (Offset o) ms here rest = rest
-told_ends P line unit id Centre ms here rest = rest
-told_ends P line unit id Clear ms here rest = rest
-told_ends P line unit id Pack ms here rest = rest
-told_ends P line unit id (Transfer w b k) ms here rest = rest
-told_ends P line unit id Arrive ms here rest = rest
-told_ends P line unit id (Sector b v) ms here rest = rest
-told_ends P line unit id Intr ms here rest = rest
-told_ends P line unit id (Try b f) ms here rest = rest
-told_ends P line unit id Attn ms here rest = rest
 told_ends P line unit id (End a) ms here rest = (here a refl, rest)
+told_ends P line unit id other ms here rest = rest
 
 no_played : {A : Type 0} (x : A) (xs : List A) → x ∷ xs ≡ [] → ⊥
 no_played x xs e = cc

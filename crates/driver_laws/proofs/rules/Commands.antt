@@ -22,12 +22,7 @@ use Rattle.driver_laws.proofs.rules.Packs.{pack_last, one_at_most, moments_packs
 -- a unit without a request has no lines
 no_lines : (h : Hand) (stage : Stage) (lines : List Deed) → Fits h stage lines → is_waiting stage ≡ true → lines ≡ []
 no_lines h Waiting lines f is = f
-no_lines h (Steps left segment) lines f is = absurd (no is)
-no_lines h (UnderWay left segment) lines f is = absurd (no is)
-no_lines h (AtOnce segment) lines f is = absurd (no is)
-no_lines h (Moving segment left last) lines f is = absurd (no is)
-no_lines h (Saying rest next) lines f is = absurd (no is)
-no_lines h (Ending answer) lines f is = absurd (no is)
+no_lines h other lines f is = absurd (no is)
 
 -- and a request in hand asks for some blocks
 some_in_hand : (waiting : List (Waiter Request)) → AskSomeBlocks waiting → IsHeld waiting → 1 ≤ (request_or_none (first_waiting waiting)).count
@@ -61,13 +56,7 @@ end_answer deed = NoFrames
 told_service : (wish : Wish) (s : Replay) (line unit id : ℕ) (answer : Answer) → ToldMay wish s line unit id (End answer) → is_refusal answer ≡ false → ServiceMay (s.units unit).service id
 unfolding end_answer
 told_service (Refusal u i why) s line unit id answer may kept = absurd (no (sym kept ∙ ap is_refusal (ap end_answer may.answered) ∙ refused_is why))
-told_service NoLine s line unit id answer may kept = may.service
-told_service (DueLine u) s line unit id answer may kept = may.service
-told_service (Arrival u) s line unit id answer may kept = may.service
-told_service (SectorLine u) s line unit id answer may kept = may.service
-told_service (Interrupt u) s line unit id answer may kept = may.service
-told_service (Attention u) s line unit id answer may kept = may.service
-told_service IdleLine s line unit id answer may kept = may.service
+told_service other s line unit id answer may kept = may.service
 
 pub ends_are_bounded : EndsAreBounded
 ends_are_bounded drives tables surface ms line unit id answer some follows kept = (

@@ -110,13 +110,9 @@ one_moves s one other c at first second = omega (arith, at, drives)
         ∙ is_same (at_unit s other).state.drive (drive_of other) (second_of (at_unit s other).state.busy ((at_unit s other).state.drive == drive_of other) second)
 
 errors_move : (stage : Stage) → may_have_errors stage ≡ true → goes_on stage ≡ false → is_moving stage ≡ true
-errors_move Waiting is off = absurd (no is)
-errors_move (Steps left segment) is off = absurd (no is)
-errors_move (UnderWay left segment) is off = absurd (no is)
-errors_move (AtOnce segment) is off = absurd (no is)
 errors_move (Moving segment left last) is off = refl
 errors_move (Saying lines next) is off = absurd (nor off)
-errors_move (Ending answer) is off = absurd (no is)
+errors_move other is off = absurd (no is)
 
 pub are_error_free : AreErrorFree
 are_error_free s unit c over error =
@@ -140,14 +136,8 @@ rule_tag Packs = 6
 rule_tag Work = 7
 
 told_work : (wish : Wish) (s : Replay) (line unit id : ℕ) (deed : Deed) → IsConsistent s → ToldKeeps Work wish s line unit id deed
-told_work NoLine s line unit id deed c = c.event.at_work
-told_work (DueLine u) s line unit id deed c = c.event.at_work
-told_work (Arrival u) s line unit id deed c = c.event.at_work
-told_work (SectorLine u) s line unit id deed c = c.event.at_work
-told_work (Interrupt u) s line unit id deed c = c.event.at_work
-told_work (Attention u) s line unit id deed c = c.event.at_work
 told_work (Refusal u i why) s line unit id deed c = tt
-told_work IdleLine s line unit id deed c = c.event.at_work
+told_work other s line unit id deed c = c.event.at_work
 
 keeps_work : (s : Replay) (m : Moment) → IsConsistent s → Keeps Events s m → Keeps Work s m
 keeps_work s (Played line input) c events = all_at_work s c (ap is_no_line events.0)

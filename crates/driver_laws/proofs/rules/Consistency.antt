@@ -117,12 +117,10 @@ module _ (s : Replay) (line unit id : ℕ) (deed : Deed) (may : LineMay s line u
 
   same_due : (act : Act) → serves act (adapter_of unit) ≡ true → (has_interrupt act ≡ true → ⊥)
       → ((i : Bool) (ds : List ℕ) → (i ≡ true → ⊥) → CanServe (at_unit s unit).state i ds → CanServe NewAdapter.state i ds) → IsDue s.units s.adapters act → IsDue Next.units Next.adapters act
-  same_due Done is n f due = tt
-  same_due (Refusing u i why) is n f due = tt
   same_due (Arriving u) is n f due = absurd (no is)
   same_due (Trying a) is n f due = absurd (no is)
   same_due (Serving k i ds) is n f due = in_place (λ z. CanServe z.state i ds) (λ z. CanServe z.state i ds) k is (f i ds n) due
-  same_due NothingToDo is n f due = tt
+  same_due other is n f due = tt
 
   controlled : (goes_on New.stage ≡ true → serves (act_after deed s.event.act) (adapter_of unit) ≡ true) → ((k : ℕ) → LineStarted k (Next.adapters k))
       → IsDue Next.units Next.adapters (act_after deed s.event.act) → (has_interrupt (act_after deed s.event.act) ≡ true → ⊥) → IsUnderControl Next
@@ -157,34 +155,23 @@ not_ready_stays stage n xs is = ap (λ z. with_ready z n xs) (under_way stage is
 
 intr_due : (s : Replay) (line unit id : ℕ) (may : LineMay s line unit id Intr) (c : IsConsistent s) (act : Act) → serves act (adapter_of unit) ≡ true → IsDue s.units s.adapters act
     → IsDue (replay_told s unit Intr (unit_after s unit Intr)).units (replay_told s unit Intr (unit_after s unit Intr)).adapters (act_after Intr act)
-intr_due s line unit id may c Done is due = tt
-intr_due s line unit id may c (Refusing u i why) is due = tt
 intr_due s line unit id may c (Arriving u) is due = absurd (no is)
 intr_due s line unit id may c (Trying a) is due = absurd (no is)
 intr_due s line unit id may c (Serving k i ds) is due =
     in_place s line unit id Intr may c (λ z. CanServe z.state i ds) (λ z. CanServe z.state false ds) k is (λ f. record { completed = λ e. absurd (no e); up = f.up }) due
-intr_due s line unit id may c NothingToDo is due = tt
+intr_due s line unit id may c other is due = tt
 
 attn_due : (s : Replay) (line unit id : ℕ) (may : LineMay s line unit id Attn) (c : IsConsistent s) (act : Act) → serves act (adapter_of unit) ≡ true
     → wish_in s.adapters act ≡ Attention unit → IsAct act → IsDue s.units s.adapters act
     → IsDue (replay_told s unit Attn (unit_after s unit Attn)).units (replay_told s unit Attn (unit_after s unit Attn)).adapters (act_after Attn act)
-attn_due s line unit id may c Done is e are due = tt
-attn_due s line unit id may c (Refusing u i why) is e are due = tt
 attn_due s line unit id may c (Arriving u) is e are due = absurd (no is)
 attn_due s line unit id may c (Trying a) is e are due = absurd (no is)
 attn_due s line unit id may c (Serving k i ds) is e are due =
     in_place s line unit id Attn may c (λ z. CanServe (attention_lowered (drive_of unit) z.state) i (drop 1 ds)) (λ z. CanServe z.state i (drop 1 ds)) k is (λ f. f)
     (attention_served s.adapters k unit i ds e are due)
-attn_due s line unit id may c NothingToDo is e are due = tt
+attn_due s line unit id may c other is e are due = tt
 
 line_control : (s : Replay) (line unit id : ℕ) (deed : Deed) → LineMay s line unit id deed → IsConsistent s → IsUnderControl (replay_told s unit deed (unit_after s unit deed))
-line_control s line unit id (Search c y) may ok = due_control s line unit id (Search c y) may ok refl refl refl (λ i ds n f. f)
-line_control s line unit id (Seek c) may ok = due_control s line unit id (Seek c) may ok refl refl refl (λ i ds n f. f)
-line_control s line unit id Recal may ok = due_control s line unit id Recal may ok refl refl refl (λ i ds n f. f)
-line_control s line unit id (Offset o) may ok = due_control s line unit id (Offset o) may ok refl refl refl (λ i ds n f. f)
-line_control s line unit id Centre may ok = due_control s line unit id Centre may ok refl refl refl (λ i ds n f. f)
-line_control s line unit id Clear may ok = due_control s line unit id Clear may ok refl refl refl (λ i ds n f. f)
-line_control s line unit id Pack may ok = due_control s line unit id Pack may ok refl refl refl (λ i ds n f. f)
 line_control s line unit id (Transfer w b k) may ok =
     due_control s line unit id (Transfer w b k) may ok refl refl refl (λ i ds n f. record { completed = λ e. absurd (n e); up = f.up })
 line_control s line unit id Arrive may ok =
@@ -201,7 +188,7 @@ line_control s line unit id Attn may ok =
     served_control s line unit id Attn may ok refl
     (attn_due s line unit id may ok s.event.act (serving_line s unit Attn ok may.wished refl) (attention_next s unit may.wished) ok.event.act ok.event.due)
     (λ on. no_interrupt s unit Attn ok may.wished refl (sym (interrupt_same s.event.act) ∙ on))
-line_control s line unit id (End a) may ok = due_control s line unit id (End a) may ok refl refl refl (λ i ds n f. f)
+line_control s line unit id other may ok = due_control s line unit id other may ok refl refl refl (λ i ds n f. f)
 
 pub line_keeps : (s : Replay) (line unit id : ℕ) (deed : Deed) → LineMay s line unit id deed → IsConsistent s → IsConsistent (replay_told s unit deed (unit_after s unit deed))
 line_keeps s line unit id deed may c = line_consistent s line unit id deed may c (line_control s line unit id deed may c)
@@ -248,13 +235,7 @@ done_keeps s w wished is line c = record {
 
 pub told_keeps : (wish : Wish) (s : Replay) (line unit id : ℕ) (deed : Deed) → next_wish s ≡ wish → ToldMay wish s line unit id deed → IsConsistent s → IsConsistent (told_after wish s unit deed)
 told_keeps (Refusal u i why) s line unit id deed is may c = done_keeps s (Refusal u i why) is refl refl c
-told_keeps NoLine s line unit id deed is may c = drained_keeps (replay_told s unit deed (unit_after s unit deed)) (line_keeps s line unit id deed may c)
-told_keeps (DueLine u) s line unit id deed is may c = drained_keeps (replay_told s unit deed (unit_after s unit deed)) (line_keeps s line unit id deed may c)
-told_keeps (Arrival u) s line unit id deed is may c = drained_keeps (replay_told s unit deed (unit_after s unit deed)) (line_keeps s line unit id deed may c)
-told_keeps (SectorLine u) s line unit id deed is may c = drained_keeps (replay_told s unit deed (unit_after s unit deed)) (line_keeps s line unit id deed may c)
-told_keeps (Interrupt u) s line unit id deed is may c = drained_keeps (replay_told s unit deed (unit_after s unit deed)) (line_keeps s line unit id deed may c)
-told_keeps (Attention u) s line unit id deed is may c = drained_keeps (replay_told s unit deed (unit_after s unit deed)) (line_keeps s line unit id deed may c)
-told_keeps IdleLine s line unit id deed is may c = drained_keeps (replay_told s unit deed (unit_after s unit deed)) (line_keeps s line unit id deed may c)
+told_keeps other s line unit id deed is may c = drained_keeps (replay_told s unit deed (unit_after s unit deed)) (line_keeps s line unit id deed may c)
 
 -- ---- A LINE OF THE SCRIPT
 some_request : (b : Bool) (x y : List (Waiter Request)) → is_some (first_waiting x) ≡ true → is_some (first_waiting y) ≡ true → is_some (first_waiting (if b then x else y)) ≡ true
@@ -281,12 +262,7 @@ record JoinedTo (old new : Stage) (d : DriveState) : Type 0 where
 
 joined_to : (stage : Stage) (d : DriveState) (r : Request) → JoinedTo stage (stage_joined stage d r) d
 joined_to Waiting d r = record { under = refl; moving = refl; waiting = refl; queued = λ e. absurd (no e); errors = λ e. absurd (no e); said = λ e. refl; counts = λ a f e. absurd (no e) }
-joined_to (Steps left segment) d r = record { under = refl; moving = refl; waiting = refl; queued = λ e. e; errors = λ e. e; said = λ e. e; counts = λ a f. f }
-joined_to (UnderWay left segment) d r = record { under = refl; moving = refl; waiting = refl; queued = λ e. e; errors = λ e. e; said = λ e. e; counts = λ a f. f }
-joined_to (AtOnce segment) d r = record { under = refl; moving = refl; waiting = refl; queued = λ e. e; errors = λ e. e; said = λ e. e; counts = λ a f. f }
-joined_to (Moving segment left last) d r = record { under = refl; moving = refl; waiting = refl; queued = λ e. e; errors = λ e. e; said = λ e. e; counts = λ a f. f }
-joined_to (Saying lines next) d r = record { under = refl; moving = refl; waiting = refl; queued = λ e. e; errors = λ e. e; said = λ e. e; counts = λ a f. f }
-joined_to (Ending answer) d r = record { under = refl; moving = refl; waiting = refl; queued = λ e. e; errors = λ e. e; said = λ e. e; counts = λ a f. f }
+joined_to other d r = record { under = refl; moving = refl; waiting = refl; queued = λ e. e; errors = λ e. e; said = λ e. e; counts = λ a f. f }
 
 joined_agrees : (u : UnitSeen) (a : AdapterSeen) (n : ℕ) (r : Request) → Agrees u a n → Agrees (unit_joined u r) (adapter_joined a n (unit_joined u r).stage) n
 joined_agrees u a n r g = record {
@@ -429,11 +405,7 @@ played_keeps s line (MoveAt a) over c = begins s s c over (unchanged_parts s c) 
     (move_due_is s a (can_move (s.adapters a).state) refl)
 played_keeps s line (AttendTo a) over c = begins s s c over (unchanged_parts s c) line false (act_of s (AttendTo a)) 0 (attended_act a (s.adapters a)) (attended_due s.units s.adapters a)
 played_keeps s line Drain over c = begins s s c over (unchanged_parts s c) line true (act_of s Drain) 0 (drain_act_is (s.outstanding == 0) s) (drain_due_is (s.outstanding == 0) s)
-played_keeps s line (Turn u y) over c = begins s (conditions_after s (Turn u y)) c over (conditions_same s (Turn u y) c) line false Done 0 tt tt
-played_keeps s line (Noise n) over c = begins s (conditions_after s (Noise n)) c over (conditions_same s (Noise n) c) line false Done 0 tt tt
-played_keeps s line (Arm u k n) over c = begins s (conditions_after s (Arm u k n)) c over (conditions_same s (Arm u k n) c) line false Done 0 tt tt
-played_keeps s line (SetOnline u b) over c = begins s (conditions_after s (SetOnline u b)) c over (conditions_same s (SetOnline u b) c) line false Done 0 tt tt
-played_keeps s line (SetLocked u b) over c = begins s (conditions_after s (SetLocked u b)) c over (conditions_same s (SetLocked u b) c) line false Done 0 tt tt
+played_keeps s line other over c = begins s (conditions_after s other) c over (conditions_same s other c) line false Done 0 tt tt
 
 -- ---- THE WHOLE
 pub stays_consistent : StaysConsistent

@@ -25,19 +25,7 @@ unit_in IdleLine = 0
 
 pub unit_of_line : (unit : ℕ) (deed : Deed) → unit_in (wish_of unit deed) ≡ unit
 unit_of_line unit (Search c y) = refl
-unit_of_line unit (Seek c) = refl
-unit_of_line unit Recal = refl
-unit_of_line unit (Offset o) = refl
-unit_of_line unit Centre = refl
-unit_of_line unit Clear = refl
-unit_of_line unit Pack = refl
-unit_of_line unit (Transfer w b k) = refl
-unit_of_line unit Arrive = refl
-unit_of_line unit (Sector b v) = refl
-unit_of_line unit Intr = refl
-unit_of_line unit (Try b f) = refl
-unit_of_line unit Attn = refl
-unit_of_line unit (End a) = refl
+unit_of_line unit other = refl
 
 -- no line comes in an event that serves an adapter but those that are due, interrupts and attentions
 abbrev pub is_served : Wish → Bool
@@ -217,13 +205,8 @@ is_attention (Attention u) = true
 is_attention wish = false
 
 interrupt_next : (adapters : ℕ → AdapterSeen) (act : Act) → has_interrupt act ≡ true → is_interrupt (wish_in adapters act) ≡ true
-interrupt_next adapters Done is = absurd (no is)
-interrupt_next adapters (Refusing u i why) is = absurd (no is)
-interrupt_next adapters (Arriving u) is = absurd (no is)
-interrupt_next adapters (Trying a) is = absurd (no is)
 interrupt_next adapters (Serving a true ds) is = refl
-interrupt_next adapters (Serving a false ds) is = absurd (no is)
-interrupt_next adapters NothingToDo is = absurd (no is)
+interrupt_next adapters other is = absurd (no is)
 
 pub no_interrupt : (s : Replay) (unit : ℕ) (deed : Deed) → IsConsistent s → next_wish s ≡ wish_of unit deed → is_interrupt (wish_of unit deed) ≡ false → has_interrupt s.event.act ≡ true → ⊥
 no_interrupt s unit deed c wished other is =
@@ -231,19 +214,11 @@ no_interrupt s unit deed c wished other is =
 
 pub interrupt_gone : (act : Act) → has_interrupt (act_after Intr act) ≡ false
 interrupt_gone Done = refl
-interrupt_gone (Refusing u i why) = refl
-interrupt_gone (Arriving u) = refl
-interrupt_gone (Trying a) = refl
-interrupt_gone (Serving a i ds) = refl
-interrupt_gone NothingToDo = refl
+interrupt_gone other = refl
 
 pub interrupt_same : (act : Act) → has_interrupt (act_after Attn act) ≡ has_interrupt act
 interrupt_same Done = refl
-interrupt_same (Refusing u i why) = refl
-interrupt_same (Arriving u) = refl
-interrupt_same (Trying a) = refl
-interrupt_same (Serving a i ds) = refl
-interrupt_same NothingToDo = refl
+interrupt_same other = refl
 
 -- ---- an attention that is served is the first of them
 no_attention_at : (a : AdapterSeen) → is_attention (wish_at_start a) ≡ true → ⊥

@@ -107,19 +107,12 @@ some_of_step false = omega arith
 step_costs : (b b' : Bool) (d' : DriveState) (h : Hand) (next : Option Request) (step : Positioning) (left : List Positioning) (segment : Segment)
     → AfterCosts b b' d' h next (Steps (step ∷ left) segment) (command_of step)
 step_costs b b' d' h next (SearchFor c y) left segment = record { events = omega (arith, of_step b'); commands = omega arith }
-step_costs b b' d' h next Recalibrate left segment = record { events = omega (arith, of_step b'); commands = omega arith }
-step_costs b b' d' h next (SeekTo c) left segment = record { events = omega (arith, of_step b'); commands = omega arith }
-step_costs b b' d' h next (OffsetBy code) left segment = record { events = omega (arith, of_step b'); commands = omega arith }
+step_costs b b' d' h next other left segment = record { events = omega (arith, of_step b'); commands = omega arith }
 
 -- ---- a line that is said
 pub positions_least : (b : Bool) (count : ℕ) (p : Progress) (stage : Stage) → events_at b count p stage ≤ events_at true count p stage
-positions_least b count p Waiting = omega arith
-positions_least b count p (Steps left segment) = omega arith
 positions_least b count p (UnderWay left segment) = omega (arith, of_step b)
-positions_least b count p (AtOnce segment) = omega arith
-positions_least b count p (Moving segment left last) = omega arith
-positions_least b count p (Saying lines next) = omega arith
-positions_least b count p (Ending answer) = omega arith
+positions_least b count p other = omega arith
 
 saying_events : (b : Bool) (count : ℕ) (p : Progress) (lines : List Deed) (next : Stage) → events_at b count p (saying lines next) ≤ events_at true count p next
 saying_events b count p [] next = positions_least b count p next
@@ -177,22 +170,12 @@ pub record Arrives (count : ℕ) (p : Progress) (stage : Stage) : Type 0 where
 
 pub arrive_costs : (count : ℕ) (p : Progress) (stage : Stage) → is_under_way stage ≡ true → Arrives count p stage
 arrive_costs count p (UnderWay left segment) is = record { events = omega arith }
-arrive_costs count p Waiting is = absurd (no is)
-arrive_costs count p (Steps left segment) is = absurd (no is)
-arrive_costs count p (AtOnce segment) is = absurd (no is)
-arrive_costs count p (Moving segment left last) is = absurd (no is)
-arrive_costs count p (Saying rest next) is = absurd (no is)
-arrive_costs count p (Ending answer) is = absurd (no is)
+arrive_costs count p other is = absurd (no is)
 
 pub attn_costs : (b b' : Bool) (d : DriveState) (h : Hand) (next : Option Request) (stage : Stage) → is_under_way stage ≡ true
     → Costs b b' h.request.count h.progress stage Attn h.progress (stage_after stage Attn d h next)
 attn_costs b b' d h next (UnderWay left segment) is = record { events = omega (arith, some_of_step b); commands = omega arith }
-attn_costs b b' d h next Waiting is = absurd (no is)
-attn_costs b b' d h next (Steps left segment) is = absurd (no is)
-attn_costs b b' d h next (AtOnce segment) is = absurd (no is)
-attn_costs b b' d h next (Moving segment left last) is = absurd (no is)
-attn_costs b b' d h next (Saying rest then_stage) is = absurd (no is)
-attn_costs b b' d h next (Ending answer) is = absurd (no is)
+attn_costs b b' d h next other is = absurd (no is)
 
 -- ---- sectors
 one_less : (n : ℕ) → n ≡ suc n - 1
@@ -214,11 +197,7 @@ stopped_costs : (b b' : Bool) (h : Hand) (bytes : List ℕ) (segment : Segment) 
 stopped_costs b b' h bytes segment n block verdict.Clean lines o =
     subst (λ z. Costs b b' h.request.count h.progress (Moving segment (suc n) verdict.Clean) (Sector block verdict.Clean) (progress_tried verdict.Clean bytes h.progress) (Moving segment z verdict.Clean)) (one_less n)
     (clean_sector_costs b b' h bytes segment n block lines o)
-stopped_costs b b' h bytes segment n block (verdict.Burst at q) lines o = record { events = omega (arith, some_tries segment h.progress.failures o.small); commands = omega arith }
-stopped_costs b b' h bytes segment n block verdict.Hard lines o = record { events = omega (arith, some_tries segment h.progress.failures o.small); commands = omega arith }
-stopped_costs b b' h bytes segment n block (verdict.Faulted k) lines o = record { events = omega (arith, some_tries segment h.progress.failures o.small); commands = omega arith }
-stopped_costs b b' h bytes segment n block verdict.Marked lines o = record { events = omega (arith, some_tries segment h.progress.failures o.small); commands = omega arith }
-stopped_costs b b' h bytes segment n block verdict.Offline lines o = record { events = omega (arith, some_tries segment h.progress.failures o.small); commands = omega arith }
+stopped_costs b b' h bytes segment n block other lines o = record { events = omega (arith, some_tries segment h.progress.failures o.small); commands = omega arith }
 
 pub sector_costs : (b b' : Bool) (h : Hand) (bytes : List ℕ) (stage : Stage) (block : ℕ) (v : Moved) (d : DriveState) (next : Option Request) (lines : List Deed)
     → sector_may h stage block ≡ true → Fits h stage lines
@@ -436,9 +415,4 @@ moved_interrupt b b' d h segment left verdict.Offline lines is f = offline_inter
 pub intr_costs : (b b' : Bool) (d : DriveState) (h : Hand) (next : Option Request) (stage : Stage) (lines : List Deed) → intr_may stage ≡ true → Fits h stage lines
     → Costs b b' h.request.count h.progress stage Intr (progress_interrupted (last_of stage) h.progress) (stage_after stage Intr d (interrupted h (last_of stage)) next)
 intr_costs b b' d h next (Moving segment left last) lines is f = moved_interrupt b b' d h segment left last lines is f
-intr_costs b b' d h next Waiting lines is f = absurd (no is)
-intr_costs b b' d h next (Steps left segment) lines is f = absurd (no is)
-intr_costs b b' d h next (UnderWay left segment) lines is f = absurd (no is)
-intr_costs b b' d h next (AtOnce segment) lines is f = absurd (no is)
-intr_costs b b' d h next (Saying rest then_stage) lines is f = absurd (no is)
-intr_costs b b' d h next (Ending answer) lines is f = absurd (no is)
+intr_costs b b' d h next other lines is f = absurd (no is)

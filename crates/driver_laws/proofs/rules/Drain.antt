@@ -72,9 +72,8 @@ units_fall units k u e (x ∷ xs) is le = elim (eqb_tells x k) [
 
 -- ---- a line of the trace
 arrived_ready : (w : Work) (d : DriveState) → is_positioning w ≡ true → is_positioning (arrived_from w d).work ≡ false
-arrived_ready work.Ready d is = absurd (no is)
 arrived_ready (work.Positioning c y) d is = refl
-arrived_ready (work.Transfer write) d is = absurd (no is)
+arrived_ready other d is = absurd (no is)
 
 passes : (d : DriveState) (a : AdapterState) (target : Place) (deed : Deed) → DriveMay d target deed → Passes (is_positioning d.work) deed (is_positioning (drive_after d a target deed).work)
 passes d a target Arrive may = (may, arrived_ready d.work d may)
@@ -99,25 +98,7 @@ told_falls : (wish : Wish) (s : Replay) (line unit id : ℕ) (deed : Deed) (line
     → ((x : ℕ) → IsHeld (s.units x).service.waiting → IsThere s.there x)
     → events_left (told_after wish s unit deed) + event_by deed ≤ events_left s
 told_falls (Refusal u i why) s line unit id deed lines may all there = no_event_told s deed why may.answered
-told_falls NoLine s line unit id deed lines may all there =
-    drained_keeps (λ t. events_left t + event_by deed ≤ events_left s) (replay_told s unit deed (unit_after s unit deed))
-    (λ event. line_falls s line unit id deed lines may all (there unit (held_by (s.units unit).service.waiting id may.service)))
-told_falls (DueLine u) s line unit id deed lines may all there =
-    drained_keeps (λ t. events_left t + event_by deed ≤ events_left s) (replay_told s unit deed (unit_after s unit deed))
-    (λ event. line_falls s line unit id deed lines may all (there unit (held_by (s.units unit).service.waiting id may.service)))
-told_falls (Arrival u) s line unit id deed lines may all there =
-    drained_keeps (λ t. events_left t + event_by deed ≤ events_left s) (replay_told s unit deed (unit_after s unit deed))
-    (λ event. line_falls s line unit id deed lines may all (there unit (held_by (s.units unit).service.waiting id may.service)))
-told_falls (SectorLine u) s line unit id deed lines may all there =
-    drained_keeps (λ t. events_left t + event_by deed ≤ events_left s) (replay_told s unit deed (unit_after s unit deed))
-    (λ event. line_falls s line unit id deed lines may all (there unit (held_by (s.units unit).service.waiting id may.service)))
-told_falls (Interrupt u) s line unit id deed lines may all there =
-    drained_keeps (λ t. events_left t + event_by deed ≤ events_left s) (replay_told s unit deed (unit_after s unit deed))
-    (λ event. line_falls s line unit id deed lines may all (there unit (held_by (s.units unit).service.waiting id may.service)))
-told_falls (Attention u) s line unit id deed lines may all there =
-    drained_keeps (λ t. events_left t + event_by deed ≤ events_left s) (replay_told s unit deed (unit_after s unit deed))
-    (λ event. line_falls s line unit id deed lines may all (there unit (held_by (s.units unit).service.waiting id may.service)))
-told_falls IdleLine s line unit id deed lines may all there =
+told_falls other s line unit id deed lines may all there =
     drained_keeps (λ t. events_left t + event_by deed ≤ events_left s) (replay_told s unit deed (unit_after s unit deed))
     (λ event. line_falls s line unit id deed lines may all (there unit (held_by (s.units unit).service.waiting id may.service)))
 
@@ -137,19 +118,7 @@ line_at there s line unit id deed may at = record {
 
 told_at : (there : List ℕ) (wish : Wish) (s : Replay) (line unit id : ℕ) (deed : Deed) → ToldMay wish s line unit id deed → IsAt there s → IsAt there (told_after wish s unit deed)
 told_at there (Refusal u i why) s line unit id deed may at = record { same = at.same; held = at.held }
-told_at there NoLine s line unit id deed may at =
-    drained_keeps (λ t. IsAt there t) (replay_told s unit deed (unit_after s unit deed)) (λ event. record { same = at.same; held = (line_at there s line unit id deed may at).held })
-told_at there (DueLine u) s line unit id deed may at =
-    drained_keeps (λ t. IsAt there t) (replay_told s unit deed (unit_after s unit deed)) (λ event. record { same = at.same; held = (line_at there s line unit id deed may at).held })
-told_at there (Arrival u) s line unit id deed may at =
-    drained_keeps (λ t. IsAt there t) (replay_told s unit deed (unit_after s unit deed)) (λ event. record { same = at.same; held = (line_at there s line unit id deed may at).held })
-told_at there (SectorLine u) s line unit id deed may at =
-    drained_keeps (λ t. IsAt there t) (replay_told s unit deed (unit_after s unit deed)) (λ event. record { same = at.same; held = (line_at there s line unit id deed may at).held })
-told_at there (Interrupt u) s line unit id deed may at =
-    drained_keeps (λ t. IsAt there t) (replay_told s unit deed (unit_after s unit deed)) (λ event. record { same = at.same; held = (line_at there s line unit id deed may at).held })
-told_at there (Attention u) s line unit id deed may at =
-    drained_keeps (λ t. IsAt there t) (replay_told s unit deed (unit_after s unit deed)) (λ event. record { same = at.same; held = (line_at there s line unit id deed may at).held })
-told_at there IdleLine s line unit id deed may at =
+told_at there other s line unit id deed may at =
     drained_keeps (λ t. IsAt there t) (replay_told s unit deed (unit_after s unit deed)) (λ event. record { same = at.same; held = (line_at there s line unit id deed may at).held })
 
 submitted_at : (there : List ℕ) (s : Replay) (r : Request) (met : Submission) → IsThere there r.unit → IsAt there s → IsAt there (submitted s r met)
@@ -164,15 +133,11 @@ submitted_at there s r Joined is at = record {
 
 pub played_at : (there : List ℕ) (s : Replay) (input : Input) → IsOf there input → IsAt there s → IsAt there (replay_played s input)
 played_at there s (Submit r) is at = submitted_at there s r (submission s r) is at
-played_at there s (Turn u y) is at = record { same = at.same; held = at.held }
-played_at there s (Noise n) is at = record { same = at.same; held = at.held }
-played_at there s (Arm u k n) is at = record { same = at.same; held = at.held }
-played_at there s (SetOnline u b) is at = record { same = at.same; held = at.held }
-played_at there s (SetLocked u b) is at = record { same = at.same; held = at.held }
 played_at there s (ArriveAt u) is at = at
 played_at there s (MoveAt a) is at = at
 played_at there s (AttendTo a) is at = at
 played_at there s Drain is at = at
+played_at there s other is at = record { same = at.same; held = at.held }
 
 pub moments_at : (there : List ℕ) (s : Replay) (ms : List Moment) → AreOf there ms → Follows s ms → IsAt there s → IsAt there (after_moments s ms)
 moments_at there s [] are follows at = at
@@ -240,25 +205,7 @@ told_within : (wish : Wish) (s : Replay) (line unit id : ℕ) (deed : Deed) (lin
     → AllWithin (told_after wish s unit deed) (λ x. lines_after x (Told line unit id deed) (lines x))
 told_within (Refusal u i why) s line unit id deed lines may all within =
     subst (λ z. AllWithin (told_after (Refusal u i why) s unit deed) (λ x. lines_after x (Told line unit id z) (lines x))) (sym may.answered) (refusal_within s line unit id why lines within)
-told_within NoLine s line unit id deed lines may all within =
-    drained_keeps (λ t. AllWithin t (λ x. lines_after x (Told line unit id deed) (lines x))) (replay_told s unit deed (unit_after s unit deed))
-    (λ event. line_within s line unit id deed lines may all within)
-told_within (DueLine u) s line unit id deed lines may all within =
-    drained_keeps (λ t. AllWithin t (λ x. lines_after x (Told line unit id deed) (lines x))) (replay_told s unit deed (unit_after s unit deed))
-    (λ event. line_within s line unit id deed lines may all within)
-told_within (Arrival u) s line unit id deed lines may all within =
-    drained_keeps (λ t. AllWithin t (λ x. lines_after x (Told line unit id deed) (lines x))) (replay_told s unit deed (unit_after s unit deed))
-    (λ event. line_within s line unit id deed lines may all within)
-told_within (SectorLine u) s line unit id deed lines may all within =
-    drained_keeps (λ t. AllWithin t (λ x. lines_after x (Told line unit id deed) (lines x))) (replay_told s unit deed (unit_after s unit deed))
-    (λ event. line_within s line unit id deed lines may all within)
-told_within (Interrupt u) s line unit id deed lines may all within =
-    drained_keeps (λ t. AllWithin t (λ x. lines_after x (Told line unit id deed) (lines x))) (replay_told s unit deed (unit_after s unit deed))
-    (λ event. line_within s line unit id deed lines may all within)
-told_within (Attention u) s line unit id deed lines may all within =
-    drained_keeps (λ t. AllWithin t (λ x. lines_after x (Told line unit id deed) (lines x))) (replay_told s unit deed (unit_after s unit deed))
-    (λ event. line_within s line unit id deed lines may all within)
-told_within IdleLine s line unit id deed lines may all within =
+told_within other s line unit id deed lines may all within =
     drained_keeps (λ t. AllWithin t (λ x. lines_after x (Told line unit id deed) (lines x))) (replay_told s unit deed (unit_after s unit deed))
     (λ event. line_within s line unit id deed lines may all within)
 

@@ -63,30 +63,22 @@ transfer_is false d is f = subst (λ z. DriveIs z false true false × (has_error
 
 -- ---- the end of a positioning
 pub arrived_is : (w : Work) (d : DriveState) → is_positioning w ≡ true → DriveIs (arrived_from w d) false false true × (has_error (arrived_from w d) ≡ has_error d)
-arrived_is work.Ready d is = absurd (no is)
-arrived_is (work.Transfer write) d is = absurd (no is)
 arrived_is (work.Positioning c y) d is = (record { positions = refl; transfers = refl; calls = refl }, refl)
+arrived_is other d is = absurd (no is)
 
 -- ---- a sector
 fault_keeps : (k : FaultKind) (d : DriveState) → ((with_fault_bits k (fault_used k d)).work ≡ d.work) × ((with_fault_bits k (fault_used k d)).attention ≡ d.attention)
 fault_keeps fault.Seek d = (refl, refl)
-fault_keeps fault.Opi d = (refl, refl)
-fault_keeps fault.Dte d = (refl, refl)
-fault_keeps fault.Hcrc d = (refl, refl)
-fault_keeps fault.Late d = (refl, refl)
+fault_keeps other d = (refl, refl)
 
 mark_keeps : (kind : DriveKind) (d : DriveState) → ((with_mark_bits kind d).work ≡ d.work) × ((with_mark_bits kind d).attention ≡ d.attention)
 mark_keeps Rp06 d = (refl, refl)
-mark_keeps Rm03 d = (refl, refl)
-mark_keeps Rm05 d = (refl, refl)
+mark_keeps other d = (refl, refl)
 
 move_keeps : (v : Moved) (block : ℕ) (d : DriveState) → ((after_move v block d).work ≡ d.work) × ((after_move v block d).attention ≡ d.attention)
-move_keeps verdict.Clean block d = (refl, refl)
-move_keeps (verdict.Burst at q) block d = (refl, refl)
-move_keeps verdict.Hard block d = (refl, refl)
 move_keeps (verdict.Faulted k) block d = fault_keeps k d
 move_keeps verdict.Marked block d = mark_keeps d.kind d
-move_keeps verdict.Offline block d = (refl, refl)
+move_keeps other block d = (refl, refl)
 
 ended_or_not : (b : Bool) (x : DriveState) → is_positioning x.work ≡ false → is_transferring x.work ≡ true → x.attention ≡ false
     → DriveIs (if b then transfer_ended x else x) false (not b) false
@@ -107,20 +99,12 @@ error_of_either false x = refl
 
 pub clean_sector : (v : Moved) (a : AdapterState) (d : DriveState) → is_clean v ≡ true → has_error (drive_stepped v a d) ≡ has_error d
 clean_sector verdict.Clean a d is = error_of_either (stepped verdict.Clean a).completion (after_move verdict.Clean (next_block a) d)
-clean_sector (verdict.Burst at q) a d is = absurd (no is)
-clean_sector verdict.Hard a d is = absurd (no is)
-clean_sector (verdict.Faulted k) a d is = absurd (no is)
-clean_sector verdict.Marked a d is = absurd (no is)
-clean_sector verdict.Offline a d is = absurd (no is)
+clean_sector other a d is = absurd (no is)
 
 -- ---- an adapter over a sector
 pub stepped_keeps : (v : Moved) (a : AdapterState) → ((stepped v a).busy ≡ a.busy) × ((stepped v a).drive ≡ a.drive) × ((stepped v a).attentions ≡ a.attentions)
 stepped_keeps verdict.Clean a = (refl, refl, refl)
-stepped_keeps (verdict.Burst at q) a = (refl, refl, refl)
-stepped_keeps verdict.Hard a = (refl, refl, refl)
-stepped_keeps (verdict.Faulted k) a = (refl, refl, refl)
-stepped_keeps verdict.Marked a = (refl, refl, refl)
-stepped_keeps verdict.Offline a = (refl, refl, refl)
+stepped_keeps other a = (refl, refl, refl)
 
 -- ---- a line of the script
 pub record Untouched (old new : DriveState) : Type 0 where
@@ -144,13 +128,8 @@ online_one true d = record { work = refl; calls = refl; errors = refl; kind = re
 online_one false d = record { work = refl; calls = refl; errors = refl; kind = refl }
 
 pub played_drive : (unit : ℕ) (d : DriveState) (input : Input) → Untouched d (drive_played unit d input)
-played_drive unit d (Submit r) = untouched d
-played_drive unit d (ArriveAt u) = untouched d
-played_drive unit d (MoveAt a) = untouched d
-played_drive unit d (AttendTo a) = untouched d
-played_drive unit d Drain = untouched d
 played_drive unit d (Turn u y) = of_either (unit == u) (turned y d) d (record { work = refl; calls = refl; errors = refl; kind = refl })
-played_drive unit d (Noise n) = untouched d
 played_drive unit d (Arm u k n) = of_either (unit == u) (fault_armed k n d) d (armed_one k n d)
 played_drive unit d (SetOnline u on) = of_either (unit == u) (online_set on d) d (online_one on d)
 played_drive unit d (SetLocked u on) = of_either (unit == u) (locked_set on d) d (record { work = refl; calls = refl; errors = refl; kind = refl })
+played_drive unit d other = untouched d

@@ -31,17 +31,7 @@ either_good false x y one other = other
 
 effect_good : (f : Function) (d : DriveState) → IsGood d → IsGood (effect f d)
 effect_good function.Nop d g = g
-effect_good function.Seek d g = g
-effect_good function.Search d g = g
-effect_good function.Recal d g = g
-effect_good function.Offset d g = g
-effect_good function.Centre d g = g
-effect_good function.Clear d g = g
-effect_good function.Preset d g = g
-effect_good function.Pack d g = g
-effect_good function.Read d g = g
-effect_good function.Write d g = g
-effect_good function.WriteHeader d g = g
+effect_good other d g = g
 
 pub performed_good : (f : Function) (d : DriveState) → IsGood d → IsGood (performed f d)
 performed_good f d g =
@@ -50,8 +40,7 @@ performed_good f d g =
 
 arrived_good : (w : Work) (d : DriveState) → IsGood d → IsGood (arrived_from w d)
 arrived_good work.Ready d g = g
-arrived_good (work.Positioning c y) d g = g
-arrived_good (work.Transfer write) d g = g
+arrived_good other d g = g
 
 moved_good : (kind : DriveKind) (v : Moved) (block : ℕ) (d : DriveState) → d.kind ≡ kind → is_calm_verdict v ≡ true → IsGood d → IsGood (after_move v block d)
 moved_good kind verdict.Clean block d is calm g = g
@@ -88,7 +77,4 @@ after_good d a target Pack calm g = performed_good function.Pack d g
 after_good d a target (Transfer w b k) calm g = transfer_good w (addressed (place_at d.kind b) d) g
 after_good d a target Arrive calm g = arrived_good d.work d g
 after_good d a target (Sector b v) calm g = stepped_good v a d calm g
-after_good d a target Intr calm g = g
-after_good d a target (Try b f) calm g = g
-after_good d a target Attn calm g = g
-after_good d a target (End answer) calm g = g
+after_good d a target other calm g = g

@@ -26,9 +26,7 @@ EndsBy claimed blocks first r p deed = Unit {0}
 
 step_ends : (claimed : Type 0) (blocks : Blocks) (first : ℕ) (r : Request) (p : Progress) (step : Positioning) → EndsBy claimed blocks first r p (command_of step)
 step_ends claimed blocks first r p (SearchFor c y) = tt
-step_ends claimed blocks first r p Recalibrate = tt
-step_ends claimed blocks first r p (SeekTo c) = tt
-step_ends claimed blocks first r p (OffsetBy code) = tt
+step_ends claimed blocks first r p other = tt
 
 line_ends : (claimed : Type 0) (blocks : Blocks) (first : ℕ) (r : Request) (p : Progress) (line : Deed) (rest : List Deed) → AreSaid (line ∷ rest) → EndsBy claimed blocks first r p line
 line_ends claimed blocks first r p Clear rest a = tt
@@ -45,10 +43,8 @@ ok_usable : (blocks : Blocks) (first done count : ℕ) → done ≡ count → Ar
 ok_usable blocks first done count is usable = subst (λ n. AreUsable blocks first n) is usable
 
 cause_is : (cause : Cause) (block : Option (List ℕ)) → (cause ≡ Unforwarded → block ≡ None) → IsCause cause block
-cause_is Offline block so = tt
-cause_is Locked block so = tt
 cause_is Unforwarded block so = so refl
-cause_is Fault block so = tt
+cause_is other block so = tt
 
 decided : (sure : ℕ → Type 0) (homes : ℕ → Option ℕ) (h : Hand) (sectors : ℕ → List ℕ) (blocks : Blocks) (pack : model.Pack) (lines : List Deed) (answer : Answer)
     → ((b : ℕ) → homes b ≡ home_of h.kind h.table pack b) → ((b : ℕ) → WasMarked b lines → model.is_marked pack b ≡ true) → IsRequest h.request
@@ -76,9 +72,7 @@ decided sure homes h sectors blocks pack lines (Failed cause done) home marks go
   );
   done = sym e.is_done;
 }
-decided sure homes h sectors blocks pack lines OutsidePartition home marks good hand is e = absurd e
-decided sure homes h sectors blocks pack lines EndOfPartition home marks good hand is e = absurd e
-decided sure homes h sectors blocks pack lines NoFrames home marks good hand is e = absurd e
+decided sure homes h sectors blocks pack lines other home marks good hand is e = absurd e
 
 -- THE END that is due
 pub due_ends : (sure : ℕ → Type 0) (homes : ℕ → Option ℕ) (d : DriveState) (h : Hand) (sectors : ℕ → List ℕ) (blocks : Blocks) (pack : model.Pack) (lines : List Deed) (deed : Deed) (stage : Stage)

@@ -70,23 +70,11 @@ module _ (shows : List ℕ → Bool) (tells : (places : List ℕ) → Classes Sh
   read_less false s unit d block = omega arith
 
   live_less : (s : Replay) (unit : ℕ) (deed : Deed) → left_in shows x (surface_after s unit deed).live ≤ left_in shows x s.surface.live
-  live_less s unit (Search c y) = omega arith
-  live_less s unit (Seek c) = omega arith
-  live_less s unit Recal = omega arith
-  live_less s unit (Offset o) = omega arith
-  live_less s unit Centre = omega arith
-  live_less s unit Clear = omega arith
-  live_less s unit Pack = omega arith
-  live_less s unit (Transfer w b k) = omega arith
-  live_less s unit Arrive = omega arith
   live_less s unit (Sector b v) =
       subst (λ z. left_in shows x z ≤ left_in shows x s.surface.live)
       (sym (written_live (was_written (s.units unit).drive v) (surface_read (was_read (s.units unit).drive v) s.surface unit (s.units unit).drive b) unit b (in_hand (s.units unit).service) (s.units unit).progress.done))
       (read_less (was_read (s.units unit).drive v) s.surface unit (s.units unit).drive b)
-  live_less s unit Intr = omega arith
-  live_less s unit (Try b f) = omega arith
-  live_less s unit Attn = omega arith
-  live_less s unit (End a) = omega arith
+  live_less s unit other = omega arith
 
   -- ---- a line of the unit
   abbrev drive_then : Replay → Deed → DriveState

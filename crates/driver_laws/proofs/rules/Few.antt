@@ -32,11 +32,7 @@ open_few h segment lines f = some h.progress.done h.request.count f.room
 
 move_few : (h : Hand) (segment : Segment) (left : ℕ) (last : Moved) (lines : List Deed) → MoveFits h segment left last lines → h.progress.done ≤ h.request.count
 move_few h segment left verdict.Clean lines f = clean_few h segment left lines f
-move_few h segment left (verdict.Burst at pattern) lines f = stopped_few h segment (verdict.Burst at pattern) lines f
-move_few h segment left verdict.Hard lines f = stopped_few h segment verdict.Hard lines f
-move_few h segment left verdict.Marked lines f = stopped_few h segment verdict.Marked lines f
-move_few h segment left (verdict.Faulted kind) lines f = stopped_few h segment (verdict.Faulted kind) lines f
-move_few h segment left verdict.Offline lines f = stopped_few h segment verdict.Offline lines f
+move_few h segment left other lines f = stopped_few h segment other lines f
 
 end_few : (h : Hand) (answer : Answer) (lines : List Deed) → EndFits h answer lines → h.progress.done ≤ h.request.count
 end_few h (ReadOk bytes) lines f = f.whole.room
@@ -53,10 +49,7 @@ next_few : (h : Hand) (stage : Stage) (lines : List Deed) → follows_lines stag
 next_few h (Steps left segment) lines is f = open_few h segment lines f
 next_few h (AtOnce segment) lines is f = open_few h segment lines f
 next_few h (Ending answer) lines is f = end_few h answer lines f
-next_few h Waiting lines is f = absurd (no (sym is))
-next_few h (UnderWay left segment) lines is f = absurd (no (sym is))
-next_few h (Moving segment left last) lines is f = absurd (no (sym is))
-next_few h (Saying rest next) lines is f = absurd (no (sym is))
+next_few h other lines is f = absurd (no (sym is))
 
 second : (a b : Bool) → a && b ≡ true → b ≡ true
 second true b e = e

@@ -69,11 +69,7 @@ still_left bytes left is some = below left (positive bytes left is (apart bytes 
 
 sector_goes : (v : Moved) (a : AdapterState) (segment : Segment) (left : ℕ) → Counts (Moving segment left v) (stepped v a) → Going (Moving segment left v) (stepped v a)
 sector_goes verdict.Clean a segment left c moving clean down = still_left (stepped verdict.Clean a).byte_count left (c.counted refl) down
-sector_goes (verdict.Burst at q) a segment left c moving clean down = absurd (nor clean)
-sector_goes verdict.Hard a segment left c moving clean down = absurd (nor clean)
-sector_goes (verdict.Faulted k) a segment left c moving clean down = absurd (nor clean)
-sector_goes verdict.Marked a segment left c moving clean down = absurd (nor clean)
-sector_goes verdict.Offline a segment left c moving clean down = absurd (nor clean)
+sector_goes other a segment left c moving clean down = absurd (nor clean)
 
 module _ (s : Replay) (line unit id : ℕ) (lines : ℕ → List Deed) (c : IsConsistent s) (fit : UnitFits (s.units unit) (lines unit)) where
   abbrev NewStage : Deed → Stage
@@ -92,13 +88,6 @@ module _ (s : Replay) (line unit id : ℕ) (lines : ℕ → List Deed) (c : IsCo
   step_free is = (c.units unit).busy ∙ (under_way (s.units unit).stage is).moving
 
   own_goes : (deed : Deed) (may : LineMay s line unit id deed) → Going (NewStage deed) (NewAdapter s line unit id deed may c).state
-  own_goes (Search x y) may = at_rest_goes (Search x y) may (due_free (Search x y) may.talk)
-  own_goes (Seek x) may = at_rest_goes (Seek x) may (due_free (Seek x) may.talk)
-  own_goes Recal may = at_rest_goes Recal may (due_free Recal may.talk)
-  own_goes (Offset o) may = at_rest_goes (Offset o) may (due_free (Offset o) may.talk)
-  own_goes Centre may = at_rest_goes Centre may (due_free Centre may.talk)
-  own_goes Clear may = at_rest_goes Clear may (due_free Clear may.talk)
-  own_goes Pack may = at_rest_goes Pack may (due_free Pack may.talk)
   own_goes (Transfer w b k) may = λ moving clean down.
       some_due (s.units unit).drive (hand_of (s.units unit)) (s.units unit).stage (Transfer w b k) (lines unit) may.talk
       (due_allowed (s.units unit).drive (hand_of (s.units unit)) (s.units unit).stage (Transfer w b k) (c.units unit).said may.talk) fit.fits
@@ -106,9 +95,8 @@ module _ (s : Replay) (line unit id : ℕ) (lines : ℕ → List Deed) (c : IsCo
   own_goes (Sector b v) may =
       sector_goes v (at_unit s unit).state (segment_of (s.units unit).stage) (left_of (s.units unit).stage - 1) ((mine s line unit id (Sector b v) may c).counts refl)
   own_goes Intr may = at_rest_goes Intr may refl
-  own_goes (Try b f) may = at_rest_goes (Try b f) may (due_free (Try b f) may.talk)
   own_goes Attn may = at_rest_goes Attn may (step_free may.talk)
-  own_goes (End a) may = at_rest_goes (End a) may (due_free (End a) may.talk)
+  own_goes other may = at_rest_goes other may (due_free other may.talk)
 
   pub line_goes : (deed : Deed) → LineMay s line unit id deed → AllGo s → AllGo (replay_told s unit deed (unit_after s unit deed))
   line_goes deed may all m =
@@ -122,23 +110,12 @@ module _ (s : Replay) (line unit id : ℕ) (lines : ℕ → List Deed) (c : IsCo
 told_goes : (wish : Wish) (s : Replay) (line unit id : ℕ) (deed : Deed) (lines : ℕ → List Deed) → ToldMay wish s line unit id deed → IsConsistent s → AllFit s lines → AllGo s
     → AllGo (told_after wish s unit deed)
 told_goes (Refusal u i why) s line unit id deed lines may c fit all = all
-told_goes NoLine s line unit id deed lines may c fit all = drained_keeps AllGo (replay_told s unit deed (unit_after s unit deed)) (λ event. line_goes s line unit id lines c (fit unit) deed may all)
-told_goes (DueLine u) s line unit id deed lines may c fit all = drained_keeps AllGo (replay_told s unit deed (unit_after s unit deed)) (λ event. line_goes s line unit id lines c (fit unit) deed may all)
-told_goes (Arrival u) s line unit id deed lines may c fit all = drained_keeps AllGo (replay_told s unit deed (unit_after s unit deed)) (λ event. line_goes s line unit id lines c (fit unit) deed may all)
-told_goes (SectorLine u) s line unit id deed lines may c fit all = drained_keeps AllGo (replay_told s unit deed (unit_after s unit deed)) (λ event. line_goes s line unit id lines c (fit unit) deed may all)
-told_goes (Interrupt u) s line unit id deed lines may c fit all = drained_keeps AllGo (replay_told s unit deed (unit_after s unit deed)) (λ event. line_goes s line unit id lines c (fit unit) deed may all)
-told_goes (Attention u) s line unit id deed lines may c fit all = drained_keeps AllGo (replay_told s unit deed (unit_after s unit deed)) (λ event. line_goes s line unit id lines c (fit unit) deed may all)
-told_goes IdleLine s line unit id deed lines may c fit all = drained_keeps AllGo (replay_told s unit deed (unit_after s unit deed)) (λ event. line_goes s line unit id lines c (fit unit) deed may all)
+told_goes other s line unit id deed lines may c fit all = drained_keeps AllGo (replay_told s unit deed (unit_after s unit deed)) (λ event. line_goes s line unit id lines c (fit unit) deed may all)
 
 -- ---- a line of the script
 stage_goes : (stage : Stage) (d : DriveState) (r : Request) (a : AdapterState) → Going stage a → Going (stage_joined stage d r) a
 stage_goes Waiting d r a g = λ moving clean down. absurd (no moving)
-stage_goes (Steps left segment) d r a g = g
-stage_goes (UnderWay left segment) d r a g = g
-stage_goes (AtOnce segment) d r a g = g
-stage_goes (Moving segment left last) d r a g = g
-stage_goes (Saying lines next) d r a g = g
-stage_goes (Ending answer) d r a g = g
+stage_goes other d r a g = g
 
 submitted_goes : (s : Replay) (r : Request) (met : Submission) → AllGo s → AllGo (submitted s r met)
 submitted_goes s r (Refused why) all = all
@@ -150,15 +127,7 @@ submitted_goes s r Joined all = λ m.
 
 played_goes : (s : Replay) (input : Input) → AllGo s → AllGo (replay_played s input)
 played_goes s (Submit r) all = submitted_goes s r (submission s r) all
-played_goes s (ArriveAt u) all = all
-played_goes s (MoveAt a) all = all
-played_goes s (AttendTo a) all = all
-played_goes s Drain all = all
-played_goes s (Turn u y) all = all
-played_goes s (Noise n) all = all
-played_goes s (Arm u k n) all = all
-played_goes s (SetOnline u on) all = all
-played_goes s (SetLocked u on) all = all
+played_goes s other all = all
 
 -- ---- all moments
 moments_go : (s : Replay) (ms : List Moment) (lines : ℕ → List Deed) → AskSome ms → Follows s ms → IsConsistent s → AllFit s lines → AllGo s

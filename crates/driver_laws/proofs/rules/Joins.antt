@@ -58,13 +58,10 @@ there_with (Some kind) P Q is q = q
 -- ---- it joins
 joined_stage : (sure : ℕ → Type 0) (homes : ℕ → Option ℕ) (first : ℕ) (r : Request) (p : Progress) (blocks : Blocks) (now : Work) (d : DriveState) (new : Request) (stage : Stage)
     → (is_waiting stage ≡ false → StageStands sure homes first r p blocks now stage) → StageStands sure homes first r p blocks now (stage_joined stage d new)
-joined_stage sure homes first r p blocks now d new Waiting st = tt
-joined_stage sure homes first r p blocks now d new (Steps left segment) st = tt
-joined_stage sure homes first r p blocks now d new (UnderWay left segment) st = tt
-joined_stage sure homes first r p blocks now d new (AtOnce segment) st = tt
 joined_stage sure homes first r p blocks now d new (Moving segment left last) st = st refl
 joined_stage sure homes first r p blocks now d new (Saying lines next) st = st refl
 joined_stage sure homes first r p blocks now d new (Ending answer) st = st refl
+joined_stage sure homes first r p blocks now d new other st = tt
 
 pub joined_stands : (sure : ℕ → Type 0) (homes : ℕ → Option ℕ) (u : UnitSeen) (sectors : ℕ → List ℕ) (blocks : Blocks) (r : Request) (lines : List Deed) → UnitFits u lines → UnitStands sure homes u sectors blocks
     → UnitStands sure homes (unit_joined u r) sectors blocks
@@ -104,37 +101,25 @@ online_work true d = refl
 online_work false d = refl
 
 pub played_work : (unit : ℕ) (d : DriveState) (input : Input) → (drive_played unit d input).work ≡ d.work
-played_work unit d (Submit r) = refl
-played_work unit d (ArriveAt u) = refl
-played_work unit d (MoveAt a) = refl
-played_work unit d (AttendTo a) = refl
-played_work unit d Drain = refl
 played_work unit d (Turn u sector) = work_of_either (unit == u) (turned sector d) d d.work refl refl
-played_work unit d (Noise noise) = refl
 played_work unit d (Arm u k n) = work_of_either (unit == u) (fault_armed k n d) d d.work refl refl
 played_work unit d (SetOnline u on) = work_of_either (unit == u) (online_set on d) d d.work (online_work on d) refl
 played_work unit d (SetLocked u on) = work_of_either (unit == u) (locked_set on d) d d.work refl refl
+played_work unit d other = refl
 
 -- ---- fewer sectors are sure
 fewer_last : (sure less : ℕ → Type 0) (homes : ℕ → Option ℕ) (first : ℕ) (r : Request) (p : Progress) (blocks : Blocks) (last : Moved) → ((x : ℕ) → less x → sure x)
     → LastStands sure homes first r p blocks last → LastStands less homes first r p blocks last
-fewer_last sure less homes first r p blocks verdict.Clean implied l = tt
 fewer_last sure less homes first r p blocks (verdict.Burst at q) implied l =
     record { reads = l.reads; usable = l.usable; size = l.size; repaired = λ is_sure. l.repaired (λ k x lt home. implied x (is_sure k x lt home)) }
-fewer_last sure less homes first r p blocks verdict.Hard implied l = tt
-fewer_last sure less homes first r p blocks (verdict.Faulted k) implied l = tt
-fewer_last sure less homes first r p blocks verdict.Marked implied l = tt
-fewer_last sure less homes first r p blocks verdict.Offline implied l = tt
+fewer_last sure less homes first r p blocks other implied l = tt
 
 fewer_stage : (sure less : ℕ → Type 0) (homes : ℕ → Option ℕ) (first : ℕ) (r : Request) (p : Progress) (blocks : Blocks) (now : Work) (stage : Stage) → ((x : ℕ) → less x → sure x)
     → StageStands sure homes first r p blocks now stage → StageStands less homes first r p blocks now stage
-fewer_stage sure less homes first r p blocks now Waiting implied st = tt
-fewer_stage sure less homes first r p blocks now (Steps left segment) implied st = tt
-fewer_stage sure less homes first r p blocks now (UnderWay left segment) implied st = tt
-fewer_stage sure less homes first r p blocks now (AtOnce segment) implied st = tt
 fewer_stage sure less homes first r p blocks now (Moving segment left last) implied st = (st.0, fewer_last sure less homes first r p blocks last implied st.1)
 fewer_stage sure less homes first r p blocks now (Saying lines next) implied st = st
 fewer_stage sure less homes first r p blocks now (Ending answer) implied st = st
+fewer_stage sure less homes first r p blocks now other implied st = tt
 
 pub fewer_stands : (sure less : ℕ → Type 0) (homes : ℕ → Option ℕ) (u : UnitSeen) (sectors : ℕ → List ℕ) (blocks : Blocks) → ((x : ℕ) → less x → sure x)
     → UnitStands sure homes u sectors blocks → UnitStands less homes u sectors blocks

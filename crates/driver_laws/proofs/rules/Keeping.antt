@@ -46,14 +46,13 @@ with_each P states k state mine others x = elim (eqb_tells x k) [
 
 -- ---- wishes
 unit_in : Wish → ℕ
-unit_in NoLine = 0
 unit_in (DueLine unit) = unit
 unit_in (Arrival unit) = unit
 unit_in (SectorLine unit) = unit
 unit_in (Interrupt unit) = unit
 unit_in (Attention unit) = unit
 unit_in (Refusal unit id why) = unit
-unit_in IdleLine = 0
+unit_in other = 0
 
 sort_in : Wish → ℕ
 sort_in NoLine = 1
@@ -64,19 +63,7 @@ sort_in wish = 0
 wish_unit : (unit : ℕ) (deed : Deed) → (unit_in (wish_of unit deed) ≡ unit) × (sort_in (wish_of unit deed) ≡ 0)
 unfolding unit_in sort_in
 wish_unit unit (Search c y) = (refl, refl)
-wish_unit unit (Seek c) = (refl, refl)
-wish_unit unit Recal = (refl, refl)
-wish_unit unit (Offset o) = (refl, refl)
-wish_unit unit Centre = (refl, refl)
-wish_unit unit Clear = (refl, refl)
-wish_unit unit Pack = (refl, refl)
-wish_unit unit (Transfer w b k) = (refl, refl)
-wish_unit unit Arrive = (refl, refl)
-wish_unit unit (Sector b v) = (refl, refl)
-wish_unit unit Intr = (refl, refl)
-wish_unit unit (Try b f) = (refl, refl)
-wish_unit unit Attn = (refl, refl)
-wish_unit unit (End a) = (refl, refl)
+wish_unit unit other = (refl, refl)
 
 -- where the speaker goes on, its line comes next
 goes_by : (adapters : ℕ → AdapterSeen) (e : Event) (goes : Bool) (unit : ℕ) (deed : Deed) → wanted adapters e goes ≡ wish_of unit deed → (goes ≡ false) ⊎ (e.speaker ≡ unit)
@@ -90,12 +77,8 @@ IsCalm (Refusing unit id why) = ⊥
 IsCalm act = Unit {0}
 
 pub calm_first : (act : Act) (goes : Bool) → IsCalm act → IsFirst act goes
-calm_first Done goes is = tt
 calm_first (Refusing u i why) goes is = absurd is
-calm_first (Arriving u) goes is = tt
-calm_first (Trying a) goes is = tt
-calm_first (Serving a i ds) goes is = tt
-calm_first NothingToDo goes is = tt
+calm_first other goes is = tt
 
 not_two : (n : ℕ) → n ≡ 0 → n ≡ 2 → ⊥
 not_two n e f = omega (arith, e, f)
@@ -112,36 +95,19 @@ calm_line adapters line drains between speaker (Serving a i ds) goes unit deed f
 calm_line adapters line drains between speaker NothingToDo goes unit deed first is = tt
 
 calm_interrupt : (act : Act) → IsCalm act → IsCalm (act_after Intr act)
-calm_interrupt Done is = tt
 calm_interrupt (Refusing u i why) is = absurd is
-calm_interrupt (Arriving u) is = tt
-calm_interrupt (Trying a) is = tt
-calm_interrupt (Serving a i ds) is = tt
-calm_interrupt NothingToDo is = tt
+calm_interrupt other is = tt
 
 calm_attention : (act : Act) → IsCalm act → IsCalm (act_after Attn act)
-calm_attention Done is = tt
 calm_attention (Refusing u i why) is = absurd is
-calm_attention (Arriving u) is = tt
-calm_attention (Trying a) is = tt
-calm_attention (Serving a i ds) is = tt
-calm_attention NothingToDo is = tt
+calm_attention other is = tt
 
 pub calm_after : (deed : Deed) (act : Act) → IsCalm act → IsCalm (act_after deed act)
-calm_after (Search c y) act is = is
-calm_after (Seek c) act is = is
-calm_after Recal act is = is
-calm_after (Offset o) act is = is
-calm_after Centre act is = is
-calm_after Clear act is = is
-calm_after Pack act is = is
-calm_after (Transfer w b k) act is = is
 calm_after Arrive act is = tt
 calm_after (Sector b v) act is = tt
 calm_after Intr act is = calm_interrupt act is
-calm_after (Try b f) act is = is
 calm_after Attn act is = calm_attention act is
-calm_after (End a) act is = is
+calm_after other act is = is
 
 -- nor is an event of a drain
 calm_attend : (adapters : ℕ → AdapterState) (found : Option ℕ) → IsCalm (act_of_attend adapters found)
@@ -252,13 +218,7 @@ pub told_true : (setup : Setup) (wish : Wish) (s : Replay) (line unit id : ℕ) 
     → ToldMay wish s line unit id deed → AreTrue setup lines → AreTrue setup (λ x. lines_after x (Told line unit id deed) (lines x))
 told_true setup (Refusal u i why) s line unit id deed lines marks may all =
     subst (λ z. AreTrue setup (λ x. lines_after x (Told line unit id z) (lines x))) (sym may.answered) (refusal_true setup line unit id why lines all)
-told_true setup NoLine s line unit id deed lines marks may all = line_true setup s line unit id deed lines marks may all
-told_true setup (DueLine u) s line unit id deed lines marks may all = line_true setup s line unit id deed lines marks may all
-told_true setup (Arrival u) s line unit id deed lines marks may all = line_true setup s line unit id deed lines marks may all
-told_true setup (SectorLine u) s line unit id deed lines marks may all = line_true setup s line unit id deed lines marks may all
-told_true setup (Interrupt u) s line unit id deed lines marks may all = line_true setup s line unit id deed lines marks may all
-told_true setup (Attention u) s line unit id deed lines marks may all = line_true setup s line unit id deed lines marks may all
-told_true setup IdleLine s line unit id deed lines marks may all = line_true setup s line unit id deed lines marks may all
+told_true setup other s line unit id deed lines marks may all = line_true setup s line unit id deed lines marks may all
 
 -- ---- who goes on
 pub record Events (s : Replay) : Type 0 where

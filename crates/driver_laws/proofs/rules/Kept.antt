@@ -55,26 +55,16 @@ joined_steady setup s r Joined h = record {
 
 played_steady : (setup : Setup) (s : Replay) (input : Input) → Steady setup s → Steady setup (replay_played s input)
 played_steady setup s (Submit r) h = joined_steady setup s r (submission s r) h
-played_steady setup s (Turn u y) h = record { kinds = λ x. played_kind x (s.units x).drive (Turn u y) ∙ h.kinds x; tables = h.tables; marks = h.marks }
-played_steady setup s (Noise n) h = record { kinds = λ x. played_kind x (s.units x).drive (Noise n) ∙ h.kinds x; tables = h.tables; marks = h.marks }
-played_steady setup s (Arm u k n) h = record { kinds = λ x. played_kind x (s.units x).drive (Arm u k n) ∙ h.kinds x; tables = h.tables; marks = h.marks }
-played_steady setup s (SetOnline u b) h = record { kinds = λ x. played_kind x (s.units x).drive (SetOnline u b) ∙ h.kinds x; tables = h.tables; marks = h.marks }
-played_steady setup s (SetLocked u b) h = record { kinds = λ x. played_kind x (s.units x).drive (SetLocked u b) ∙ h.kinds x; tables = h.tables; marks = h.marks }
 played_steady setup s (ArriveAt u) h = h
 played_steady setup s (MoveAt a) h = h
 played_steady setup s (AttendTo a) h = h
 played_steady setup s Drain h = h
+played_steady setup s other h = record { kinds = λ x. played_kind x (s.units x).drive other ∙ h.kinds x; tables = h.tables; marks = h.marks }
 
 -- ---- who goes on
 told_events : (wish : Wish) (s : Replay) (line unit id : ℕ) (deed : Deed) → Events s → ToldMay wish s line unit id deed → Events (told_after wish s unit deed)
 told_events (Refusal u i why) s line unit id deed e may = record { quiet = e.quiet; refusing = tt }
-told_events NoLine s line unit id deed e may = line_events s line unit id deed e may
-told_events (DueLine u) s line unit id deed e may = line_events s line unit id deed e may
-told_events (Arrival u) s line unit id deed e may = line_events s line unit id deed e may
-told_events (SectorLine u) s line unit id deed e may = line_events s line unit id deed e may
-told_events (Interrupt u) s line unit id deed e may = line_events s line unit id deed e may
-told_events (Attention u) s line unit id deed e may = line_events s line unit id deed e may
-told_events IdleLine s line unit id deed e may = line_events s line unit id deed e may
+told_events other s line unit id deed e may = line_events s line unit id deed e may
 
 wish_number : Wish → ℕ
 wish_number (DueLine unit) = 1
@@ -119,11 +109,7 @@ played_events s line Drain rest = record {
   quiet = λ x apart. rest x;
   refusing = calm_first (if s.outstanding == 0 then NothingToDo else act_drained s) (goes_on (s.units 0).stage) (calm_either (s.outstanding == 0) NothingToDo (act_drained s) tt (calm_drain s));
 }
-played_events s line (Turn u y) rest = record { quiet = λ x apart. rest x; refusing = tt }
-played_events s line (Noise n) rest = record { quiet = λ x apart. rest x; refusing = tt }
-played_events s line (Arm u k n) rest = record { quiet = λ x apart. rest x; refusing = tt }
-played_events s line (SetOnline u b) rest = record { quiet = λ x apart. rest x; refusing = tt }
-played_events s line (SetLocked u b) rest = record { quiet = λ x apart. rest x; refusing = tt }
+played_events s line other rest = record { quiet = λ x apart. rest x; refusing = tt }
 
 -- ---- inputs ask for some blocks
 there_asks : (drive : Option DriveKind) (r : Request) → IsThere drive (λ kind. IsRequest r) → AsksSome (Submit r)
@@ -132,15 +118,7 @@ there_asks (Some kind) r is = is.some
 
 pub input_asks : (drives : ℕ → Option DriveKind) (input : Input) → IsInput drives input → AsksSome input
 input_asks drives (Submit r) is = there_asks (drives r.unit) r is
-input_asks drives (ArriveAt u) is = tt
-input_asks drives (MoveAt a) is = tt
-input_asks drives (AttendTo a) is = tt
-input_asks drives Drain is = tt
-input_asks drives (Turn u y) is = tt
-input_asks drives (Noise n) is = tt
-input_asks drives (Arm u k n) is = tt
-input_asks drives (SetOnline u on) is = tt
-input_asks drives (SetLocked u on) is = tt
+input_asks drives other is = tt
 
 -- ---- ALL OF IT
 keeps_from : (setup : Setup) (s : Replay) (lines : ℕ → List Deed) → AllFit s lines → ((unit block : ℕ) → WasMarked block (lines unit) → model.is_marked (setup.packs unit) block ≡ true)

@@ -145,22 +145,10 @@ read_live true s unit d block ms all = all_alike s.live (after_strike unit block
 read_live false s unit d block ms all = all
 
 pub line_live : (s : Replay) (unit : ℕ) (deed : Deed) (ms : List Moment) → LiveKnown s.surface.live ms → LiveKnown (surface_after s unit deed).live ms
-line_live s unit (Search c y) ms all = all
-line_live s unit (Seek c) ms all = all
-line_live s unit Recal ms all = all
-line_live s unit (Offset o) ms all = all
-line_live s unit Centre ms all = all
-line_live s unit Clear ms all = all
-line_live s unit Pack ms all = all
-line_live s unit (Transfer w b k) ms all = all
-line_live s unit Arrive ms all = all
 line_live s unit (Sector b v) ms all =
     subst (λ z. LiveKnown z ms) (sym (written_live (was_written (s.units unit).drive v) (surface_read (was_read (s.units unit).drive v) s.surface unit (s.units unit).drive b) unit b (in_hand (s.units unit).service) (s.units unit).progress.done))
     (read_live (was_read (s.units unit).drive v) s.surface unit (s.units unit).drive b ms all)
-line_live s unit Intr ms all = all
-line_live s unit (Try b f) ms all = all
-line_live s unit Attn ms all = all
-line_live s unit (End a) ms all = all
+line_live s unit other ms all = all
 
 -- ---- the request in hand
 pub head_asked : (x : ℕ) (ms : List Moment) (ws : List (Waiter Request)) → IsHeld ws → AreAsked x ms ws
@@ -173,20 +161,8 @@ rest_asked x ms [] all = tt
 rest_asked x ms (w ∷ ws) all = all.1
 
 pub line_asked : (x : ℕ) (ms : List Moment) (service : Service Request) (deed : Deed) → AreAsked x ms service.waiting → AreAsked x ms (service_after service deed).waiting
-line_asked x ms service (Search c y) all = all
-line_asked x ms service (Seek c) all = all
-line_asked x ms service Recal all = all
-line_asked x ms service (Offset o) all = all
-line_asked x ms service Centre all = all
-line_asked x ms service Clear all = all
-line_asked x ms service Pack all = all
-line_asked x ms service (Transfer w b k) all = all
-line_asked x ms service Arrive all = all
-line_asked x ms service (Sector b v) all = all
-line_asked x ms service Intr all = all
-line_asked x ms service (Try b f) all = all
-line_asked x ms service Attn all = all
 line_asked x ms service (End a) all = rest_asked x ms service.waiting all
+line_asked x ms service other all = all
 
 -- ---- the last sector
 abbrev pub tried_tag : Tried → ℕ

@@ -59,20 +59,9 @@ module _ (s : Replay) (line unit id : ℕ) (ms : List Moment) (lines : ℕ → L
       kept = end_kept (s.units unit).drive (hand_of (s.units unit)) (s.units unit).stage (End a) (lines unit) may.talk fit.fits
 
   own_off : (deed : Deed) → LineMay s line unit id deed → OffAt (unit_after s unit deed) (with_deed deed (lines unit)) (Longer deed)
-  own_off (Search c y) may = quiet_off (Search c y) refl refl
-  own_off (Seek c) may = quiet_off (Seek c) refl refl
-  own_off Recal may = quiet_off Recal refl refl
-  own_off (Offset o) may = quiet_off (Offset o) refl refl
-  own_off Centre may = quiet_off Centre refl refl
-  own_off Clear may = quiet_off Clear refl refl
-  own_off Pack may = quiet_off Pack refl refl
-  own_off (Transfer w b n) may = quiet_off (Transfer w b n) refl refl
-  own_off Arrive may = quiet_off Arrive refl refl
   own_off (Sector b v) may = sector_off b v may
-  own_off Intr may = quiet_off Intr refl refl
-  own_off (Try b f) may = quiet_off (Try b f) refl refl
-  own_off Attn may = quiet_off Attn refl refl
   own_off (End a) may = end_off a may
+  own_off other may = quiet_off other refl refl
 
   -- a sector that failed
   shown_noise : (b : ℕ) → IsVerdict (s.units unit).drive (s.surface.is_marked unit b) (flips_at s.surface unit (s.units unit).drive b) verdict.Hard → Ground unit ms
@@ -122,20 +111,9 @@ module _ (s : Replay) (line unit id : ℕ) (ms : List Moment) (lines : ℕ → L
   sector_failed b v may (inr any) = old_failed (Sector b v) any
 
   own_failed : (deed : Deed) → LineMay s line unit id deed → FailedAt unit (with_deed deed (lines unit)) (Longer deed)
-  own_failed (Search c y) may = old_failed (Search c y)
-  own_failed (Seek c) may = old_failed (Seek c)
-  own_failed Recal may = old_failed Recal
-  own_failed (Offset o) may = old_failed (Offset o)
-  own_failed Centre may = old_failed Centre
-  own_failed Clear may = old_failed Clear
-  own_failed Pack may = old_failed Pack
-  own_failed (Transfer w b n) may = old_failed (Transfer w b n)
-  own_failed Arrive may = old_failed Arrive
   own_failed (Sector b v) may = sector_failed b v may
-  own_failed Intr may = old_failed Intr
-  own_failed (Try b f) may = old_failed (Try b f)
-  own_failed Attn may = old_failed Attn
   own_failed (End a) may = end_failed a may
+  own_failed other may = old_failed other
 
   -- of its unit what is new, of any other what was
   told_of : (deed : Deed) (P : ℕ → UnitSeen → List Deed → Type 0) (x : ℕ) → P unit (unit_after s unit deed) (with_deed deed (lines unit)) → P x (s.units x) (lines x)

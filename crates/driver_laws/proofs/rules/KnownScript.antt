@@ -59,16 +59,11 @@ arm_known false x u k j n line d ms is old e = more (ArmsFault x) ms (Played lin
 
 said_armed : (x line : ℕ) (d : DriveState) (input : Input) (ms : List Moment) → ((kind : FaultKind) → nat_lt 0 (times_armed kind d.armed) ≡ true → WasPlayed (ArmsFault x) ms)
     → (kind : FaultKind) → nat_lt 0 (times_armed kind (drive_played x d input).armed) ≡ true → WasPlayed (ArmsFault x) (ms ++ Played line input ∷ [])
-said_armed x line d (Submit r) ms old kind e = more (ArmsFault x) ms (Played line (Submit r)) (old kind e)
-said_armed x line d (ArriveAt u) ms old kind e = more (ArmsFault x) ms (Played line (ArriveAt u)) (old kind e)
-said_armed x line d (MoveAt a) ms old kind e = more (ArmsFault x) ms (Played line (MoveAt a)) (old kind e)
-said_armed x line d (AttendTo a) ms old kind e = more (ArmsFault x) ms (Played line (AttendTo a)) (old kind e)
-said_armed x line d Drain ms old kind e = more (ArmsFault x) ms (Played line Drain) (old kind e)
 said_armed x line d (Turn u y) ms old kind e = more (ArmsFault x) ms (Played line (Turn u y)) (old kind (same_of_either (x == u) kind (turned y d) d refl e))
-said_armed x line d (Noise n) ms old kind e = more (ArmsFault x) ms (Played line (Noise n)) (old kind e)
 said_armed x line d (Arm u k n) ms old kind e = arm_known (x == u) x u k kind n line d ms refl old e
 said_armed x line d (SetOnline u on) ms old kind e = more (ArmsFault x) ms (Played line (SetOnline u on)) (old kind (same_of_either (x == u) kind (online_set on d) d (online_armed on d) e))
 said_armed x line d (SetLocked u on) ms old kind e = more (ArmsFault x) ms (Played line (SetLocked u on)) (old kind (same_of_either (x == u) kind (locked_set on d) d refl e))
+said_armed x line d other ms old kind e = more (ArmsFault x) ms (Played line other) (old kind e)
 
 noise_known : (live : List LiveNoise) (n : LiveNoise) (ms : List Moment) (line : ℕ) → LiveKnown live ms → LiveKnown (with_noise n live) (ms ++ Played line (Noise n) ∷ [])
 noise_known live n ms line all =
@@ -77,16 +72,8 @@ noise_known live n ms line all =
     (among_armed live n)
 
 said_live : (s : Surface) (input : Input) (ms : List Moment) (line : ℕ) → LiveKnown s.live ms → LiveKnown (surface_played s input).live (ms ++ Played line input ∷ [])
-said_live s (Submit r) ms line all = live_more s.live ms (Played line (Submit r)) all
-said_live s (ArriveAt u) ms line all = live_more s.live ms (Played line (ArriveAt u)) all
-said_live s (MoveAt a) ms line all = live_more s.live ms (Played line (MoveAt a)) all
-said_live s (AttendTo a) ms line all = live_more s.live ms (Played line (AttendTo a)) all
-said_live s Drain ms line all = live_more s.live ms (Played line Drain) all
-said_live s (Turn u y) ms line all = live_more s.live ms (Played line (Turn u y)) all
 said_live s (Noise n) ms line all = noise_known s.live n ms line all
-said_live s (Arm u k n) ms line all = live_more s.live ms (Played line (Arm u k n)) all
-said_live s (SetOnline u on) ms line all = live_more s.live ms (Played line (SetOnline u on)) all
-said_live s (SetLocked u on) ms line all = live_more s.live ms (Played line (SetLocked u on)) all
+said_live s other ms line all = live_more s.live ms (Played line other) all
 
 conditions_known : (s : Replay) (input : Input) (line : ℕ) (ms : List Moment) (lines : ℕ → List Deed) → Known s.units s.surface.live ms lines
     → Known (conditions_after s input).units (conditions_after s input).surface.live (ms ++ Played line input ∷ []) lines
@@ -101,12 +88,7 @@ conditions_known s input line ms lines k = record {
 -- ---- a request joins
 waiting_none : (stage : Stage) (h : Hand) (lines : List Deed) → is_waiting stage ≡ true → Fits h stage lines → lines ≡ []
 waiting_none Waiting h lines is f = f
-waiting_none (Steps left segment) h lines is f = absurd (no is)
-waiting_none (UnderWay left segment) h lines is f = absurd (no is)
-waiting_none (AtOnce segment) h lines is f = absurd (no is)
-waiting_none (Moving segment left last) h lines is f = absurd (no is)
-waiting_none (Saying rest next) h lines is f = absurd (no is)
-waiting_none (Ending answer) h lines is f = absurd (no is)
+waiting_none other h lines is f = absurd (no is)
 
 joined_off : (u : UnitSeen) (r : Request) (lines : List Deed) (ms : List Moment) (m : Moment) → UnitFits u lines → OffAt u lines ms → OffAt (unit_joined u r) lines (ms ++ m ∷ [])
 joined_off u r lines ms m fit off block e = at (is_waiting u.stage) refl
@@ -154,11 +136,7 @@ script_known s (ArriveAt u) line ms lines fit k = known_more s.units s.surface.l
 script_known s (MoveAt a) line ms lines fit k = known_more s.units s.surface.live ms (Played line (MoveAt a)) lines k
 script_known s (AttendTo a) line ms lines fit k = known_more s.units s.surface.live ms (Played line (AttendTo a)) lines k
 script_known s Drain line ms lines fit k = known_more s.units s.surface.live ms (Played line Drain) lines k
-script_known s (Turn u y) line ms lines fit k = conditions_known s (Turn u y) line ms lines k
-script_known s (Noise n) line ms lines fit k = conditions_known s (Noise n) line ms lines k
-script_known s (Arm u kind n) line ms lines fit k = conditions_known s (Arm u kind n) line ms lines k
-script_known s (SetOnline u on) line ms lines fit k = conditions_known s (SetOnline u on) line ms lines k
-script_known s (SetLocked u on) line ms lines fit k = conditions_known s (SetLocked u on) line ms lines k
+script_known s other line ms lines fit k = conditions_known s other line ms lines k
 
 -- ---- any line of the trace
 abbrev pub KnownIn : Replay → List Moment → (ℕ → List Deed) → Type 0
@@ -193,13 +171,7 @@ pub told_known : (wish : Wish) (s : Replay) (line unit id : ℕ) (deed : Deed) (
     → KnownIn (told_after wish s unit deed) (ms ++ Told line unit id deed ∷ []) (λ x. lines_after x (Told line unit id deed) (lines x))
 told_known (Refusal u i why) s line unit id deed ms lines may fit said k =
     subst (λ z. KnownIn s (ms ++ Told line unit id z ∷ []) (λ x. lines_after x (Told line unit id z) (lines x))) (sym may.answered) (refused_known s line unit id why ms lines k)
-told_known NoLine s line unit id deed ms lines may fit said k = told_line s line unit id deed ms lines may fit said k
-told_known (DueLine u) s line unit id deed ms lines may fit said k = told_line s line unit id deed ms lines may fit said k
-told_known (Arrival u) s line unit id deed ms lines may fit said k = told_line s line unit id deed ms lines may fit said k
-told_known (SectorLine u) s line unit id deed ms lines may fit said k = told_line s line unit id deed ms lines may fit said k
-told_known (Interrupt u) s line unit id deed ms lines may fit said k = told_line s line unit id deed ms lines may fit said k
-told_known (Attention u) s line unit id deed ms lines may fit said k = told_line s line unit id deed ms lines may fit said k
-told_known IdleLine s line unit id deed ms lines may fit said k = told_line s line unit id deed ms lines may fit said k
+told_known other s line unit id deed ms lines may fit said k = told_line s line unit id deed ms lines may fit said k
 
 pub moment_known : (s : Replay) (m : Moment) (ms : List Moment) (lines : ℕ → List Deed) → MayCome s m → AllFit s lines
     → ((x : ℕ) → (s.units x).drive.online ≡ online_behind x true ms) → KnownIn s ms lines → KnownIn (after_moment s m) (ms ++ m ∷ []) (λ x. lines_after x m (lines x))

@@ -43,21 +43,17 @@ found_asked all id (x ∷ rs) r are is = elim (eqb_tells x.id id) [
 -- ---- one answer
 left_is : (drives : ℕ → Option DriveKind) (claimed : Type 0) (m : Machine) (r : Request) (answer : Answer) → MayAnswer claimed (m.blocks r.unit) (first_block (kind_of drives r.unit) r) r answer
     → blocks_after m.blocks (first_block (kind_of drives r.unit) r) r answer ≡ left_by drives (Some r) answer m.blocks
-left_is drives claimed m r (ReadOk bytes) may = refl
-left_is drives claimed m r WriteOk may = refl
-left_is drives claimed m r (Failed cause done) may = refl
 left_is drives claimed m r OutsidePartition may = absurd may
 left_is drives claimed m r EndOfPartition may = absurd may
 left_is drives claimed m r NoFrames may = absurd may
+left_is drives claimed m r other may = refl
 
 gives_it : (drives : ℕ → Option DriveKind) (claims : (line : ℕ) → Request → Type 0) (m : Machine) (r : Request) (line : ℕ) (answer : Answer)
     → MayAnswer (claims line r) (m.blocks r.unit) (first_block (kind_of drives r.unit) r) r answer → Gives drives claims (Some r) m.blocks line answer
 gives_it drives claims m r line (ReadOk bytes) may = may.3
 gives_it drives claims m r line WriteOk may = tt
 gives_it drives claims m r line (Failed cause done) may = tt
-gives_it drives claims m r line OutsidePartition may = absurd may
-gives_it drives claims m r line EndOfPartition may = absurd may
-gives_it drives claims m r line NoFrames may = absurd may
+gives_it drives claims m r line other may = absurd may
 
 -- ---- answers one after another
 pub record Left (drives : ℕ → Option DriveKind) (claims : (line : ℕ) → Request → Type 0) (all : List Numbered) (m : Machine) (answers : List Answered) (new : Machine) : Type 0 where
@@ -121,15 +117,7 @@ submitted_left drives claims all line m r Joined are is = record { reads = tt; b
 input_left : (drives : ℕ → Option DriveKind) (claims : (line : ℕ) → Request → Type 0) (all : List Numbered) (line : ℕ) (m : Machine) (input : Input) → AllAsked all m.outstanding → IsAskedAs all input
     → Left drives claims all m (answers_of_input drives m line input) (after_input drives m input)
 input_left drives claims all line m (Submit r) are is = submitted_left drives claims all line m r (meets drives m r) are is
-input_left drives claims all line m (ArriveAt u) are is = record { reads = tt; blocks = refl; asked = are }
-input_left drives claims all line m (MoveAt a) are is = record { reads = tt; blocks = refl; asked = are }
-input_left drives claims all line m (AttendTo a) are is = record { reads = tt; blocks = refl; asked = are }
-input_left drives claims all line m Drain are is = record { reads = tt; blocks = refl; asked = are }
-input_left drives claims all line m (Turn u y) are is = record { reads = tt; blocks = refl; asked = are }
-input_left drives claims all line m (Noise n) are is = record { reads = tt; blocks = refl; asked = are }
-input_left drives claims all line m (Arm u k n) are is = record { reads = tt; blocks = refl; asked = are }
-input_left drives claims all line m (SetOnline u on) are is = record { reads = tt; blocks = refl; asked = are }
-input_left drives claims all line m (SetLocked u on) are is = record { reads = tt; blocks = refl; asked = are }
+input_left drives claims all line m other are is = record { reads = tt; blocks = refl; asked = are }
 
 -- ---- some answers and then others
 pub left_join : (drives : ℕ → Option DriveKind) (all : List Numbered) (blocks : ℕ → Blocks) (xs ys : List Answered) → left_behind drives all blocks (xs ++ ys) ≡ left_behind drives all (left_behind drives all blocks xs) ys
@@ -178,15 +166,7 @@ other_asked : (r : Request) (line : ℕ) (ns : List Numbered) (input : Input) (i
 other_asked r line ns (Submit x) ids apart is =
     let both : (x.id == r.id ≡ false) × (list_any (λ other. other == r.id) ids ≡ false) = parts (x.id == r.id) (list_any (λ other. other == r.id) ids) apart in
     (rw (ne_eqb r.id x.id (λ e. differ x.id r.id both.0 (sym e))) is, both.1)
-other_asked r line ns (ArriveAt u) ids apart is = (tt, apart)
-other_asked r line ns (MoveAt a) ids apart is = (tt, apart)
-other_asked r line ns (AttendTo a) ids apart is = (tt, apart)
-other_asked r line ns Drain ids apart is = (tt, apart)
-other_asked r line ns (Turn u y) ids apart is = (tt, apart)
-other_asked r line ns (Noise n) ids apart is = (tt, apart)
-other_asked r line ns (Arm u k n) ids apart is = (tt, apart)
-other_asked r line ns (SetOnline u on) ids apart is = (tt, apart)
-other_asked r line ns (SetLocked u on) ids apart is = (tt, apart)
+other_asked r line ns it ids apart is = (tt, apart)
 
 others_asked : (r : Request) (line : ℕ) (ns xs : List Numbered) → list_any (λ other. other == r.id) (ids_asked xs) ≡ false → AllByRecursion (λ (n : Numbered). IsAskedAs ns n.input) xs
     → AllByRecursion (λ (n : Numbered). IsAskedAs (record { line = line; input = Submit r } ∷ ns) n.input) xs
@@ -204,27 +184,11 @@ itself_asked r line ns = elim (eqb_tells r.id r.id) [
 pub with_asked_all : (line : ℕ) (input : Input) (ns : List Numbered) → AreApart (with_asked input (ids_asked ns)) → AllByRecursion (λ (n : Numbered). IsAskedAs ns n.input) ns
     → AllByRecursion (λ (n : Numbered). IsAskedAs (record { line = line; input = input } ∷ ns) n.input) (record { line = line; input = input } ∷ ns)
 with_asked_all line (Submit r) ns apart all = (itself_asked r line ns, others_asked r line ns ns apart.0 all)
-with_asked_all line (ArriveAt u) ns apart all = (tt, all)
-with_asked_all line (MoveAt a) ns apart all = (tt, all)
-with_asked_all line (AttendTo a) ns apart all = (tt, all)
-with_asked_all line Drain ns apart all = (tt, all)
-with_asked_all line (Turn u y) ns apart all = (tt, all)
-with_asked_all line (Noise n) ns apart all = (tt, all)
-with_asked_all line (Arm u k n) ns apart all = (tt, all)
-with_asked_all line (SetOnline u on) ns apart all = (tt, all)
-with_asked_all line (SetLocked u on) ns apart all = (tt, all)
+with_asked_all line other ns apart all = (tt, all)
 
 pub rest_apart : (input : Input) (ids : List ℕ) → AreApart (with_asked input ids) → AreApart ids
 rest_apart (Submit r) ids apart = apart.1
-rest_apart (ArriveAt u) ids apart = apart
-rest_apart (MoveAt a) ids apart = apart
-rest_apart (AttendTo a) ids apart = apart
-rest_apart Drain ids apart = apart
-rest_apart (Turn u y) ids apart = apart
-rest_apart (Noise n) ids apart = apart
-rest_apart (Arm u k n) ids apart = apart
-rest_apart (SetOnline u on) ids apart = apart
-rest_apart (SetLocked u on) ids apart = apart
+rest_apart other ids apart = apart
 
 pub each_asked : (ns : List Numbered) → AreApart (ids_asked ns) → AllByRecursion (λ (n : Numbered). IsAskedAs ns n.input) ns
 each_asked [] apart = tt

@@ -44,41 +44,17 @@ record Unended (s : Replay) (unit : ℕ) (deed : Deed) : Type 0 where
   counted : outstanding_after s.outstanding deed ≡ s.outstanding
 
 unended : (s : Replay) (unit : ℕ) (deed : Deed) → IsNoEnd deed → Unended s unit deed
-unended s unit (Search c y) none = record { service = refl; frames = refl; counted = refl }
-unended s unit (Seek c) none = record { service = refl; frames = refl; counted = refl }
-unended s unit Recal none = record { service = refl; frames = refl; counted = refl }
-unended s unit (Offset o) none = record { service = refl; frames = refl; counted = refl }
-unended s unit Centre none = record { service = refl; frames = refl; counted = refl }
-unended s unit Clear none = record { service = refl; frames = refl; counted = refl }
-unended s unit Pack none = record { service = refl; frames = refl; counted = refl }
-unended s unit (Transfer w b k) none = record { service = refl; frames = refl; counted = refl }
-unended s unit Arrive none = record { service = refl; frames = refl; counted = refl }
-unended s unit (Sector b v) none = record { service = refl; frames = refl; counted = refl }
-unended s unit Intr none = record { service = refl; frames = refl; counted = refl }
-unended s unit (Try b f) none = record { service = refl; frames = refl; counted = refl }
-unended s unit Attn none = record { service = refl; frames = refl; counted = refl }
 unended s unit (End a) none = absurd none
+unended s unit other none = record { service = refl; frames = refl; counted = refl }
 
 -- what no block has for its home was not written
 not_written : (setup : Setup) (armed : List LiveNoise) (s : Replay) (m : Machine) (line unit id : ℕ) (deed : Deed) → AreTablesOf setup.drives setup.packs setup.tables → Keeps setup s
     → StandsFor setup armed s m → LineMay s line unit id deed → (u x : ℕ) → ((block : ℕ) → home_in setup u block ≢ Some x) → IsUntouched unit deed u x
-not_written setup armed s m line unit id (Search c y) are k h may u x none = tt
-not_written setup armed s m line unit id (Seek c) are k h may u x none = tt
-not_written setup armed s m line unit id Recal are k h may u x none = tt
-not_written setup armed s m line unit id (Offset o) are k h may u x none = tt
-not_written setup armed s m line unit id Centre are k h may u x none = tt
-not_written setup armed s m line unit id Clear are k h may u x none = tt
-not_written setup armed s m line unit id Pack are k h may u x none = tt
-not_written setup armed s m line unit id (Transfer w b c) are k h may u x none = tt
-not_written setup armed s m line unit id Arrive are k h may u x none = tt
 not_written setup armed s m line unit id (Sector b v) are k h may u x none = λ bytes same here.
     none (first_block (s.units unit).drive.kind (in_hand (s.units unit).service) + (s.units unit).progress.done)
     (ap (λ z. home_in setup z (first_block (s.units unit).drive.kind (in_hand (s.units unit).service) + (s.units unit).progress.done)) same
     ∙ (try_of setup armed s m line unit id b v are k h may).home bytes ∙ ap Some (sym here))
-not_written setup armed s m line unit id Intr are k h may u x none = tt
-not_written setup armed s m line unit id (Try b f) are k h may u x none = tt
-not_written setup armed s m line unit id Attn are k h may u x none = tt
-not_written setup armed s m line unit id (End a) are k h may u x none = tt
+not_written setup armed s m line unit id other are k h may u x none = tt
 
 quiet_stands : (setup : Setup) (armed : List LiveNoise) (s : Replay) (m : Machine) (line unit id : ℕ) (deed : Deed) → AreTablesOf setup.drives setup.packs setup.tables → Keeps setup s
     → StandsFor setup armed s m → LineMay s line unit id deed → IsNoEnd deed → StandsFor setup armed (replay_told s unit deed (unit_after s unit deed)) m
@@ -205,12 +181,9 @@ serving_owes adapter a false [] line = start_owes a a.state.busy line
 serving_owes adapter a false (d ∷ ds) line = refl
 
 calm_wish : (adapters : ℕ → AdapterSeen) (act : Act) (line : ℕ) → IsCalm act → owed_by (wish_in adapters act) line ≡ []
-calm_wish adapters Done line calm = refl
 calm_wish adapters (Refusing u i why) line calm = absurd calm
-calm_wish adapters (Arriving u) line calm = refl
-calm_wish adapters (Trying a) line calm = refl
 calm_wish adapters (Serving a i ds) line calm = serving_owes a (adapters a) i ds line
-calm_wish adapters NothingToDo line calm = refl
+calm_wish adapters other line calm = refl
 
 pub calm_owes : (adapters : ℕ → AdapterSeen) (e : Event) (goes : Bool) (line : ℕ) → IsCalm e.act → owed_by (wanted adapters e goes) line ≡ []
 calm_owes adapters e true line calm = refl
@@ -244,37 +217,13 @@ pub record ToldStep (setup : Setup) (armed : List LiveNoise) (s : Replay) (m : M
   pub stands : StandsFor setup armed after new
 
 told_none : (line unit id : ℕ) (deed : Deed) → IsNoEnd deed → told_by (Told line unit id deed) ≡ []
-told_none line unit id (Search c y) none = refl
-told_none line unit id (Seek c) none = refl
-told_none line unit id Recal none = refl
-told_none line unit id (Offset o) none = refl
-told_none line unit id Centre none = refl
-told_none line unit id Clear none = refl
-told_none line unit id Pack none = refl
-told_none line unit id (Transfer w b k) none = refl
-told_none line unit id Arrive none = refl
-told_none line unit id (Sector b v) none = refl
-told_none line unit id Intr none = refl
-told_none line unit id (Try b f) none = refl
-told_none line unit id Attn none = refl
 told_none line unit id (End a) none = absurd none
+told_none line unit id other none = refl
 
 -- it is an end, or is none
 ends_or_not : (P : Deed → Type 0) → ((deed : Deed) → IsNoEnd deed → P deed) → ((answer : Answer) → P (End answer)) → (deed : Deed) → P deed
-ends_or_not P none ends (Search c y) = none (Search c y) tt
-ends_or_not P none ends (Seek c) = none (Seek c) tt
-ends_or_not P none ends Recal = none Recal tt
-ends_or_not P none ends (Offset o) = none (Offset o) tt
-ends_or_not P none ends Centre = none Centre tt
-ends_or_not P none ends Clear = none Clear tt
-ends_or_not P none ends Pack = none Pack tt
-ends_or_not P none ends (Transfer w b k) = none (Transfer w b k) tt
-ends_or_not P none ends Arrive = none Arrive tt
-ends_or_not P none ends (Sector b v) = none (Sector b v) tt
-ends_or_not P none ends Intr = none Intr tt
-ends_or_not P none ends (Try b f) = none (Try b f) tt
-ends_or_not P none ends Attn = none Attn tt
 ends_or_not P none ends (End answer) = ends answer
+ends_or_not P none ends other = none other tt
 
 -- of a request that joined; no refusal is owed at it
 line_step : (setup : Setup) (armed : List LiveNoise) (s : Replay) (m : Machine) (wish : Wish) (line unit id : ℕ) → AreTablesOf setup.drives setup.packs setup.tables → Keeps setup s
@@ -320,24 +269,12 @@ refusal_step setup armed s m line unit id u i why deed h may = subst (λ z. Told
 pub told_step : (setup : Setup) (armed : List LiveNoise) (s : Replay) (m : Machine) (wish : Wish) (line unit id : ℕ) (deed : Deed) → AreTablesOf setup.drives setup.packs setup.tables → Keeps setup s
     → StandsFor setup armed s m → ToldMay wish s line unit id deed → ToldStep setup armed s m wish (told_after wish s unit deed) line unit id deed
 told_step setup armed s m (Refusal u i why) line unit id deed are k h may = refusal_step setup armed s m line unit id u i why deed h may
-told_step setup armed s m NoLine line unit id deed are k h may = line_step setup armed s m NoLine line unit id are k h refl deed may
-told_step setup armed s m (DueLine u) line unit id deed are k h may = line_step setup armed s m (DueLine u) line unit id are k h refl deed may
-told_step setup armed s m (Arrival u) line unit id deed are k h may = line_step setup armed s m (Arrival u) line unit id are k h refl deed may
-told_step setup armed s m (SectorLine u) line unit id deed are k h may = line_step setup armed s m (SectorLine u) line unit id are k h refl deed may
-told_step setup armed s m (Interrupt u) line unit id deed are k h may = line_step setup armed s m (Interrupt u) line unit id are k h refl deed may
-told_step setup armed s m (Attention u) line unit id deed are k h may = line_step setup armed s m (Attention u) line unit id are k h refl deed may
-told_step setup armed s m IdleLine line unit id deed are k h may = line_step setup armed s m IdleLine line unit id are k h refl deed may
+told_step setup armed s m other line unit id deed are k h may = line_step setup armed s m other line unit id are k h refl deed may
 
 -- ---- the line's number stays
 told_number : (setup : Setup) (wish : Wish) (s : Replay) (line unit id : ℕ) (deed : Deed) → Keeps setup s → ToldMay wish s line unit id deed → (told_after wish s unit deed).event.line ≡ s.event.line
 told_number setup (Refusal u i why) s line unit id deed k may = refl
-told_number setup NoLine s line unit id deed k may = (line_eases setup s line unit id deed k may).number
-told_number setup (DueLine u) s line unit id deed k may = (line_eases setup s line unit id deed k may).number
-told_number setup (Arrival u) s line unit id deed k may = (line_eases setup s line unit id deed k may).number
-told_number setup (SectorLine u) s line unit id deed k may = (line_eases setup s line unit id deed k may).number
-told_number setup (Interrupt u) s line unit id deed k may = (line_eases setup s line unit id deed k may).number
-told_number setup (Attention u) s line unit id deed k may = (line_eases setup s line unit id deed k may).number
-told_number setup IdleLine s line unit id deed k may = (line_eases setup s line unit id deed k may).number
+told_number setup other s line unit id deed k may = (line_eases setup s line unit id deed k may).number
 
 pub told_line : (setup : Setup) (s : Replay) (line unit id : ℕ) (deed : Deed) → Keeps setup s → ToldMay (next_wish s) s line unit id deed → (after_moment s (Told line unit id deed)).event.line ≡ s.event.line
 told_line setup s line unit id deed k may = told_number setup (next_wish s) s line unit id deed k may

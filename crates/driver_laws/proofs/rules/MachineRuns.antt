@@ -80,15 +80,7 @@ moments_good drives (Idle line ∷ ms) all = (tt, moments_good drives ms all)
 
 input_ids : (input : Input) (ids : List ℕ) → with_asked input ids ≡ with_id (Plays input) ids
 input_ids (Submit r) ids = refl
-input_ids (ArriveAt u) ids = refl
-input_ids (MoveAt a) ids = refl
-input_ids (AttendTo a) ids = refl
-input_ids Drain ids = refl
-input_ids (Turn u y) ids = refl
-input_ids (Noise n) ids = refl
-input_ids (Arm u k n) ids = refl
-input_ids (SetOnline u on) ids = refl
-input_ids (SetLocked u on) ids = refl
+input_ids other ids = refl
 
 statement_ids : (number : ℕ) (statement : Statement) (inputs : List Numbered) (ids : List ℕ) → ids_asked inputs ≡ ids → ids_asked (with_input number statement inputs) ≡ with_id statement ids
 statement_ids number (Declares unit kind) inputs ids is = is
@@ -103,16 +95,8 @@ script_ids script = lines_ids (record { line = script.count + 1; input = Drain }
 
 -- ---- A LINE with what comes in it
 pub more_sure : (armed : List LiveNoise) (input : Input) (unit sector : ℕ) → is_sure_among (armed_by armed input) unit sector → is_sure_among armed unit sector
-more_sure armed (Submit r) unit sector is = is
-more_sure armed (ArriveAt u) unit sector is = is
-more_sure armed (MoveAt a) unit sector is = is
-more_sure armed (AttendTo a) unit sector is = is
-more_sure armed Drain unit sector is = is
-more_sure armed (Turn u y) unit sector is = is
 more_sure armed (Noise n) unit sector is = is.0
-more_sure armed (Arm u k n) unit sector is = is
-more_sure armed (SetOnline u on) unit sector is = is
-more_sure armed (SetLocked u on) unit sector is = is
+more_sure armed other unit sector is = is
 
 one_line : (drives : ℕ → Option DriveKind) (claims : (line : ℕ) → Request → Type 0) (m : Machine) (n : Numbered) (inputs : List Numbered) (answers : List Answered) (new : Machine) → inputs ≡ []
     → AnswersTo drives claims m (n ∷ inputs) answers new → AnswersAt drives claims m n answers new
@@ -261,8 +245,7 @@ left_sector script tables old new ms run unit sector kind declared below none =
 -- the copies of a table are no homes
 copy_below : (kind : DriveKind) (k : ℕ) → k < 5 → copy_at kind k < block_count kind
 copy_below Rp06 k lt = omega (arith, lt)
-copy_below Rm03 k lt = omega (arith, lt)
-copy_below Rm05 k lt = omega (arith, lt)
+copy_below other k lt = omega (arith, lt)
 
 no_home_there : (kind : DriveKind) (table : Option Table) (pack : model.Pack) (k : ℕ) → length (places_of table) ≤ 126 → IsHome kind table pack (copy_at kind k) → ⊥
 no_home_there kind table pack k room is = apart (copy_at kind k) (home_below kind table pack is.block (copy_at kind k) k room is.at)

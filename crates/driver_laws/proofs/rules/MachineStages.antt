@@ -24,13 +24,10 @@ use Rattle.driver_laws.proofs.rules.Tried.{no}
 
 -- ---- a stage behind lines
 pub rest_stands : (sure : ℕ → Type 0) (homes : ℕ → Option ℕ) (first : ℕ) (r : Request) (p : Progress) (blocks : Blocks) (work : Work) (next : Stage) → RestStands r p next → StageStands sure homes first r p blocks work next
-rest_stands sure homes first r p blocks work Waiting is = tt
-rest_stands sure homes first r p blocks work (Steps left segment) is = tt
-rest_stands sure homes first r p blocks work (UnderWay left segment) is = tt
-rest_stands sure homes first r p blocks work (AtOnce segment) is = tt
 rest_stands sure homes first r p blocks work (Moving segment left last) is = absurd is
 rest_stands sure homes first r p blocks work (Saying lines next) is = absurd is
 rest_stands sure homes first r p blocks work (Ending answer) is = is
+rest_stands sure homes first r p blocks work other is = tt
 
 pub saying_stands : (sure : ℕ → Type 0) (homes : ℕ → Option ℕ) (first : ℕ) (r : Request) (p : Progress) (blocks : Blocks) (work : Work) (lines : List Deed) (next : Stage) → RestStands r p next
     → StageStands sure homes first r p blocks work (saying lines next)
@@ -40,54 +37,35 @@ saying_stands sure homes first r p blocks work (line ∷ lines) next is = is
 -- ---- a line that is due by itself: PACK leaves the stage, a step's command takes a step, and a line behind an interrupt was said
 pub pack_stands : (sure : ℕ → Type 0) (homes : ℕ → Option ℕ) (first : ℕ) (r : Request) (p : Progress) (blocks : Blocks) (was now : Work) (d : DriveState) (h : Hand) (deed : Deed) (stage : Stage)
     → due d h stage ≡ Some deed → StageStands sure homes first r p blocks was stage → StageStands sure homes first r p blocks now stage
-pack_stands sure homes first r p blocks was now d h deed Waiting is st = tt
-pack_stands sure homes first r p blocks was now d h deed (Steps left segment) is st = tt
-pack_stands sure homes first r p blocks was now d h deed (UnderWay left segment) is st = tt
-pack_stands sure homes first r p blocks was now d h deed (AtOnce segment) is st = tt
 pack_stands sure homes first r p blocks was now d h deed (Moving segment left last) is st = absurd (none-some deed is)
 pack_stands sure homes first r p blocks was now d h deed (Saying lines next) is st = st
 pack_stands sure homes first r p blocks was now d h deed (Ending answer) is st = st
+pack_stands sure homes first r p blocks was now d h deed other is st = tt
 
 pub step_stands : (sure : ℕ → Type 0) (homes : ℕ → Option ℕ) (first : ℕ) (r : Request) (p : Progress) (blocks : Blocks) (was now : Work) (d : DriveState) (h : Hand) (deed : Deed) (stage : Stage)
     → due d h stage ≡ Some deed → StageStands sure homes first r p blocks was stage → StageStands sure homes first r p blocks now (step_taken stage)
-step_stands sure homes first r p blocks was now d h deed Waiting is st = tt
-step_stands sure homes first r p blocks was now d h deed (Steps left segment) is st = tt
-step_stands sure homes first r p blocks was now d h deed (UnderWay left segment) is st = tt
-step_stands sure homes first r p blocks was now d h deed (AtOnce segment) is st = tt
 step_stands sure homes first r p blocks was now d h deed (Moving segment left last) is st = absurd (none-some deed is)
 step_stands sure homes first r p blocks was now d h deed (Saying lines next) is st = st
 step_stands sure homes first r p blocks was now d h deed (Ending answer) is st = st
+step_stands sure homes first r p blocks was now d h deed other is st = tt
 
 pub said_stands : (sure : ℕ → Type 0) (homes : ℕ → Option ℕ) (first : ℕ) (r : Request) (p : Progress) (blocks : Blocks) (was now : Work) (d : DriveState) (h : Hand) (deed : Deed) (stage : Stage)
     → due d h stage ≡ Some deed → StageStands sure homes first r p blocks was stage → StageStands sure homes first r p blocks now (said stage)
-said_stands sure homes first r p blocks was now d h deed Waiting is st = tt
-said_stands sure homes first r p blocks was now d h deed (Steps left segment) is st = tt
-said_stands sure homes first r p blocks was now d h deed (UnderWay left segment) is st = tt
-said_stands sure homes first r p blocks was now d h deed (AtOnce segment) is st = tt
 said_stands sure homes first r p blocks was now d h deed (Moving segment left last) is st = absurd (none-some deed is)
 said_stands sure homes first r p blocks was now d h deed (Saying lines next) is st = saying_stands sure homes first r p blocks now (drop 1 lines) next st
 said_stands sure homes first r p blocks was now d h deed (Ending answer) is st = st
+said_stands sure homes first r p blocks was now d h deed other is st = tt
 
 -- ---- lines that an event brings
 pub arrive_stands : (sure : ℕ → Type 0) (homes : ℕ → Option ℕ) (first : ℕ) (r : Request) (p : Progress) (blocks : Blocks) (now : Work) (stage : Stage)
     → is_under_way stage ≡ true → StageStands sure homes first r p blocks now stage
-arrive_stands sure homes first r p blocks now Waiting is = absurd (no is)
-arrive_stands sure homes first r p blocks now (Steps left segment) is = absurd (no is)
 arrive_stands sure homes first r p blocks now (UnderWay left segment) is = tt
-arrive_stands sure homes first r p blocks now (AtOnce segment) is = absurd (no is)
-arrive_stands sure homes first r p blocks now (Moving segment left last) is = absurd (no is)
-arrive_stands sure homes first r p blocks now (Saying lines next) is = absurd (no is)
-arrive_stands sure homes first r p blocks now (Ending answer) is = absurd (no is)
+arrive_stands sure homes first r p blocks now other is = absurd (no is)
 
 pub attn_stands : (sure : ℕ → Type 0) (homes : ℕ → Option ℕ) (first : ℕ) (r : Request) (p : Progress) (blocks : Blocks) (now : Work) (stage : Stage)
     → is_under_way stage ≡ true → StageStands sure homes first r p blocks now (step_ended stage)
-attn_stands sure homes first r p blocks now Waiting is = absurd (no is)
-attn_stands sure homes first r p blocks now (Steps left segment) is = absurd (no is)
 attn_stands sure homes first r p blocks now (UnderWay left segment) is = tt
-attn_stands sure homes first r p blocks now (AtOnce segment) is = absurd (no is)
-attn_stands sure homes first r p blocks now (Moving segment left last) is = absurd (no is)
-attn_stands sure homes first r p blocks now (Saying lines next) is = absurd (no is)
-attn_stands sure homes first r p blocks now (Ending answer) is = absurd (no is)
+attn_stands sure homes first r p blocks now other is = absurd (no is)
 
 -- ---- a transfer that is commanded goes in the request's direction
 abbrev pub Goes : Hand → Deed → Type 0
@@ -96,9 +74,7 @@ Goes h deed = Unit {0}
 
 step_goes : (h : Hand) (step : Positioning) → Goes h (command_of step)
 step_goes h (SearchFor c y) = tt
-step_goes h Recalibrate = tt
-step_goes h (SeekTo c) = tt
-step_goes h (OffsetBy code) = tt
+step_goes h other = tt
 
 line_goes : (h : Hand) (line : Deed) (rest : List Deed) → AreSaid (line ∷ rest) → Goes h line
 line_goes h Clear rest a = tt
@@ -148,30 +124,22 @@ may_sector h (Ending answer) block lines is f = absurd (no is)
 
 pub sector_goes : (sure : ℕ → Type 0) (homes : ℕ → Option ℕ) (first : ℕ) (r : Request) (p : Progress) (blocks : Blocks) (now : Work) (h : Hand) (stage : Stage) (block : ℕ)
     → sector_may h stage block ≡ true → StageStands sure homes first r p blocks now stage → is_transferring now ≡ true → is_writing now ≡ is_some r.written
-sector_goes sure homes first r p blocks now h Waiting block is st = absurd (no is)
-sector_goes sure homes first r p blocks now h (Steps left segment) block is st = absurd (no is)
-sector_goes sure homes first r p blocks now h (UnderWay left segment) block is st = absurd (no is)
-sector_goes sure homes first r p blocks now h (AtOnce segment) block is st = absurd (no is)
 sector_goes sure homes first r p blocks now h (Moving segment left last) block is st = st.0
-sector_goes sure homes first r p blocks now h (Saying rest next) block is st = absurd (no is)
-sector_goes sure homes first r p blocks now h (Ending answer) block is st = absurd (no is)
+sector_goes sure homes first r p blocks now h other block is st = absurd (no is)
 
 -- ---- the interrupt
 pub interrupted_hand : (sure : ℕ → Type 0) (homes : ℕ → Option ℕ) (first : ℕ) (r : Request) (p : Progress) (sectors : ℕ → List ℕ) (blocks : Blocks) (last : Moved)
     → LastStands sure homes first r p blocks last → HandStands sure homes first r p sectors blocks → HandStands sure homes first r (progress_interrupted last p) sectors blocks
-interrupted_hand sure homes first r p sectors blocks verdict.Clean l h = h
 interrupted_hand sure homes first r p sectors blocks (verdict.Burst at q) l h =
     read_more sure homes first r p (record p { done = p.done + 1; failures = 0; bytes = p.bytes ++ repaired_from 0 at q p.struck; struck = [] }) sectors blocks (repaired_from 0 at q p.struck) refl refl l.reads l.usable (repaired_length 0 at q p.struck ∙ l.size) l.repaired h
 interrupted_hand sure homes first r p sectors blocks verdict.Hard l h = same_hand sure homes first r p (record p { failures = p.failures + 1 }) sectors blocks refl refl h
 interrupted_hand sure homes first r p sectors blocks (verdict.Faulted k) l h = same_hand sure homes first r p (record p { failures = p.failures + 1 }) sectors blocks refl refl h
 interrupted_hand sure homes first r p sectors blocks verdict.Marked l h = same_hand sure homes first r p (record p { failures = 0 }) sectors blocks refl refl h
-interrupted_hand sure homes first r p sectors blocks verdict.Offline l h = h
+interrupted_hand sure homes first r p sectors blocks other l h = h
 
 retried_stands : (r : Request) (p : Progress) (step : Step) (cylinder : ℕ) (segment : Segment) (done : ℕ) → RestStands r p (retried step cylinder segment done)
 retried_stands r p retry.Again cylinder segment done = tt
-retried_stands r p (retry.Offset code) cylinder segment done = tt
-retried_stands r p (retry.Recalibrate offset) cylinder segment done = tt
-retried_stands r p retry.GiveUp cylinder segment done = tt
+retried_stands r p other cylinder segment done = tt
 
 forwarded_stands : (h : Hand) (p : Progress) (entry : Option ℕ) → RestStands h.request p (forwarded h entry)
 forwarded_stands h p None = tt
@@ -193,12 +161,11 @@ continued_stands h = at (h.progress.done == h.request.count)
     at false = tt
 
 outcome_stands : (h : Hand) (segment : Segment) (last : Moved) → RestStands h.request h.progress (outcome last h segment)
-outcome_stands h segment verdict.Clean = continued_stands h
-outcome_stands h segment (verdict.Burst at q) = continued_stands h
 outcome_stands h segment verdict.Hard = retried_stands h.request h.progress (step_after h.progress.failures (not (is_write h))) (place_at h.kind (start_of segment h)).cylinder segment h.progress.done
 outcome_stands h segment (verdict.Faulted k) = retried_stands h.request h.progress (step_after h.progress.failures (not (is_write h))) (place_at h.kind (start_of segment h)).cylinder segment h.progress.done
 outcome_stands h segment verdict.Marked = marked_stands h h.progress segment
 outcome_stands h segment verdict.Offline = tt
+outcome_stands h segment other = continued_stands h
 
 pub interrupted_stage : (sure : ℕ → Type 0) (homes : ℕ → Option ℕ) (first : ℕ) (blocks : Blocks) (now : Work) (d : DriveState) (h : Hand) (segment : Segment) (last : Moved)
     → StageStands sure homes first h.request h.progress blocks now (interrupted_by last d h segment)
@@ -208,10 +175,5 @@ interrupted_stage sure homes first blocks now d h segment last =
 -- the last verdict, of a stage at which the interrupt may come
 pub last_stands : (sure : ℕ → Type 0) (homes : ℕ → Option ℕ) (first : ℕ) (r : Request) (p : Progress) (blocks : Blocks) (now : Work) (stage : Stage)
     → StageStands sure homes first r p blocks now stage → LastStands sure homes first r p blocks (last_of stage)
-last_stands sure homes first r p blocks now Waiting st = tt
-last_stands sure homes first r p blocks now (Steps left segment) st = tt
-last_stands sure homes first r p blocks now (UnderWay left segment) st = tt
-last_stands sure homes first r p blocks now (AtOnce segment) st = tt
 last_stands sure homes first r p blocks now (Moving segment left last) st = st.1
-last_stands sure homes first r p blocks now (Saying rest next) st = tt
-last_stands sure homes first r p blocks now (Ending answer) st = tt
+last_stands sure homes first r p blocks now other st = tt

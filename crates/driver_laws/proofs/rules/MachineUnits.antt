@@ -184,22 +184,6 @@ staged setup armed s m unit deed stage stands st =
 pub own_line : (setup : Setup) (armed : List LiveNoise) (s : Replay) (m : Machine) (line unit id : ℕ) (deed : Deed) → AreTablesOf setup.drives setup.packs setup.tables → Keeps setup s
     → StandsFor setup armed s m → LineMay s line unit id deed → IsNoEnd deed
     → UnitStands (is_sure_among armed unit) (home_in setup unit) (unit_after s unit deed) ((surface_after s unit deed).sector unit) (m.blocks unit)
-own_line setup armed s m line unit id (Search c y) are keeps stands may none =
-    staged setup armed s m unit (Search c y) (step_taken (s.units unit).stage) stands
-    (step_stands (is_sure_among armed unit) (home_in setup unit) (first_block (s.units unit).drive.kind (in_hand (s.units unit).service)) (in_hand (s.units unit).service) (s.units unit).progress (m.blocks unit)
-    (s.units unit).drive.work (DriveOf s unit (Search c y)).work (s.units unit).drive (hand_of (s.units unit)) (Search c y) (s.units unit).stage may.talk (stands.units unit).stage)
-own_line setup armed s m line unit id (Seek c) are keeps stands may none =
-    staged setup armed s m unit (Seek c) (step_taken (s.units unit).stage) stands
-    (step_stands (is_sure_among armed unit) (home_in setup unit) (first_block (s.units unit).drive.kind (in_hand (s.units unit).service)) (in_hand (s.units unit).service) (s.units unit).progress (m.blocks unit)
-    (s.units unit).drive.work (DriveOf s unit (Seek c)).work (s.units unit).drive (hand_of (s.units unit)) (Seek c) (s.units unit).stage may.talk (stands.units unit).stage)
-own_line setup armed s m line unit id Recal are keeps stands may none =
-    staged setup armed s m unit Recal (step_taken (s.units unit).stage) stands
-    (step_stands (is_sure_among armed unit) (home_in setup unit) (first_block (s.units unit).drive.kind (in_hand (s.units unit).service)) (in_hand (s.units unit).service) (s.units unit).progress (m.blocks unit)
-    (s.units unit).drive.work (DriveOf s unit Recal).work (s.units unit).drive (hand_of (s.units unit)) Recal (s.units unit).stage may.talk (stands.units unit).stage)
-own_line setup armed s m line unit id (Offset code) are keeps stands may none =
-    staged setup armed s m unit (Offset code) (step_taken (s.units unit).stage) stands
-    (step_stands (is_sure_among armed unit) (home_in setup unit) (first_block (s.units unit).drive.kind (in_hand (s.units unit).service)) (in_hand (s.units unit).service) (s.units unit).progress (m.blocks unit)
-    (s.units unit).drive.work (DriveOf s unit (Offset code)).work (s.units unit).drive (hand_of (s.units unit)) (Offset code) (s.units unit).stage may.talk (stands.units unit).stage)
 own_line setup armed s m line unit id Centre are keeps stands may none =
     staged setup armed s m unit Centre (said (s.units unit).stage) stands
     (said_stands (is_sure_among armed unit) (home_in setup unit) (first_block (s.units unit).drive.kind (in_hand (s.units unit).service)) (in_hand (s.units unit).service) (s.units unit).progress (m.blocks unit)
@@ -242,3 +226,7 @@ own_line setup armed s m line unit id Attn are keeps stands may none =
     (attn_stands (is_sure_among armed unit) (home_in setup unit) (first_block (s.units unit).drive.kind (in_hand (s.units unit).service)) (in_hand (s.units unit).service) (s.units unit).progress (m.blocks unit)
     (DriveOf s unit Attn).work (s.units unit).stage may.talk)
 own_line setup armed s m line unit id (End answer) are keeps stands may none = absurd none
+own_line setup armed s m line unit id other are keeps stands may none =
+    staged setup armed s m unit other (step_taken (s.units unit).stage) stands
+    (step_stands (is_sure_among armed unit) (home_in setup unit) (first_block (s.units unit).drive.kind (in_hand (s.units unit).service)) (in_hand (s.units unit).service) (s.units unit).progress (m.blocks unit)
+    (s.units unit).drive.work (DriveOf s unit other).work (s.units unit).drive (hand_of (s.units unit)) other (s.units unit).stage may.talk (stands.units unit).stage)

@@ -81,15 +81,7 @@ submitted_count line id r ids m Joined = joined (if r.id == id then 1 else 0) (t
 input_count : (drives : ℕ → Option DriveKind) (line id : ℕ) (input : Input) (ids : List ℕ) (m : Machine) → times_among id (with_asked input ids) + times_out id m.outstanding
     ≡ times_answered id (answers_of_input drives m line input) + (times_among id ids + times_out id (after_input drives m input).outstanding)
 input_count drives line id (Submit r) ids m = submitted_count line id r ids m (meets drives m r)
-input_count drives line id (ArriveAt u) ids m = omega arith
-input_count drives line id (MoveAt a) ids m = omega arith
-input_count drives line id (AttendTo a) ids m = omega arith
-input_count drives line id Drain ids m = omega arith
-input_count drives line id (Turn u y) ids m = omega arith
-input_count drives line id (Noise n) ids m = omega arith
-input_count drives line id (Arm u kind n) ids m = omega arith
-input_count drives line id (SetOnline u on) ids m = omega arith
-input_count drives line id (SetLocked u on) ids m = omega arith
+input_count drives line id other ids m = omega arith
 
 pub answers_count : (drives : ℕ → Option DriveKind) (claims : (line : ℕ) → Request → Type 0) (id : ℕ) (m : Machine) (inputs : List Numbered) (answers : List Answered) (new : Machine) → AnswersTo drives claims m inputs answers new
     → times_among id (ids_asked inputs) + times_out id m.outstanding ≡ times_answered id answers + times_out id new.outstanding

@@ -34,13 +34,6 @@ not_for a n m apart busy =
     never false = refl
 
 pub spared : (a : AdapterState) (n m : ℕ) (deed : Deed) → drive_of m ≢ drive_of n → AdapterMay a n deed → Spared a (adapter_after a n deed) m
-spared a n m (Search c y) apart may = untouched a m
-spared a n m (Seek c) apart may = untouched a m
-spared a n m Recal apart may = untouched a m
-spared a n m (Offset o) apart may = untouched a m
-spared a n m Centre apart may = untouched a m
-spared a n m Clear apart may = untouched a m
-spared a n m Pack apart may = untouched a m
 spared a n m (Transfer w b k) apart may = record {
   busy = differ (drive_of n) (drive_of m) (λ is. apart (sym is)) ∙ sym (ap (λ z. z && (a.drive == drive_of m)) may);
   bit = refl;
@@ -60,9 +53,8 @@ spared a n m Intr apart may = record {
   completion = λ e. absurd (nor (sym e ∙ not_for a n m apart (first_of (is_busy_for a n) a.completion may)));
   bytes = λ e. absurd (nor (sym e ∙ not_for a n m apart (first_of (is_busy_for a n) a.completion may)));
 }
-spared a n m (Try b f) apart may = untouched a m
 spared a n m Attn apart may = record { busy = refl; bit = lowered_other a.attentions (drive_of n) (drive_of m) (drive_below n) (drive_below m) apart; completion = λ e. refl; bytes = λ e. refl }
-spared a n m (End answer) apart may = untouched a m
+spared a n m other apart may = untouched a m
 
 counts_same : (stage : Stage) (a b : AdapterState) → b.completion ≡ a.completion → b.byte_count ≡ a.byte_count → Counts stage a → Counts stage b
 counts_same stage a b completion bytes c = record {
@@ -96,21 +88,11 @@ drives_differ n m apart at is = apart (omega (arith, at, is))
 -- ---- the adapter
 state_in_order : (a : AdapterState) (n : ℕ) (deed : Deed) → AdapterMay a n deed → a.drive < 8 → (a.busy ≡ false → a.completion ≡ false)
     → ((adapter_after a n deed).drive < 8) × ((adapter_after a n deed).busy ≡ false → (adapter_after a n deed).completion ≡ false)
-state_in_order a n (Search c y) may low free = (low, free)
-state_in_order a n (Seek c) may low free = (low, free)
-state_in_order a n Recal may low free = (low, free)
-state_in_order a n (Offset o) may low free = (low, free)
-state_in_order a n Centre may low free = (low, free)
-state_in_order a n Clear may low free = (low, free)
-state_in_order a n Pack may low free = (low, free)
 state_in_order a n (Transfer w b k) may low free = (drive_below n, λ e. absurd (nor e))
-state_in_order a n Arrive may low free = (low, free)
 state_in_order a n (Sector b v) may low free =
     (subst (λ z. z < 8) (sym (stepped_keeps v a).1) low, λ e. absurd (nor (sym (first_of a.busy (a.drive == drive_of n) (first_of (is_busy_for a n) (can_move a) may.0)) ∙ sym (stepped_keeps v a).0 ∙ e)))
 state_in_order a n Intr may low free = (low, λ e. refl)
-state_in_order a n (Try b f) may low free = (low, free)
-state_in_order a n Attn may low free = (low, free)
-state_in_order a n (End answer) may low free = (low, free)
+state_in_order a n other may low free = (low, free)
 
 pub order_after : (a : AdapterSeen) (n : ℕ) (deed : Deed) (w : Bool) → AdapterMay a.state n deed → IsInOrder a (adapter_of n)
     → IsInOrder (record { state = adapter_after a.state n deed; ready = ready_after w n deed a.ready }) (adapter_of n)

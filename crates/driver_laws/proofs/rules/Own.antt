@@ -148,11 +148,7 @@ sector_counts verdict.Clean a segment left is some = record {
   counted = λ e. one_less a.byte_count left is some;
   finished = λ e c. none_left (left - 1) (sym (one_less a.byte_count left is some) ∙ is_same (a.byte_count - min 512 a.byte_count) 0 c);
 }
-sector_counts (verdict.Burst at q) a segment left is some = record { stopped = λ e. refl; counted = λ e. absurd (nor e); finished = λ e. absurd (nor e) }
-sector_counts verdict.Hard a segment left is some = record { stopped = λ e. refl; counted = λ e. absurd (nor e); finished = λ e. absurd (nor e) }
-sector_counts (verdict.Faulted k) a segment left is some = record { stopped = λ e. refl; counted = λ e. absurd (nor e); finished = λ e. absurd (nor e) }
-sector_counts verdict.Marked a segment left is some = record { stopped = λ e. refl; counted = λ e. absurd (nor e); finished = λ e. absurd (nor e) }
-sector_counts verdict.Offline a segment left is some = record { stopped = λ e. refl; counted = λ e. absurd (nor e); finished = λ e. absurd (nor e) }
+sector_counts other a segment left is some = record { stopped = λ e. refl; counted = λ e. absurd (nor e); finished = λ e. absurd (nor e) }
 
 -- ---- each line
 module _ (u : UnitSeen) (a : AdapterSeen) (n id : ℕ) (bytes : List ℕ) (g : Agrees u a n) (serves : ServiceMay u.service id) where

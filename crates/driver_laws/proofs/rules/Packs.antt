@@ -100,9 +100,7 @@ guard_valid P true false true done command deed is so off lock go = subst P so g
 
 step_guarded : (step : Positioning) → IsGuarded (command_of step)
 step_guarded (SearchFor c y) = tt
-step_guarded Recalibrate = tt
-step_guarded (SeekTo c) = tt
-step_guarded (OffsetBy code) = tt
+step_guarded other = tt
 
 due_guarded : (d : DriveState) (h : Hand) (stage : Stage) (deed : Deed) → d.valid ≡ true → wants_command stage ≡ true → due d h stage ≡ Some deed → IsGuarded deed
 due_guarded d h Waiting deed valid wants is = absurd (no wants)
@@ -145,16 +143,9 @@ line_counted (Seek c) lines behind kept counted = guarded_counted (Seek c) lines
 line_counted Recal lines behind kept counted = guarded_counted Recal lines (omega arith) counted
 line_counted (Offset o) lines behind kept counted = guarded_counted (Offset o) lines (omega arith) counted
 line_counted (Transfer write k n) lines behind kept counted = guarded_counted (Transfer write k n) lines (omega arith) counted
-line_counted Centre lines behind kept counted = unpacked Centre lines behind (omega arith) counted
-line_counted Clear lines behind kept counted = unpacked Clear lines behind (omega arith) counted
-line_counted Pack lines behind kept counted = unpacked Pack lines behind (omega arith) counted
-line_counted Arrive lines behind kept counted = unpacked Arrive lines behind (omega arith) counted
-line_counted (Sector k v) lines behind kept counted = unpacked (Sector k v) lines behind (omega arith) counted
-line_counted Intr lines behind kept counted = unpacked Intr lines behind (omega arith) counted
-line_counted (Try k t) lines behind kept counted = unpacked (Try k t) lines behind (omega arith) counted
-line_counted Attn lines behind kept counted = unpacked Attn lines behind (omega arith) counted
 line_counted (End answer) lines behind kept counted =
     subst (λ z. commands_in (if z then lines else []) ≤ cost_in (if z then lines else []) + pack_last (if z then lines else [])) (sym kept) (omega arith)
+line_counted other lines behind kept counted = unpacked other lines behind (omega arith) counted
 
 -- ---- behind PACK the same unit speaks
 pack_wants : (d : DriveState) (h : Hand) (stage : Stage) (lines : List Deed) → due d h stage ≡ Some Pack → Fits h stage lines → wants_command stage ≡ true
@@ -325,13 +316,7 @@ unfolding wish_sort
 told_packs (Refusal u i why) s line unit id deed lines is may all p =
     subst (λ z. PacksOnce (told_after (Refusal u i why) s unit deed) (λ x. lines_after x (Told line unit id z) (lines x))) (sym may.answered)
     (refusal_packs s (told_after (Refusal u i why) s unit deed) line unit id why lines (none_packed s lines (Refusal u i why) is refl p) p)
-told_packs NoLine s line unit id deed lines is may all p = line_packs s line unit id deed lines may all p
-told_packs (DueLine u) s line unit id deed lines is may all p = line_packs s line unit id deed lines may all p
-told_packs (Arrival u) s line unit id deed lines is may all p = line_packs s line unit id deed lines may all p
-told_packs (SectorLine u) s line unit id deed lines is may all p = line_packs s line unit id deed lines may all p
-told_packs (Interrupt u) s line unit id deed lines is may all p = line_packs s line unit id deed lines may all p
-told_packs (Attention u) s line unit id deed lines is may all p = line_packs s line unit id deed lines may all p
-told_packs IdleLine s line unit id deed lines is may all p = line_packs s line unit id deed lines may all p
+told_packs other s line unit id deed lines is may all p = line_packs s line unit id deed lines may all p
 
 pub moments_packs : (s : Replay) (ms : List Moment) (lines : ℕ → List Deed) → AskSome ms → Follows s ms → AllFit s lines → PacksOnce s lines
     → PacksOnce (after_moments s ms) (λ x. lines_behind x (lines x) ms)

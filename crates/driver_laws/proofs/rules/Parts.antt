@@ -31,15 +31,7 @@ submitted_same s n r Joined event = refl
 
 pub same_behind : (s : Replay) (n line : ℕ) (input : Input) → after_moment (numbered n s) (Played line input) ≡ after_moment s (Played line input)
 same_behind s n line (Submit r) = submitted_same s n r (submission s r) (event_of s line (Submit r))
-same_behind s n line (ArriveAt u) = refl
-same_behind s n line (MoveAt a) = refl
-same_behind s n line (AttendTo a) = refl
-same_behind s n line Drain = refl
-same_behind s n line (Turn u y) = refl
-same_behind s n line (Noise noise) = refl
-same_behind s n line (Arm u k times) = refl
-same_behind s n line (SetOnline u on) = refl
-same_behind s n line (SetLocked u on) = refl
+same_behind s n line other = refl
 
 numbered_keeps : (setup : Setup) (s : Replay) (n : ℕ) → Keeps setup s → Keeps setup (numbered n s)
 numbered_keeps setup s n k = record { lines = k.lines; fits = k.fits; marked = k.marked; kinds = k.kinds; tables = k.tables; marks = k.marks; quiet = k.quiet; refusing = k.refusing }

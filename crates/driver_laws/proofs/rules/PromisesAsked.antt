@@ -33,15 +33,7 @@ record IsSubmit (input : Input) : Type 0 where
 sort : (input : Input) → IsSubmit input ⊎ AsksNone input
 unfolding asks
 sort (Submit r) = inl (record { request = r; is = refl })
-sort (ArriveAt u) = inr (record { none = λ id. refl; same = λ ids. refl })
-sort (MoveAt a) = inr (record { none = λ id. refl; same = λ ids. refl })
-sort (AttendTo a) = inr (record { none = λ id. refl; same = λ ids. refl })
-sort Drain = inr (record { none = λ id. refl; same = λ ids. refl })
-sort (Turn u y) = inr (record { none = λ id. refl; same = λ ids. refl })
-sort (Noise n) = inr (record { none = λ id. refl; same = λ ids. refl })
-sort (Arm u k n) = inr (record { none = λ id. refl; same = λ ids. refl })
-sort (SetOnline u on) = inr (record { none = λ id. refl; same = λ ids. refl })
-sort (SetLocked u on) = inr (record { none = λ id. refl; same = λ ids. refl })
+sort other = inr (record { none = λ id. refl; same = λ ids. refl })
 
 -- ---- ids that stand apart are asked for once at most
 parts : (a b : Bool) → a || b ≡ false → (a ≡ false) × (b ≡ false)

@@ -13,20 +13,8 @@ abbrev pub Same : Replay → Replay → Type 0
 Same s t = t.surface.sector ≡ s.surface.sector
 
 deed_same : (s : Replay) (line unit id : ℕ) (deed : Deed) → IsNoSector (Told line unit id deed) → (surface_after s unit deed).sector ≡ s.surface.sector
-deed_same s line unit id (Search c y) none = refl
-deed_same s line unit id (Seek c) none = refl
-deed_same s line unit id Recal none = refl
-deed_same s line unit id (Offset o) none = refl
-deed_same s line unit id Centre none = refl
-deed_same s line unit id Clear none = refl
-deed_same s line unit id Pack none = refl
-deed_same s line unit id (Transfer w b k) none = refl
-deed_same s line unit id Arrive none = refl
 deed_same s line unit id (Sector b v) none = absurd none
-deed_same s line unit id Intr none = refl
-deed_same s line unit id (Try b f) none = refl
-deed_same s line unit id Attn none = refl
-deed_same s line unit id (End a) none = refl
+deed_same s line unit id other none = refl
 
 pub played_same : (s : Replay) (line : ℕ) (input : Input) → Same s (after_moment s (Played line input))
 played_same s line (Submit r) = at (submission s r)

@@ -32,13 +32,7 @@ nothing_owed s u i why calm is = none (record { line = s.event.line; id = i; ans
 -- a line of the trace leaves it so
 told_calm : (setup : Setup) (wish : Wish) (s : Replay) (line unit id : ℕ) (deed : Deed) → Keeps setup s → ToldMay wish s line unit id deed → IsCalm (told_after wish s unit deed).event.act
 told_calm setup (Refusal u i why) s line unit id deed k may = tt
-told_calm setup NoLine s line unit id deed k may = (line_eases setup s line unit id deed k may).calm
-told_calm setup (DueLine u) s line unit id deed k may = (line_eases setup s line unit id deed k may).calm
-told_calm setup (Arrival u) s line unit id deed k may = (line_eases setup s line unit id deed k may).calm
-told_calm setup (SectorLine u) s line unit id deed k may = (line_eases setup s line unit id deed k may).calm
-told_calm setup (Interrupt u) s line unit id deed k may = (line_eases setup s line unit id deed k may).calm
-told_calm setup (Attention u) s line unit id deed k may = (line_eases setup s line unit id deed k may).calm
-told_calm setup IdleLine s line unit id deed k may = (line_eases setup s line unit id deed k may).calm
+told_calm setup other s line unit id deed k may = (line_eases setup s line unit id deed k may).calm
 
 -- ---- what a refusal that is due comes from
 record ComesFrom (s : Replay) (u i : ℕ) (why : Rejection) (moment : Moment) : Type 0 where
@@ -93,11 +87,7 @@ played_from setup s line u i why (AttendTo a) k may is =
     absurd (nothing_owed (after_moment s (Played line (AttendTo a))) u i why (calm_either (can_attend (s.adapters a).state) (serving a (s.adapters a).state) NothingToDo tt tt) is)
 played_from setup s line u i why Drain k may is =
     absurd (nothing_owed (after_moment s (Played line Drain)) u i why (calm_either (s.outstanding == 0) NothingToDo (act_drained s) tt (calm_drain s)) is)
-played_from setup s line u i why (Turn x y) k may is = absurd (nothing_owed (after_moment s (Played line (Turn x y))) u i why tt is)
-played_from setup s line u i why (Noise n) k may is = absurd (nothing_owed (after_moment s (Played line (Noise n))) u i why tt is)
-played_from setup s line u i why (Arm x kind n) k may is = absurd (nothing_owed (after_moment s (Played line (Arm x kind n))) u i why tt is)
-played_from setup s line u i why (SetOnline x on) k may is = absurd (nothing_owed (after_moment s (Played line (SetOnline x on))) u i why tt is)
-played_from setup s line u i why (SetLocked x on) k may is = absurd (nothing_owed (after_moment s (Played line (SetLocked x on))) u i why tt is)
+played_from setup s line u i why other k may is = absurd (nothing_owed (after_moment s (Played line other)) u i why tt is)
 
 comes_from : (setup : Setup) (s : Replay) (u i : ℕ) (why : Rejection) (moment : Moment) → Keeps setup s → MayCome s moment → next_wish (after_moment s moment) ≡ Refusal u i why → ComesFrom s u i why moment
 comes_from setup s u i why (Played line input) k may is = played_from setup s line u i why input k may is
@@ -127,13 +117,7 @@ is_due : (setup : Setup) (wish : Wish) (s : Replay) (line unit id : ℕ) (answer
 unfolding end_of
 is_due setup (Refusal u i why) s line unit id answer k may refused =
     record { u = u; i = i; why = why; is = refl; unit_is = may.same_unit; id_is = may.same_id; answer_is = ap end_of may.answered }
-is_due setup NoLine s line unit id answer k may refused = absurd (line_ends setup s line unit id answer k may refused)
-is_due setup (DueLine u) s line unit id answer k may refused = absurd (line_ends setup s line unit id answer k may refused)
-is_due setup (Arrival u) s line unit id answer k may refused = absurd (line_ends setup s line unit id answer k may refused)
-is_due setup (SectorLine u) s line unit id answer k may refused = absurd (line_ends setup s line unit id answer k may refused)
-is_due setup (Interrupt u) s line unit id answer k may refused = absurd (line_ends setup s line unit id answer k may refused)
-is_due setup (Attention u) s line unit id answer k may refused = absurd (line_ends setup s line unit id answer k may refused)
-is_due setup IdleLine s line unit id answer k may refused = absurd (line_ends setup s line unit id answer k may refused)
+is_due setup other s line unit id answer k may refused = absurd (line_ends setup s line unit id answer k may refused)
 
 -- ---- the last of some moments
 record Ends (ms : List Moment) : Type 0 where

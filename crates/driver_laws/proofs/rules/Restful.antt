@@ -28,12 +28,8 @@ pub no : false ≡ true → ⊥
 no e = grind (arith, e)
 
 first_by : (act : Act) (goes : _) → goes ≡ false → IsFirst act goes
-first_by Done goes is = tt
 first_by (Refusing u i why) goes is = is
-first_by (Arriving u) goes is = tt
-first_by (Trying a) goes is = tt
-first_by (Serving a i ds) goes is = tt
-first_by NothingToDo goes is = tt
+first_by other goes is = tt
 
 pub rest_keeps : (setup : Setup) (s : Replay) → IsAtRest setup s → Keeps setup s
 rest_keeps setup s rest = record {

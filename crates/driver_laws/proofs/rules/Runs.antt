@@ -102,15 +102,7 @@ the_units script = filter (λ unit. is_some (drives_of script unit)) all_units
 
 input_asks : (script : Script) (input : Input) → AreUnitsFirst script.lines → IsInput (drives_of script) input → Asks (the_units script) input
 input_asks script (Submit r) first is = let s = there_some (drives_of script r.unit) r is in record { some = s.1; of = unit_of_request script r first s.0 }
-input_asks script (ArriveAt u) first is = record { some = tt; of = tt }
-input_asks script (MoveAt a) first is = record { some = tt; of = tt }
-input_asks script (AttendTo a) first is = record { some = tt; of = tt }
-input_asks script Drain first is = record { some = tt; of = tt }
-input_asks script (Turn u y) first is = record { some = tt; of = tt }
-input_asks script (Noise n) first is = record { some = tt; of = tt }
-input_asks script (Arm u k n) first is = record { some = tt; of = tt }
-input_asks script (SetOnline u on) first is = record { some = tt; of = tt }
-input_asks script (SetLocked u on) first is = record { some = tt; of = tt }
+input_asks script other first is = record { some = tt; of = tt }
 
 AllAsk : List ℕ → List Numbered → Type 0
 AllAsk there [] = Unit {0}

@@ -64,25 +64,13 @@ allowed stage sort = false
 
 positions : (step : Positioning) → sort_of (command_of step) ≡ Positions
 positions (SearchFor c y) = refl
-positions Recalibrate = refl
-positions (SeekTo c) = refl
-positions (OffsetBy o) = refl
+positions other = refl
 
 says : (line : Deed) → is_behind_interrupt line ≡ true → sort_of line ≡ Says
-says (Search c y) is = absurd (no is)
-says (Seek c) is = absurd (no is)
-says Recal is = absurd (no is)
-says (Offset o) is = absurd (no is)
 says Centre is = refl
 says Clear is = refl
-says Pack is = absurd (no is)
-says (Transfer w b k) is = absurd (no is)
-says Arrive is = absurd (no is)
-says (Sector b v) is = absurd (no is)
-says Intr is = absurd (no is)
 says (Try b f) is = refl
-says Attn is = absurd (no is)
-says (End a) is = absurd (no is)
+says other is = absurd (no is)
 
 pub first_of : (x y : Bool) → (x && y) ≡ true → x ≡ true
 first_of true y e = refl
@@ -120,13 +108,11 @@ pub record Quiet (stage : Stage) : Type 0 where
   pub said : is_well_said stage ≡ true
 
 pub quiet_before : (stage : Stage) (sort : Sort) → is_well_said stage ≡ true → allowed stage sort ≡ true → Quiet stage
-quiet_before Waiting sort ok is = absurd (no is)
 quiet_before (Steps left segment) sort ok is = record { waiting = refl; under = refl; moving = refl; said = refl }
-quiet_before (UnderWay left segment) sort ok is = absurd (no is)
 quiet_before (AtOnce segment) sort ok is = record { waiting = refl; under = refl; moving = refl; said = refl }
-quiet_before (Moving segment left last) sort ok is = absurd (no is)
 quiet_before (Saying lines next) sort ok is = record { waiting = refl; under = refl; moving = refl; said = ok }
 quiet_before (Ending answer) sort ok is = record { waiting = refl; under = refl; moving = refl; said = refl }
+quiet_before other sort ok is = absurd (no is)
 
 -- where the commands of steps lead
 pub record Stepping (old new : Stage) : Type 0 where
@@ -156,13 +142,10 @@ pub record Quieted (old new : Stage) : Type 0 where
   pub free : waits old ≡ false
 
 pub follows_quiet : (next : Stage) → follows_lines next ≡ true → Quiet next
-follows_quiet Waiting is = absurd (no is)
 follows_quiet (Steps left segment) is = record { waiting = refl; under = refl; moving = refl; said = refl }
-follows_quiet (UnderWay left segment) is = absurd (no is)
 follows_quiet (AtOnce segment) is = record { waiting = refl; under = refl; moving = refl; said = refl }
-follows_quiet (Moving segment left last) is = absurd (no is)
-follows_quiet (Saying lines next) is = absurd (no is)
 follows_quiet (Ending answer) is = record { waiting = refl; under = refl; moving = refl; said = refl }
+follows_quiet other is = absurd (no is)
 
 pub both_of : (x y : Bool) → x ≡ true → y ≡ true → (x && y) ≡ true
 both_of true y a b = b
@@ -193,13 +176,8 @@ pub record Ended (old new : Stage) : Type 0 where
   pub clear : may_have_errors old ≡ false
 
 pub step_over : (stage : Stage) → is_under_way stage ≡ true → Ended stage (step_ended stage)
-step_over Waiting is = absurd (no is)
-step_over (Steps left segment) is = absurd (no is)
 step_over (UnderWay left segment) is = record { quiet = record { waiting = refl; under = refl; moving = refl; said = refl }; free = refl; clear = refl }
-step_over (AtOnce segment) is = absurd (no is)
-step_over (Moving segment left last) is = absurd (no is)
-step_over (Saying lines next) is = absurd (no is)
-step_over (Ending answer) is = absurd (no is)
+step_over other is = absurd (no is)
 
 -- ---- the interrupt
 either : (b : Bool) (x y : Stage) → follows_lines x ≡ true → follows_lines y ≡ true → follows_lines (if b then x else y) ≡ true
@@ -211,9 +189,7 @@ continued_follows h = either (h.progress.done == h.request.count) (Ending (ok_an
 
 retried_follows : (step : Step) (cylinder : ℕ) (segment : Segment) (done : ℕ) → follows_lines (retried step cylinder segment done) ≡ true
 retried_follows retry.Again c g n = refl
-retried_follows (retry.Offset code) c g n = refl
-retried_follows (retry.Recalibrate offset) c g n = refl
-retried_follows retry.GiveUp c g n = refl
+retried_follows other c g n = refl
 
 forwarded_follows : (h : Hand) (i : Option ℕ) → follows_lines (forwarded h i) ≡ true
 forwarded_follows h None = refl
@@ -228,20 +204,15 @@ failed_follows h segment =
     retried_follows (step_after h.progress.failures (not (is_write h))) (place_at h.kind (start_of segment h)).cylinder segment h.progress.done
 
 outcome_follows : (v : Moved) (h : Hand) (segment : Segment) → follows_lines (outcome v h segment) ≡ true
-outcome_follows verdict.Clean h segment = continued_follows h
-outcome_follows (verdict.Burst at q) h segment = continued_follows h
 outcome_follows verdict.Hard h segment = failed_follows h segment
 outcome_follows (verdict.Faulted f) h segment = failed_follows h segment
 outcome_follows verdict.Marked h segment = marked_follows h segment
 outcome_follows verdict.Offline h segment = refl
+outcome_follows other h segment = continued_follows h
 
 tries_behind : (v : Moved) (block failures : ℕ) → are_behind_interrupt (try_lines v block failures) ≡ true
 tries_behind verdict.Clean b f = refl
-tries_behind (verdict.Burst at q) b f = refl
-tries_behind verdict.Hard b f = refl
-tries_behind (verdict.Faulted k) b f = refl
-tries_behind verdict.Marked b f = refl
-tries_behind verdict.Offline b f = refl
+tries_behind other b f = refl
 
 centres_behind : (b : Bool) → are_behind_interrupt (if b then [] else Centre ∷ []) ≡ true
 centres_behind true = refl
@@ -249,11 +220,7 @@ centres_behind false = refl
 
 clears_behind : (v : Moved) → are_behind_interrupt (clear_lines v) ≡ true
 clears_behind verdict.Clean = refl
-clears_behind (verdict.Burst at q) = refl
-clears_behind verdict.Hard = refl
-clears_behind (verdict.Faulted k) = refl
-clears_behind verdict.Marked = refl
-clears_behind verdict.Offline = refl
+clears_behind other = refl
 
 all_behind : (xs ys : List Deed) → are_behind_interrupt xs ≡ true → are_behind_interrupt ys ≡ true → are_behind_interrupt (xs ++ ys) ≡ true
 all_behind [] ys one other = other
@@ -272,11 +239,7 @@ interrupted_quiet v d h segment =
 -- what is not clean is cleared first
 pub cleared_first : (v : Moved) (d : DriveState) (h : Hand) (segment : Segment) → is_clean v ≡ false → may_have_errors (interrupted_by v d h segment) ≡ true
 cleared_first verdict.Clean d h segment is = absurd (nor is)
-cleared_first (verdict.Burst at q) d h segment is = refl
-cleared_first verdict.Hard d h segment is = refl
-cleared_first (verdict.Faulted k) d h segment is = refl
-cleared_first verdict.Marked d h segment is = refl
-cleared_first verdict.Offline d h segment is = refl
+cleared_first other d h segment is = refl
 
 -- ---- the next request
 pub begun_waits : (d : DriveState) (next : Option Request) → is_waiting (begun d next) ≡ not (is_some next)
@@ -322,13 +285,8 @@ ends_clear (Ending answer) ok = refl
 
 -- a step is under way
 pub under_way : (stage : Stage) → is_under_way stage ≡ true → Stepping (UnderWay [] OwnBlocks) stage
-under_way Waiting is = absurd (no is)
-under_way (Steps left segment) is = absurd (no is)
 under_way (UnderWay left segment) is = record { waiting = refl; under = refl; moving = refl; said = refl; queued = refl; silent = refl; free = refl; clear = refl }
-under_way (AtOnce segment) is = absurd (no is)
-under_way (Moving segment left last) is = absurd (no is)
-under_way (Saying lines next) is = absurd (no is)
-under_way (Ending answer) is = absurd (no is)
+under_way other is = absurd (no is)
 
 -- a sector may come
 pub record WasMoving (stage : Stage) : Type 0 where
@@ -339,13 +297,8 @@ pub record WasMoving (stage : Stage) : Type 0 where
   pub some : nat_lt 0 (left_of stage) ≡ true
 
 pub sector_moving : (h : Hand) (stage : Stage) (block : ℕ) → sector_may h stage block ≡ true → WasMoving stage
-sector_moving h Waiting block is = absurd (no is)
-sector_moving h (Steps left segment) block is = absurd (no is)
-sector_moving h (UnderWay left segment) block is = absurd (no is)
-sector_moving h (AtOnce segment) block is = absurd (no is)
 sector_moving h (Moving segment left last) block is = record { under = refl; moving = refl; free = refl; clean = ap not (first_of (is_clean last) (nat_lt 0 left && (block == start_of segment h)) is); some = first_of (nat_lt 0 left) (block == start_of segment h) (second_of (is_clean last) (nat_lt 0 left && (block == start_of segment h)) is) }
-sector_moving h (Saying lines next) block is = absurd (no is)
-sector_moving h (Ending answer) block is = absurd (no is)
+sector_moving h other block is = absurd (no is)
 
 -- the interrupt may come
 pub record WasMoved (stage : Stage) : Type 0 where
@@ -359,10 +312,5 @@ opposite true e = absurd (no e)
 opposite false e = refl
 
 pub intr_moving : (stage : Stage) → intr_may stage ≡ true → WasMoved stage
-intr_moving Waiting is = absurd (no is)
-intr_moving (Steps left segment) is = absurd (no is)
-intr_moving (UnderWay left segment) is = absurd (no is)
-intr_moving (AtOnce segment) is = absurd (no is)
 intr_moving (Moving segment left last) is = record { under = refl; moving = refl; free = refl; strange = opposite (is_clean last) }
-intr_moving (Saying lines next) is = absurd (no is)
-intr_moving (Ending answer) is = absurd (no is)
+intr_moving other is = absurd (no is)

@@ -48,15 +48,9 @@ played_step setup armed s m line (Noise n) k h may given new =
     silent_step setup armed s m line (Noise n) may refl refl tt
     (other_event setup (n ∷ armed) (replay_played s (Noise n)) m (event_of s line (Noise n))
     (conditions_stand setup armed s m (Noise n) h refl (armed_live armed s.surface.live n (given_noise (setup.drives n.unit) n given) h.noise) (λ unit x is. is.0)))
-played_step setup armed s m line (Arm u kind n) k h may given new =
-    silent_step setup armed s m line (Arm u kind n) may refl refl tt
-    (other_event setup armed (replay_played s (Arm u kind n)) m (event_of s line (Arm u kind n)) (conditions_stand setup armed s m (Arm u kind n) h refl h.noise (λ unit x is. is)))
-played_step setup armed s m line (SetOnline u on) k h may given new =
-    silent_step setup armed s m line (SetOnline u on) may refl refl tt
-    (other_event setup armed (replay_played s (SetOnline u on)) m (event_of s line (SetOnline u on)) (conditions_stand setup armed s m (SetOnline u on) h refl h.noise (λ unit x is. is)))
-played_step setup armed s m line (SetLocked u on) k h may given new =
-    silent_step setup armed s m line (SetLocked u on) may refl refl tt
-    (other_event setup armed (replay_played s (SetLocked u on)) m (event_of s line (SetLocked u on)) (conditions_stand setup armed s m (SetLocked u on) h refl h.noise (λ unit x is. is)))
+played_step setup armed s m line other k h may given new =
+    silent_step setup armed s m line other may refl refl tt
+    (other_event setup armed (replay_played s other) m (event_of s line other) (conditions_stand setup armed s m other h refl h.noise (λ unit x is. is)))
 
 -- ---- any moment
 told_moment : (setup : Setup) (armed : List LiveNoise) (s : Replay) (m : Machine) (line unit id : ℕ) (deed : Deed) → ToldStep setup armed s m (next_wish s) (after_moment s (Told line unit id deed)) line unit id deed

@@ -48,36 +48,12 @@ IsUntouched unit (Sector block v) u x = has_bytes v ≡ true → u ≡ unit → 
 IsUntouched unit deed u x = Unit {0}
 
 pub untouched : (s : Replay) (unit : ℕ) (deed : Deed) (u x : ℕ) → IsUntouched unit deed u x → (surface_after s unit deed).sector u x ≡ s.surface.sector u x
-untouched s unit (Search c y) u x apart = refl
-untouched s unit (Seek c) u x apart = refl
-untouched s unit Recal u x apart = refl
-untouched s unit (Offset o) u x apart = refl
-untouched s unit Centre u x apart = refl
-untouched s unit Clear u x apart = refl
-untouched s unit Pack u x apart = refl
-untouched s unit (Transfer w b k) u x apart = refl
-untouched s unit Arrive u x apart = refl
 untouched s unit (Sector b v) u x apart = tried_not s.surface unit (s.units unit).drive b v (in_hand (s.units unit).service) (s.units unit).progress.done u x apart
-untouched s unit Intr u x apart = refl
-untouched s unit (Try b f) u x apart = refl
-untouched s unit Attn u x apart = refl
-untouched s unit (End a) u x apart = refl
+untouched s unit other u x apart = refl
 
 pub untouched_other : (unit : ℕ) (deed : Deed) (u x : ℕ) → u ≢ unit → IsUntouched unit deed u x
-untouched_other unit (Search c y) u x apart = tt
-untouched_other unit (Seek c) u x apart = tt
-untouched_other unit Recal u x apart = tt
-untouched_other unit (Offset o) u x apart = tt
-untouched_other unit Centre u x apart = tt
-untouched_other unit Clear u x apart = tt
-untouched_other unit Pack u x apart = tt
-untouched_other unit (Transfer w b k) u x apart = tt
-untouched_other unit Arrive u x apart = tt
 untouched_other unit (Sector b v) u x apart = λ bytes same here. apart same
-untouched_other unit Intr u x apart = tt
-untouched_other unit (Try b f) u x apart = tt
-untouched_other unit Attn u x apart = tt
-untouched_other unit (End a) u x apart = tt
+untouched_other unit other u x apart = tt
 
 -- sectors have 512 bytes
 AreFull : Surface → Type 0
@@ -99,22 +75,10 @@ read_full false s unit d block full u x = full u x
 
 pub full_after : (s : Replay) (unit : ℕ) (deed : Deed) → ((u x : ℕ) → length (s.surface.sector u x) ≡ 512) → (u x : ℕ) → length ((surface_after s unit deed).sector u x) ≡ 512
 unfolding AreFull
-full_after s unit (Search c y) full u x = full u x
-full_after s unit (Seek c) full u x = full u x
-full_after s unit Recal full u x = full u x
-full_after s unit (Offset o) full u x = full u x
-full_after s unit Centre full u x = full u x
-full_after s unit Clear full u x = full u x
-full_after s unit Pack full u x = full u x
-full_after s unit (Transfer w b k) full u x = full u x
-full_after s unit Arrive full u x = full u x
 full_after s unit (Sector b v) full u x =
     written_full (was_written (s.units unit).drive v) (surface_read (was_read (s.units unit).drive v) s.surface unit (s.units unit).drive b) unit b (in_hand (s.units unit).service) (s.units unit).progress.done
     (read_full (was_read (s.units unit).drive v) s.surface unit (s.units unit).drive b full) u x
-full_after s unit Intr full u x = full u x
-full_after s unit (Try b f) full u x = full u x
-full_after s unit Attn full u x = full u x
-full_after s unit (End a) full u x = full u x
+full_after s unit other full u x = full u x
 
 -- and live noise is noise that was armed
 written_live : (armed : List LiveNoise) (w : Bool) (s : Surface) (unit block : ℕ) (r : Request) (k : ℕ) → All (IsLive armed) s.live → All (IsLive armed) (surface_written w s unit block r k).live
@@ -126,19 +90,7 @@ read_live armed true s unit d block all = struck_live armed s.live unit block d.
 read_live armed false s unit d block all = all
 
 pub live_after : (armed : List LiveNoise) (s : Replay) (unit : ℕ) (deed : Deed) → All (IsLive armed) s.surface.live → All (IsLive armed) (surface_after s unit deed).live
-live_after armed s unit (Search c y) all = all
-live_after armed s unit (Seek c) all = all
-live_after armed s unit Recal all = all
-live_after armed s unit (Offset o) all = all
-live_after armed s unit Centre all = all
-live_after armed s unit Clear all = all
-live_after armed s unit Pack all = all
-live_after armed s unit (Transfer w b k) all = all
-live_after armed s unit Arrive all = all
 live_after armed s unit (Sector b v) all =
     written_live armed (was_written (s.units unit).drive v) (surface_read (was_read (s.units unit).drive v) s.surface unit (s.units unit).drive b) unit b (in_hand (s.units unit).service) (s.units unit).progress.done
     (read_live armed (was_read (s.units unit).drive v) s.surface unit (s.units unit).drive b all)
-live_after armed s unit Intr all = all
-live_after armed s unit (Try b f) all = all
-live_after armed s unit Attn all = all
-live_after armed s unit (End a) all = all
+live_after armed s unit other all = all

@@ -74,13 +74,7 @@ event_told unit deed b = absurd b
 
 told_tells : (wish : Wish) (s : Replay) (line unit id : ℕ) (deed : Deed) → ToldMay wish s line unit id deed → next_wish s ≡ wish → BringsEvent (next_wish s) → event_by deed + 0 ≡ 1
 told_tells (Refusal u i why) s line unit id deed may is b = absurd (subst BringsEvent is b)
-told_tells NoLine s line unit id deed may is b = event_told unit deed (subst BringsEvent may.wished b)
-told_tells (DueLine u) s line unit id deed may is b = event_told unit deed (subst BringsEvent may.wished b)
-told_tells (Arrival u) s line unit id deed may is b = event_told unit deed (subst BringsEvent may.wished b)
-told_tells (SectorLine u) s line unit id deed may is b = event_told unit deed (subst BringsEvent may.wished b)
-told_tells (Interrupt u) s line unit id deed may is b = event_told unit deed (subst BringsEvent may.wished b)
-told_tells (Attention u) s line unit id deed may is b = event_told unit deed (subst BringsEvent may.wished b)
-told_tells IdleLine s line unit id deed may is b = event_told unit deed (subst BringsEvent may.wished b)
+told_tells other s line unit id deed may is b = event_told unit deed (subst BringsEvent may.wished b)
 
 pub begun_tells : (s : Replay) (m : Moment) → HasBegun s → MayCome s m → events_in (m ∷ []) ≡ 1
 begun_tells s (Played line input) h may = absurd (no (sym may.finished ∙ h.drains))
@@ -116,13 +110,7 @@ Between s = s.event.between ≡ true → HasBegun s
 
 told_between : (wish : Wish) (s : Replay) (line unit id : ℕ) (deed : Deed) → next_wish s ≡ wish → Between s → Between (told_after wish s unit deed)
 told_between (Refusal u i why) s line unit id deed is b = λ on. absurd (subst BringsEvent is (begun_brings s (b on)))
-told_between NoLine s line unit id deed is b = λ on. drained_begun (replay_told s unit deed (unit_after s unit deed)) refl on
-told_between (DueLine u) s line unit id deed is b = λ on. drained_begun (replay_told s unit deed (unit_after s unit deed)) refl on
-told_between (Arrival u) s line unit id deed is b = λ on. drained_begun (replay_told s unit deed (unit_after s unit deed)) refl on
-told_between (SectorLine u) s line unit id deed is b = λ on. drained_begun (replay_told s unit deed (unit_after s unit deed)) refl on
-told_between (Interrupt u) s line unit id deed is b = λ on. drained_begun (replay_told s unit deed (unit_after s unit deed)) refl on
-told_between (Attention u) s line unit id deed is b = λ on. drained_begun (replay_told s unit deed (unit_after s unit deed)) refl on
-told_between IdleLine s line unit id deed is b = λ on. drained_begun (replay_told s unit deed (unit_after s unit deed)) refl on
+told_between other s line unit id deed is b = λ on. drained_begun (replay_told s unit deed (unit_after s unit deed)) refl on
 
 pub moments_between : (s : Replay) (ms : List Moment) → Follows s ms → Between s → Between (after_moments s ms)
 moments_between s [] follows b = b
@@ -163,13 +151,7 @@ drained_going t g = at (t.event.drains && (is_no_line (next_wish t) && nat_lt 0 
 
 told_going : (wish : Wish) (s : Replay) (line unit id : ℕ) (deed : Deed) → ToldMay wish s line unit id deed → GoesOn s → GoesOn (told_after wish s unit deed)
 told_going (Refusal u i why) s line unit id deed may g = g
-told_going NoLine s line unit id deed may g = drained_going (replay_told s unit deed (unit_after s unit deed)) (line_going s line unit id deed may g)
-told_going (DueLine u) s line unit id deed may g = drained_going (replay_told s unit deed (unit_after s unit deed)) (line_going s line unit id deed may g)
-told_going (Arrival u) s line unit id deed may g = drained_going (replay_told s unit deed (unit_after s unit deed)) (line_going s line unit id deed may g)
-told_going (SectorLine u) s line unit id deed may g = drained_going (replay_told s unit deed (unit_after s unit deed)) (line_going s line unit id deed may g)
-told_going (Interrupt u) s line unit id deed may g = drained_going (replay_told s unit deed (unit_after s unit deed)) (line_going s line unit id deed may g)
-told_going (Attention u) s line unit id deed may g = drained_going (replay_told s unit deed (unit_after s unit deed)) (line_going s line unit id deed may g)
-told_going IdleLine s line unit id deed may g = drained_going (replay_told s unit deed (unit_after s unit deed)) (line_going s line unit id deed may g)
+told_going other s line unit id deed may g = drained_going (replay_told s unit deed (unit_after s unit deed)) (line_going s line unit id deed may g)
 
 none_goes_on : (s : Replay) → next_wish s ≡ NoLine → GoesOn s → (x : ℕ) → goes_on (s.units x).stage ≡ true → ⊥
 none_goes_on s over g x is = subst IsDue (sym (speaker_wish s x g is) ∙ over) tt

@@ -74,20 +74,15 @@ total_used kind a some = by_sum (total (with_times kind (times_armed kind a - 1)
 -- ---- what leaves the faults
 arrived_same : (w : Work) (d : DriveState) → (arrived_from w d).armed ≡ d.armed
 arrived_same work.Ready d = refl
-arrived_same (work.Positioning c y) d = refl
-arrived_same (work.Transfer write) d = refl
+arrived_same other d = refl
 
 bits_same : (k : FaultKind) (d : DriveState) → (with_fault_bits k d).armed ≡ d.armed
 bits_same fault.Seek d = refl
-bits_same fault.Opi d = refl
-bits_same fault.Dte d = refl
-bits_same fault.Hcrc d = refl
-bits_same fault.Late d = refl
+bits_same other d = refl
 
 marks_same : (kind : DriveKind) (d : DriveState) → (with_mark_bits kind d).armed ≡ d.armed
 marks_same Rp06 d = refl
-marks_same Rm03 d = refl
-marks_same Rm05 d = refl
+marks_same other d = refl
 
 transfer_same : (write : Bool) (d : DriveState) → (performed (transfer_function write) d).armed ≡ d.armed
 transfer_same true d = performed_armed function.Write d
@@ -102,12 +97,9 @@ ended P true d is = is
 ended P false d is = is
 
 moved_less : (v : Moved) (block : ℕ) (d : DriveState) → total (after_move v block d).armed ≤ total d.armed
-moved_less verdict.Clean block d = omega arith
-moved_less (verdict.Burst at q) block d = omega arith
-moved_less verdict.Hard block d = omega arith
 moved_less (verdict.Faulted k) block d = subst (λ (a : Armed). total a ≤ total d.armed) (sym (bits_same k (fault_used k d))) (total_less k d.armed)
 moved_less verdict.Marked block d = no_more (with_mark_bits d.kind d).armed d.armed (marks_same d.kind d)
-moved_less verdict.Offline block d = omega arith
+moved_less other block d = omega arith
 
 -- NO LINE ARMS ANY.
 pub line_less : (d : DriveState) (a : AdapterState) (target : Place) (deed : Deed) → total (drive_after d a target deed).armed ≤ total d.armed
@@ -121,10 +113,7 @@ line_less d a target Pack = no_more (drive_after d a target Pack).armed d.armed 
 line_less d a target (Transfer w b k) = no_more (drive_after d a target (Transfer w b k)).armed d.armed (transfer_same w (addressed (place_at d.kind b) d))
 line_less d a target Arrive = no_more (drive_after d a target Arrive).armed d.armed (arrived_same d.work d)
 line_less d a target (Sector b v) = ended (λ (x : Armed). total x ≤ total d.armed) (stepped v a).completion (after_move v (next_block a) d) (moved_less v (next_block a) d)
-line_less d a target Intr = omega arith
-line_less d a target (Try b f) = omega arith
-line_less d a target Attn = omega arith
-line_less d a target (End answer) = omega arith
+line_less d a target other = omega arith
 
 -- A FAULT THAT STRIKES is armed, and then once less.
 kind_of : Moved → FaultKind

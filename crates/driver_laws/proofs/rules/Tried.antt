@@ -119,6 +119,4 @@ pub tried : (sure : ℕ → Type 0) (homes : ℕ → Option ℕ) (first : ℕ) (
 tried sure homes first r p s unit d block blocks verdict.Clean t h = (clean_by sure homes first r p s unit d block blocks (is_writing d.work) t.direction (t.moved refl) t h, tt)
 tried sure homes first r p s unit d block blocks (verdict.Burst at q) t h = burst_by sure homes first r p s unit d block blocks at q (is_writing d.work) t.direction (t.moved refl) t h
 tried sure homes first r p s unit d block blocks verdict.Hard t h = (hard_by sure homes first r p s unit d block blocks (is_writing d.work) (t.moved refl) h, tt)
-tried sure homes first r p s unit d block blocks (verdict.Faulted k) t h = (h, tt)
-tried sure homes first r p s unit d block blocks verdict.Marked t h = (h, tt)
-tried sure homes first r p s unit d block blocks verdict.Offline t h = (h, tt)
+tried sure homes first r p s unit d block blocks other t h = (h, tt)

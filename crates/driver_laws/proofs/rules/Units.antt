@@ -64,20 +64,12 @@ arrive_falls true true count p stage passes a = absurd (no (sym passes.1))
 pub unit_falls : (u : UnitSeen) (deed : Deed) (d : DriveState) (bytes : List ℕ) (lines : List Deed) → UnitFits u lines → TalkMay u.drive (hand_of u) u.stage deed
     → Passes (is_positioning u.drive.work) deed (is_positioning d.work)
     → events_of_unit (UnitTold u deed d (progress_after u.stage deed bytes u.progress) (service_after u.service deed)) + event_by deed ≤ events_of_unit u
-unit_falls u (Search c y) d bytes lines f may passes = omega (arith, (due_costs (is_positioning u.drive.work) (is_positioning d.work) u.drive d (hand_of u) (head_of u.service) u.stage (Search c y) lines may f.fits).events)
-unit_falls u (Seek c) d bytes lines f may passes = omega (arith, (due_costs (is_positioning u.drive.work) (is_positioning d.work) u.drive d (hand_of u) (head_of u.service) u.stage (Seek c) lines may f.fits).events)
-unit_falls u Recal d bytes lines f may passes = omega (arith, (due_costs (is_positioning u.drive.work) (is_positioning d.work) u.drive d (hand_of u) (head_of u.service) u.stage Recal lines may f.fits).events)
-unit_falls u (Offset o) d bytes lines f may passes = omega (arith, (due_costs (is_positioning u.drive.work) (is_positioning d.work) u.drive d (hand_of u) (head_of u.service) u.stage (Offset o) lines may f.fits).events)
-unit_falls u Centre d bytes lines f may passes = omega (arith, (due_costs (is_positioning u.drive.work) (is_positioning d.work) u.drive d (hand_of u) (head_of u.service) u.stage Centre lines may f.fits).events)
-unit_falls u Clear d bytes lines f may passes = omega (arith, (due_costs (is_positioning u.drive.work) (is_positioning d.work) u.drive d (hand_of u) (head_of u.service) u.stage Clear lines may f.fits).events)
-unit_falls u Pack d bytes lines f may passes = omega (arith, (due_costs (is_positioning u.drive.work) (is_positioning d.work) u.drive d (hand_of u) (head_of u.service) u.stage Pack lines may f.fits).events)
-unit_falls u (Transfer write k n) d bytes lines f may passes = omega (arith, (due_costs (is_positioning u.drive.work) (is_positioning d.work) u.drive d (hand_of u) (head_of u.service) u.stage (Transfer write k n) lines may f.fits).events)
-unit_falls u (Try k t) d bytes lines f may passes = omega (arith, (due_costs (is_positioning u.drive.work) (is_positioning d.work) u.drive d (hand_of u) (head_of u.service) u.stage (Try k t) lines may f.fits).events)
 unit_falls u Arrive d bytes lines f may passes = omega (arith, arrive_falls (is_positioning u.drive.work) (is_positioning d.work) (in_hand u.service).count u.progress u.stage passes (arrive_costs (in_hand u.service).count u.progress u.stage may))
 unit_falls u (Sector k v) d bytes lines f may passes = omega (arith, (sector_costs (is_positioning u.drive.work) (is_positioning d.work) (hand_of u) bytes u.stage k v d (head_of u.service) lines may f.fits).events)
 unit_falls u Intr d bytes lines f may passes = omega (arith, (intr_costs (is_positioning u.drive.work) (is_positioning d.work) d (hand_of u) (head_of u.service) u.stage lines may f.fits).events)
 unit_falls u Attn d bytes lines f may passes = omega (arith, (attn_costs (is_positioning u.drive.work) (is_positioning d.work) d (hand_of u) (head_of u.service) u.stage may).events)
 unit_falls u (End answer) d bytes lines f may passes = omega (arith, begun_events (is_positioning d.work) d (drop 1 u.service.waiting) (some_behind u.service.waiting f.some))
+unit_falls u other d bytes lines f may passes = omega (arith, (due_costs (is_positioning u.drive.work) (is_positioning d.work) u.drive d (hand_of u) (head_of u.service) u.stage other lines may f.fits).events)
 
 -- WHAT ITS REQUEST TAKES stays within bounds
 abbrev pub UnitWithin : UnitSeen → List Deed → Type 0
@@ -90,42 +82,6 @@ still_within count p p' stage stage' deed lines c w = record { events = omega (a
 pub unit_within : (u : UnitSeen) (deed : Deed) (d : DriveState) (bytes : List ℕ) (lines : List Deed) → UnitFits u lines → TalkMay u.drive (hand_of u) u.stage deed
     → UnitWithin u lines
     → UnitWithin (UnitTold u deed d (progress_after u.stage deed bytes u.progress) (service_after u.service deed)) (with_deed deed lines)
-unit_within u (Search c y) d bytes lines f may w =
-    still_within (in_hand u.service).count u.progress (progress_after u.stage (Search c y) bytes u.progress) u.stage
-    (stage_after u.stage (Search c y) d (record (hand_of u) { progress = progress_after u.stage (Search c y) bytes u.progress }) (head_of u.service)) (Search c y) lines
-    (due_costs true true u.drive d (hand_of u) (head_of u.service) u.stage (Search c y) lines may f.fits) w
-unit_within u (Seek c) d bytes lines f may w =
-    still_within (in_hand u.service).count u.progress (progress_after u.stage (Seek c) bytes u.progress) u.stage
-    (stage_after u.stage (Seek c) d (record (hand_of u) { progress = progress_after u.stage (Seek c) bytes u.progress }) (head_of u.service)) (Seek c) lines
-    (due_costs true true u.drive d (hand_of u) (head_of u.service) u.stage (Seek c) lines may f.fits) w
-unit_within u Recal d bytes lines f may w =
-    still_within (in_hand u.service).count u.progress (progress_after u.stage Recal bytes u.progress) u.stage
-    (stage_after u.stage Recal d (record (hand_of u) { progress = progress_after u.stage Recal bytes u.progress }) (head_of u.service)) Recal lines
-    (due_costs true true u.drive d (hand_of u) (head_of u.service) u.stage Recal lines may f.fits) w
-unit_within u (Offset o) d bytes lines f may w =
-    still_within (in_hand u.service).count u.progress (progress_after u.stage (Offset o) bytes u.progress) u.stage
-    (stage_after u.stage (Offset o) d (record (hand_of u) { progress = progress_after u.stage (Offset o) bytes u.progress }) (head_of u.service)) (Offset o) lines
-    (due_costs true true u.drive d (hand_of u) (head_of u.service) u.stage (Offset o) lines may f.fits) w
-unit_within u Centre d bytes lines f may w =
-    still_within (in_hand u.service).count u.progress (progress_after u.stage Centre bytes u.progress) u.stage
-    (stage_after u.stage Centre d (record (hand_of u) { progress = progress_after u.stage Centre bytes u.progress }) (head_of u.service)) Centre lines
-    (due_costs true true u.drive d (hand_of u) (head_of u.service) u.stage Centre lines may f.fits) w
-unit_within u Clear d bytes lines f may w =
-    still_within (in_hand u.service).count u.progress (progress_after u.stage Clear bytes u.progress) u.stage
-    (stage_after u.stage Clear d (record (hand_of u) { progress = progress_after u.stage Clear bytes u.progress }) (head_of u.service)) Clear lines
-    (due_costs true true u.drive d (hand_of u) (head_of u.service) u.stage Clear lines may f.fits) w
-unit_within u Pack d bytes lines f may w =
-    still_within (in_hand u.service).count u.progress (progress_after u.stage Pack bytes u.progress) u.stage
-    (stage_after u.stage Pack d (record (hand_of u) { progress = progress_after u.stage Pack bytes u.progress }) (head_of u.service)) Pack lines
-    (due_costs true true u.drive d (hand_of u) (head_of u.service) u.stage Pack lines may f.fits) w
-unit_within u (Transfer write k n) d bytes lines f may w =
-    still_within (in_hand u.service).count u.progress (progress_after u.stage (Transfer write k n) bytes u.progress) u.stage
-    (stage_after u.stage (Transfer write k n) d (record (hand_of u) { progress = progress_after u.stage (Transfer write k n) bytes u.progress }) (head_of u.service)) (Transfer write k n) lines
-    (due_costs true true u.drive d (hand_of u) (head_of u.service) u.stage (Transfer write k n) lines may f.fits) w
-unit_within u (Try k t) d bytes lines f may w =
-    still_within (in_hand u.service).count u.progress (progress_after u.stage (Try k t) bytes u.progress) u.stage
-    (stage_after u.stage (Try k t) d (record (hand_of u) { progress = progress_after u.stage (Try k t) bytes u.progress }) (head_of u.service)) (Try k t) lines
-    (due_costs true true u.drive d (hand_of u) (head_of u.service) u.stage (Try k t) lines may f.fits) w
 unit_within u Arrive d bytes lines f may w = record { events = w.events; commands = omega (arith, w.commands) }
 unit_within u (Sector k v) d bytes lines f may w =
     still_within (in_hand u.service).count u.progress (progress_after u.stage (Sector k v) bytes u.progress) u.stage
@@ -142,6 +98,10 @@ unit_within u Attn d bytes lines f may w =
 unit_within u (End answer) d bytes lines f may w =
     subst (λ z. UnitWithin (UnitTold u (End answer) d not_begun (after_leave u.service)) (if z then lines else [])) (sym (end_kept u.drive (hand_of u) u.stage (End answer) lines may f.fits))
     (begun_within d (drop 1 u.service.waiting) (some_behind u.service.waiting f.some))
+unit_within u other d bytes lines f may w =
+    still_within (in_hand u.service).count u.progress (progress_after u.stage other bytes u.progress) u.stage
+    (stage_after u.stage other d (record (hand_of u) { progress = progress_after u.stage other bytes u.progress }) (head_of u.service)) other lines
+    (due_costs true true u.drive d (hand_of u) (head_of u.service) u.stage other lines may f.fits) w
 
 -- ---- a request joins
 pub joined_within : (stage : Stage) (d : DriveState) (service : Service Request) (p : Progress) (table : Option Table) (r : Request) (lines : List Deed) → 1 ≤ r.count
@@ -188,12 +148,7 @@ behind_few (w ∷ rest) some = omega (arith, some.0, behind_few rest some.1)
 
 none_waits : (b : Bool) (count : ℕ) (p : Progress) (stage : Stage) → is_waiting stage ≡ true → events_at b count p stage ≡ 0
 none_waits b count p Waiting is = refl
-none_waits b count p (Steps left segment) is = absurd (no is)
-none_waits b count p (UnderWay left segment) is = absurd (no is)
-none_waits b count p (AtOnce segment) is = absurd (no is)
-none_waits b count p (Moving segment left last) is = absurd (no is)
-none_waits b count p (Saying rest next) is = absurd (no is)
-none_waits b count p (Ending answer) is = absurd (no is)
+none_waits b count p other is = absurd (no is)
 
 queue_few : (b : Bool) (p : Progress) (stage : Stage) (lines : List Deed) (waiting : List (Waiter Request)) → AskSomeBlocks waiting
     → (is_waiting stage ≡ false → IsHeld waiting) → Within (request_or_none (first_waiting waiting)).count p stage lines

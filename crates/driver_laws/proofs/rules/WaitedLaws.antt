@@ -42,20 +42,8 @@ use Rattle.driver_laws.proofs.rules.Parts.{PartStep, part_step}
 -- ---- the answers of some moments and then of more
 told_append : (line unit id : ℕ) (deed : Deed) (ms ns : List Moment) → answers_in (ms ++ ns) ≡ answers_in ms ++ answers_in ns
     → answers_in (Told line unit id deed ∷ (ms ++ ns)) ≡ answers_in (Told line unit id deed ∷ ms) ++ answers_in ns
-told_append line unit id (Search c y) ms ns is = is
-told_append line unit id (Seek c) ms ns is = is
-told_append line unit id Recal ms ns is = is
-told_append line unit id (Offset o) ms ns is = is
-told_append line unit id Centre ms ns is = is
-told_append line unit id Clear ms ns is = is
-told_append line unit id Pack ms ns is = is
-told_append line unit id (Transfer w b k) ms ns is = is
-told_append line unit id Arrive ms ns is = is
-told_append line unit id (Sector b v) ms ns is = is
-told_append line unit id Intr ms ns is = is
-told_append line unit id (Try b f) ms ns is = is
-told_append line unit id Attn ms ns is = is
 told_append line unit id (End a) ms ns is = ap (λ z. record { line = line; id = id; answer = a } ∷ z) is
+told_append line unit id other ms ns is = is
 
 pub answers_append : (ms ns : List Moment) → answers_in (ms ++ ns) ≡ answers_in ms ++ answers_in ns
 answers_append [] ns = refl
@@ -171,21 +159,15 @@ answer_is blocks first r NoFrames may calm = absurd may
 
 -- an answer that may come is no refusal
 no_refusal : (claimed : Type 0) (blocks : Blocks) (first : ℕ) (r : Request) (answer : Answer) → MayAnswer claimed blocks first r answer → is_refused_at_once answer ≡ false
-no_refusal claimed blocks first r (ReadOk bytes) may = refl
-no_refusal claimed blocks first r WriteOk may = refl
-no_refusal claimed blocks first r (Failed cause done) may = refl
 no_refusal claimed blocks first r OutsidePartition may = absurd may
 no_refusal claimed blocks first r EndOfPartition may = absurd may
 no_refusal claimed blocks first r NoFrames may = absurd may
+no_refusal claimed blocks first r other may = refl
 
 -- where claims hold, they need not be asked for
 claimed_all : (claimed : Type 0) (blocks : Blocks) (first : ℕ) (r : Request) (answer : Answer) → claimed → MayAnswer claimed blocks first r answer → MayAnswer (Unit {0}) blocks first r answer
 claimed_all claimed blocks first r (ReadOk bytes) is may = (may.0, may.1, may.2, (λ _. may.3 is))
-claimed_all claimed blocks first r WriteOk is may = may
-claimed_all claimed blocks first r (Failed cause done) is may = may
-claimed_all claimed blocks first r OutsidePartition is may = may
-claimed_all claimed blocks first r EndOfPartition is may = may
-claimed_all claimed blocks first r NoFrames is may = may
+claimed_all claimed blocks first r other is may = may
 
 -- ---- CALM
 abbrev pub CalmEnds : List Answered → Type 0
@@ -204,20 +186,8 @@ lines_calm (Idle line ∷ ms) none = lines_calm ms none
 
 told_ends : (s : Replay) (line unit id : ℕ) (deed : Deed) (ms : List Moment) → IsCalm s → MayCome s (Told line unit id deed) → CalmEnds (answers_in ms)
     → CalmEnds (answers_in (Told line unit id deed ∷ ms))
-told_ends s line unit id (Search c y) ms calm may rest = rest
-told_ends s line unit id (Seek c) ms calm may rest = rest
-told_ends s line unit id Recal ms calm may rest = rest
-told_ends s line unit id (Offset o) ms calm may rest = rest
-told_ends s line unit id Centre ms calm may rest = rest
-told_ends s line unit id Clear ms calm may rest = rest
-told_ends s line unit id Pack ms calm may rest = rest
-told_ends s line unit id (Transfer w b k) ms calm may rest = rest
-told_ends s line unit id Arrive ms calm may rest = rest
-told_ends s line unit id (Sector b v) ms calm may rest = rest
-told_ends s line unit id Intr ms calm may rest = rest
-told_ends s line unit id (Try b f) ms calm may rest = rest
-told_ends s line unit id Attn ms calm may rest = rest
 told_ends s line unit id (End a) ms calm may rest = (ends_are_calm s line unit id a calm may, rest)
+told_ends s line unit id other ms calm may rest = rest
 
 calm_ends : (s : Replay) (ms : List Moment) → Follows s ms → played ms ≡ [] → IsCalm s → CalmEnds (answers_in ms)
 calm_ends s [] follows none calm = tt
@@ -232,8 +202,7 @@ begun_calm s line input is calm = other_event (replay_played s input) _ (played_
 -- ---- a table stays where its copies do
 copy_below : (kind : DriveKind) (k : ℕ) → k < 5 → copy_at kind k < block_count kind
 copy_below Rp06 k lt = omega (arith, lt)
-copy_below Rm03 k lt = omega (arith, lt)
-copy_below Rm05 k lt = omega (arith, lt)
+copy_below other k lt = omega (arith, lt)
 
 no_home_there : (kind : DriveKind) (table : Option Table) (pack : model.Pack) (k block : ℕ) → length (places_of table) ≤ 126 → home_of kind table pack block ≡ Some (copy_at kind k) → ⊥
 no_home_there kind table pack k block room home = apart (copy_at kind k) (home_below kind table pack block (copy_at kind k) k room home)
@@ -261,12 +230,7 @@ not_held (w ∷ ws) none held = cons_never w ws none
 
 waits_by : (stage : Stage) (waiting : List (Waiter Request)) → waiting ≡ [] → (is_waiting stage ≡ false → IsHeld waiting) → stage ≡ Waiting
 waits_by Waiting waiting none held = refl
-waits_by (StepsLeft left segment) waiting none held = absurd (not_held waiting none (held refl))
-waits_by (UnderWay left segment) waiting none held = absurd (not_held waiting none (held refl))
-waits_by (AtOnce segment) waiting none held = absurd (not_held waiting none (held refl))
-waits_by (Moving segment left last) waiting none held = absurd (not_held waiting none (held refl))
-waits_by (Saying lines next) waiting none held = absurd (not_held waiting none (held refl))
-waits_by (Ending answer) waiting none held = absurd (not_held waiting none (held refl))
+waits_by other waiting none held = absurd (not_held waiting none (held refl))
 
 fresh_by : (u : UnitSeen) → u.stage ≡ Waiting → (u.progress ≡ not_begun) ⊎ (is_waiting u.stage ≡ false) → u.progress ≡ not_begun
 fresh_by u waits (inl is) = is

@@ -33,41 +33,21 @@ dropped [] are = refl
 dropped (line ∷ lines) are = second_of (is_no_end line) (are_no_ends lines) are
 
 said_calm : (stage : Stage) → is_calm_stage stage ≡ true → is_calm_stage (said stage) ≡ true
-said_calm Waiting calm = calm
-said_calm (Steps left segment) calm = calm
-said_calm (UnderWay left segment) calm = calm
-said_calm (AtOnce segment) calm = calm
-said_calm (Moving segment left last) calm = calm
 said_calm (Saying lines next) calm =
     saying_calm (drop 1 lines) next (dropped lines (first_of (are_no_ends lines) (is_calm_stage next) calm)) (second_of (are_no_ends lines) (is_calm_stage next) calm)
-said_calm (Ending answer) calm = calm
+said_calm other calm = calm
 
 taken_calm : (stage : Stage) → is_calm_stage stage ≡ true → is_calm_stage (step_taken stage) ≡ true
-taken_calm Waiting calm = calm
 taken_calm (Steps left segment) calm = refl
-taken_calm (UnderWay left segment) calm = calm
-taken_calm (AtOnce segment) calm = calm
-taken_calm (Moving segment left last) calm = calm
-taken_calm (Saying lines next) calm = calm
-taken_calm (Ending answer) calm = calm
+taken_calm other calm = calm
 
 ended_calm : (stage : Stage) → is_calm_stage stage ≡ true → is_calm_stage (step_ended stage) ≡ true
-ended_calm Waiting calm = calm
-ended_calm (Steps left segment) calm = calm
 ended_calm (UnderWay left segment) calm = refl
-ended_calm (AtOnce segment) calm = calm
-ended_calm (Moving segment left last) calm = calm
-ended_calm (Saying lines next) calm = calm
-ended_calm (Ending answer) calm = calm
+ended_calm other calm = calm
 
 last_calm : (stage : Stage) → is_calm_stage stage ≡ true → is_calm_verdict (last_of stage) ≡ true
-last_calm Waiting calm = refl
-last_calm (Steps left segment) calm = refl
-last_calm (UnderWay left segment) calm = refl
-last_calm (AtOnce segment) calm = refl
 last_calm (Moving segment left last) calm = calm
-last_calm (Saying lines next) calm = refl
-last_calm (Ending answer) calm = refl
+last_calm other calm = refl
 
 -- behind an interrupt
 ok_calm : (write : Bool) (bytes : List ℕ) → is_calm_answer (if write then WriteOk else ReadOk bytes) ≡ true
@@ -88,11 +68,8 @@ marked_calm h (Replacement block) = refl
 
 outcome_calm : (v : Moved) (h : Hand) (segment : Segment) → is_calm_verdict v ≡ true → is_calm_stage (outcome v h segment) ≡ true
 outcome_calm verdict.Clean h segment calm = continued_by (h.progress.done == h.request.count) h
-outcome_calm (verdict.Burst at q) h segment calm = absurd (no calm)
-outcome_calm verdict.Hard h segment calm = absurd (no calm)
-outcome_calm (verdict.Faulted k) h segment calm = absurd (no calm)
 outcome_calm verdict.Marked h segment calm = marked_calm h segment
-outcome_calm verdict.Offline h segment calm = absurd (no calm)
+outcome_calm other h segment calm = absurd (no calm)
 
 no_ends_by : (none : Bool) → are_no_ends ((if none then [] else Centre ∷ []) ++ []) ≡ true
 no_ends_by true = refl
@@ -100,11 +77,8 @@ no_ends_by false = refl
 
 lines_calm : (v : Moved) (d : DriveState) (block failures : ℕ) → is_calm_verdict v ≡ true → are_no_ends (clear_lines v ++ centre_lines d ++ try_lines v block failures) ≡ true
 lines_calm verdict.Clean d block failures calm = no_ends_by (offset_field d.offset == 0)
-lines_calm (verdict.Burst at q) d block failures calm = absurd (no calm)
-lines_calm verdict.Hard d block failures calm = absurd (no calm)
-lines_calm (verdict.Faulted k) d block failures calm = absurd (no calm)
 lines_calm verdict.Marked d block failures calm = no_ends_by (offset_field d.offset == 0)
-lines_calm verdict.Offline d block failures calm = absurd (no calm)
+lines_calm other d block failures calm = absurd (no calm)
 
 interrupted_calm : (v : Moved) (d : DriveState) (h : Hand) (segment : Segment) → is_calm_verdict v ≡ true → is_calm_stage (interrupted_by v d h segment) ≡ true
 interrupted_calm v d h segment calm =
@@ -117,10 +91,6 @@ begun_calm d (Some r) = refl
 
 pub stage_calm : (stage : Stage) (deed : Deed) (d : DriveState) (h : Hand) (next : Option Request) → IsCalmDeed deed → is_calm_stage stage ≡ true
     → is_calm_stage (stage_after stage deed d h next) ≡ true
-stage_calm stage (Search c y) d h next is calm = taken_calm stage calm
-stage_calm stage (Seek c) d h next is calm = taken_calm stage calm
-stage_calm stage Recal d h next is calm = taken_calm stage calm
-stage_calm stage (Offset o) d h next is calm = taken_calm stage calm
 stage_calm stage Centre d h next is calm = said_calm stage calm
 stage_calm stage Clear d h next is calm = said_calm stage calm
 stage_calm stage Pack d h next is calm = calm
@@ -131,6 +101,7 @@ stage_calm stage Intr d h next is calm = interrupted_calm (last_of stage) d h (s
 stage_calm stage (Try b f) d h next is calm = said_calm stage calm
 stage_calm stage Attn d h next is calm = ended_calm stage calm
 stage_calm stage (End answer) d h next is calm = begun_calm d next
+stage_calm stage other d h next is calm = taken_calm stage calm
 
 -- ---- an end that is due
 guarded_by : (online locked valid : Bool) (done : ℕ) (command : Deed) (answer : Answer) → online ≡ true → locked ≡ false → is_no_end command ≡ true
@@ -150,9 +121,7 @@ guarded_never d h command answer g none is =
 
 step_no_end : (step : Positioning) → is_no_end (command_of step) ≡ true
 step_no_end (SearchFor c y) = refl
-step_no_end Recalibrate = refl
-step_no_end (SeekTo c) = refl
-step_no_end (OffsetBy code) = refl
+step_no_end other = refl
 
 pub end_calm : (d : DriveState) (h : Hand) (stage : Stage) (answer : Answer) → IsGood d → is_calm_stage stage ≡ true → due d h stage ≡ Some (End answer) → is_calm_answer answer ≡ true
 end_calm d h Waiting answer g calm is = absurd (none-some (End answer) is)

@@ -10,20 +10,13 @@ first_letter (letter ∷ word) = letter
 
 pub told_as_commands : AreToldAsCommands
 unfolding first_letter
-told_as_commands (Search c y) = (λ e. refl, λ e. refl)
-told_as_commands (Seek c) = (λ e. refl, λ e. refl)
-told_as_commands Recal = (λ e. refl, λ e. refl)
-told_as_commands (Offset o) = (λ e. refl, λ e. refl)
-told_as_commands Centre = (λ e. refl, λ e. refl)
-told_as_commands Clear = (λ e. refl, λ e. refl)
-told_as_commands Pack = (λ e. refl, λ e. refl)
-told_as_commands (Transfer write k n) = (λ e. refl, λ e. refl)
 told_as_commands Arrive = (λ e. absurd (omega (arith, e)), λ e. absurd (omega (arith, ap first_letter e)))
 told_as_commands (Sector k v) = (λ e. absurd (omega (arith, e)), λ e. absurd (omega (arith, ap first_letter e)))
 told_as_commands Intr = (λ e. absurd (omega (arith, e)), λ e. absurd (omega (arith, ap first_letter e)))
 told_as_commands (Try k t) = (λ e. absurd (omega (arith, e)), λ e. absurd (omega (arith, ap first_letter e)))
 told_as_commands Attn = (λ e. absurd (omega (arith, e)), λ e. absurd (omega (arith, ap first_letter e)))
 told_as_commands (End answer) = (λ e. absurd (omega (arith, e)), λ e. absurd (omega (arith, ap first_letter e)))
+told_as_commands other = (λ e. refl, λ e. refl)
 
 -- "cmd", "try" and "end" are none of the four
 not_cmd : IsEventWord (codes "cmd") → ⊥

@@ -99,11 +99,7 @@ deed_beyond line u id other w held unit sound allowed = refl
 
 pub beyond_stays : BeyondStays
 beyond_stays w (Of line u id d) held unit sound allowed = deed_beyond line u id d w held unit sound allowed
-beyond_stays w (Refuse line r kind) held unit sound allowed = refl
-beyond_stays w (Submit line p h) held unit sound allowed = refl
-beyond_stays w (Change input) held unit sound allowed = refl
-beyond_stays w (Nothing line) held unit sound allowed = refl
-beyond_stays w Taken held unit sound allowed = refl
+beyond_stays w other held unit sound allowed = refl
 
 -- A UNIT THAT IS NOT SET UP has no request in hand.
 pub other_by : (b : Bool) (held : ℕ → Pack) (u block : ℕ) (bytes : List ℕ) (unit : ℕ) → unit ≢ u
@@ -126,8 +122,4 @@ deed_others line u id d w held unit other = refl
 
 pub others_stay : OthersStay
 others_stay w (Of line u id d) held unit sound allowed off = deed_others line u id d w held unit (is_other w u id unit sound allowed.0 off)
-others_stay w (Refuse line r kind) held unit sound allowed off = refl
-others_stay w (Submit line p h) held unit sound allowed off = refl
-others_stay w (Change input) held unit sound allowed off = refl
-others_stay w (Nothing line) held unit sound allowed off = refl
-others_stay w Taken held unit sound allowed off = refl
+others_stay w other held unit sound allowed off = refl

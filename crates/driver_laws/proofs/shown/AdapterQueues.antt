@@ -71,8 +71,5 @@ not_without u [] among = among
 not_without u (x ∷ xs) among = not_without_by u x (x == u) (without u xs) refl (not_without u xs) among
 
 pub coming_is : (phase : Phase) (stage : Stage) → phase ≢ phases.Queued → is_coming phase stage ≡ waits stage
-coming_is phases.Waiting stage other = refl
-coming_is (phases.Positioning taken) stage other = refl
-coming_is phases.Transferring stage other = refl
-coming_is (phases.Due task) stage other = refl
 coming_is phases.Queued stage other = absurd (other refl)
+coming_is it stage other = refl

@@ -36,12 +36,8 @@ with_asked there line unit id [] = record { some = tt; units = tt }
 with_asked there line unit id (told ∷ rest) = told_asked there line unit id told (lines_with line unit id rest) (with_asked there line unit id rest)
 
 act_asked : (there : List ℕ) (w : World) (act : Act) → AreAsked there (lines_of w act)
-act_asked there w (Refuse line r kind) = record { some = tt; units = tt }
-act_asked there w (Submit line p h) = record { some = tt; units = tt }
 act_asked there w (Of line u id deed) = with_asked there line u id (deed_told (held_in w (slot_in_hand (unit_at w u))) deed)
-act_asked there w (Change input) = record { some = tt; units = tt }
-act_asked there w (Nothing line) = record { some = tt; units = tt }
-act_asked there w Taken = record { some = tt; units = tt }
+act_asked there w other = record { some = tt; units = tt }
 
 lines_asked : (there : List ℕ) (w : World) (acts : List Act) → AreAsked there (lines_of_all w acts)
 lines_asked there w [] = record { some = tt; units = tt }

@@ -141,19 +141,14 @@ interrupt_told line a drains true ks w s four is rests run =
 -- AN ATTENTION. It is up where a step is under way.
 task_down : (task : Task) (v : UnitView) (h : Held) → IsTask v h task → v.drive.attention ≡ false
 task_down (Clear moved last) v h is = is.1.attention
-task_down (Judge moved last) v h is = is.1.attention
-task_down (Steps taken) v h is = is.1.attention
-task_down Command v h is = is.1.attention
-task_down (GiveUp done) v h is = is.1.attention
+task_down other v h is = is.1.attention
 
 -- the phase of a unit whose attention is up
 up_phase : (u : ℕ) (phase : Phase) (v : UnitView) (a : AdapterView) (h : Held) → IsPhase u v a h phase → v.drive.attention ≡ true
     → (is_waiting phase ≡ false) × (is_resting phase ≡ true)
 up_phase u Waiting v a h is up = absurd (false_true (sym is.0.attention ∙ up))
 up_phase u (Due task) v a h is up = absurd (false_true (sym (task_down task v h is) ∙ up))
-up_phase u (Positioning taken) v a h is up = (refl, refl)
-up_phase u Queued v a h is up = (refl, refl)
-up_phase u Transferring v a h is up = (refl, refl)
+up_phase u other v a h is up = (refl, refl)
 
 -- the others that are up stay so
 attended_one : (line : ℕ) (drains : Bool) (a k : ℕ) (ks : List ℕ) (w : World) {x : World} {s : Replay} {raised : ℕ} → (Among k ks → ⊥)

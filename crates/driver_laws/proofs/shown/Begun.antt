@@ -35,19 +35,7 @@ use Rattle.driver_laws.proofs.shown.Speech.{drained_by, tells, still_free, due_i
 -- a line is wished that is no end of an event
 some_wish : (u : ℕ) (told : moment.Deed) → is_no_line (wish_of u told) ≡ false
 some_wish u (moment.Search cylinder sector) = refl
-some_wish u (moment.Seek cylinder) = refl
-some_wish u moment.Recal = refl
-some_wish u (moment.Offset code) = refl
-some_wish u moment.Centre = refl
-some_wish u moment.Clear = refl
-some_wish u moment.Pack = refl
-some_wish u (moment.Transfer write block count) = refl
-some_wish u moment.Arrive = refl
-some_wish u (moment.Sector block last) = refl
-some_wish u moment.Intr = refl
-some_wish u (moment.Try block failures) = refl
-some_wish u moment.Attn = refl
-some_wish u (moment.End answer) = refl
+some_wish u other = refl
 
 wished_same : (s : Replay) (u : ℕ) (told : moment.Deed) → next_wish s ≡ wish_of u told → drained s ≡ s
 wished_same s u told wished =
@@ -113,18 +101,7 @@ begins_free line u w (deed.Sector block t) sound small may begins has =
     phase_has (unit_at w u).phase phases.Transferring m.is.phase refl has
 begins_free line u w (deed.Intr moved last) sound small may begins has = refl
 begins_free line u w (deed.Attn taken) sound small may begins has = absurd (grind (arith, has))
-begins_free line u w (deed.Search target sector) sound small may begins has = chosen_free line u w (deed.Search target sector) begins has
-begins_free line u w (deed.Do step taken) sound small may begins has = chosen_free line u w (deed.Do step taken) begins has
-begins_free line u w (deed.Move write segment) sound small may begins has = chosen_free line u w (deed.Move write segment) begins has
-begins_free line u w deed.Pack sound small may begins has = chosen_free line u w deed.Pack begins has
-begins_free line u w (deed.Dclr moved last) sound small may begins has = chosen_free line u w (deed.Dclr moved last) begins has
-begins_free line u w deed.Rtc sound small may begins has = chosen_free line u w deed.Rtc begins has
-begins_free line u w (deed.Ready t) sound small may begins has = chosen_free line u w (deed.Ready t) begins has
-begins_free line u w (deed.Repair moved place pattern) sound small may begins has = chosen_free line u w (deed.Repair moved place pattern) begins has
-begins_free line u w (deed.Forward moved index) sound small may begins has = chosen_free line u w (deed.Forward moved index) begins has
-begins_free line u w (deed.Continue moved) sound small may begins has = chosen_free line u w (deed.Continue moved) begins has
-begins_free line u w (deed.Try moved block number next) sound small may begins has = chosen_free line u w (deed.Try moved block number next) begins has
-begins_free line u w (deed.End kind) sound small may begins has = chosen_free line u w (deed.End kind) begins has
+begins_free line u w other sound small may begins has = chosen_free line u w other begins has
 
 no_line : {x : moment.Deed} → x ∷ [] ≡ [] → ⊥
 no_line e = grind (arith, e)
@@ -134,18 +111,7 @@ begins_speaks u w deed.Arrive begins none = no_line none
 begins_speaks u w (deed.Sector block t) begins none = no_line none
 begins_speaks u w (deed.Intr moved last) begins none = no_line none
 begins_speaks u w (deed.Attn taken) begins none = no_line none
-begins_speaks u w (deed.Search target sector) begins none = chosen_speaks u w (deed.Search target sector) begins none
-begins_speaks u w (deed.Do step taken) begins none = chosen_speaks u w (deed.Do step taken) begins none
-begins_speaks u w (deed.Move write segment) begins none = chosen_speaks u w (deed.Move write segment) begins none
-begins_speaks u w deed.Pack begins none = chosen_speaks u w deed.Pack begins none
-begins_speaks u w (deed.Dclr moved last) begins none = chosen_speaks u w (deed.Dclr moved last) begins none
-begins_speaks u w deed.Rtc begins none = chosen_speaks u w deed.Rtc begins none
-begins_speaks u w (deed.Ready t) begins none = chosen_speaks u w (deed.Ready t) begins none
-begins_speaks u w (deed.Repair moved place pattern) begins none = chosen_speaks u w (deed.Repair moved place pattern) begins none
-begins_speaks u w (deed.Forward moved index) begins none = chosen_speaks u w (deed.Forward moved index) begins none
-begins_speaks u w (deed.Continue moved) begins none = chosen_speaks u w (deed.Continue moved) begins none
-begins_speaks u w (deed.Try moved block number next) begins none = chosen_speaks u w (deed.Try moved block number next) begins none
-begins_speaks u w (deed.End kind) begins none = chosen_speaks u w (deed.End kind) begins none
+begins_speaks u w other begins none = chosen_speaks u w other begins none
 
 -- some lines, and others behind them
 append_nil : (xs : List Moment) → xs ++ [] ≡ xs

@@ -133,8 +133,7 @@ start_wish u w s d shows small chosen act =
 
 step_wish : (u : ℕ) (step : RetryStep) → DueLine u ≡ wish_of u (step_told step)
 step_wish u Recalibrate = refl
-step_wish u (Seek cylinder) = refl
-step_wish u (Offset code) = refl
+step_wish u other = refl
 
 module _ (line u id : ℕ) (w : World) (s : Replay) (told : moment.Deed) (sound : Sound w) (shows : Shows u w s) (hand : InHand w u id)
     (rests : next_wish s ≡ wish_in s.adapters s.event.act) where
@@ -159,18 +158,12 @@ module _ (line u id : ℕ) (w : World) (s : Replay) (told : moment.Deed) (sound 
       rests ∙ (rw act.1 (ap Interrupt own)) ∙ ap (wish_of u) (same_line tells)
   brought (deed.Attn taken_so_far) may begins act tells =
       rests ∙ (rw act.1 (ap Attention (own_of u (drive_of u) refl))) ∙ ap (wish_of u) (same_line tells)
-  brought (deed.Search target sector) may begins act tells = taken (deed.Search target sector) _ begins act refl tells
   brought (deed.Do step n) may begins act tells = taken (deed.Do step n) (step_told step) begins act (step_wish u step) tells
-  brought (deed.Move write segment) may begins act tells = taken (deed.Move write segment) _ begins act refl tells
-  brought deed.Pack may begins act tells = taken deed.Pack _ begins act refl tells
-  brought (deed.Dclr moved last) may begins act tells = taken (deed.Dclr moved last) _ begins act refl tells
-  brought deed.Rtc may begins act tells = taken deed.Rtc _ begins act refl tells
   brought (deed.Ready t) may begins act tells = no_line tells
   brought (deed.Repair moved place pattern) may begins act tells = no_line tells
   brought (deed.Forward moved index) may begins act tells = no_line tells
   brought (deed.Continue moved) may begins act tells = no_line tells
-  brought (deed.Try moved block number next) may begins act tells = taken (deed.Try moved block number next) _ begins act refl tells
-  brought (deed.End kind) may begins act tells = taken (deed.End kind) _ begins act refl tells
+  brought other may begins act tells = taken other _ begins act refl tells
 
 pub brought_is_wished : BroughtIsWished
 brought_is_wished line u id w s d told sound shows allowed begins act rests tells =

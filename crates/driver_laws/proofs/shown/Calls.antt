@@ -38,13 +38,9 @@ event_told : (next : ℕ) (input : Input) (tried : Tried) (held : ℕ → Pack) 
 event_told next (script.ArriveAt u) tried held w s stands of_units may on works = arrive_played next u held w s of_units stands works.run
 event_told next (script.MoveAt a) tried held w s stands of_units may on works = move_played next a tried held w s of_units stands on works.run
 event_told next (script.AttendTo a) tried held w s stands of_units may on works = attend_played next a held w s of_units stands works.run
-event_told next (script.Turn u sector) tried held w s stands of_units may on works = change_played next (script.Turn u sector) held w s stands may works.work
-event_told next (script.Noise noise) tried held w s stands of_units may on works = change_played next (script.Noise noise) held w s stands may works.work
-event_told next (script.Arm u kind times) tried held w s stands of_units may on works = change_played next (script.Arm u kind times) held w s stands may works.work
-event_told next (script.SetOnline u online) tried held w s stands of_units may on works = change_played next (script.SetOnline u online) held w s stands may works.work
-event_told next (script.SetLocked u locked) tried held w s stands of_units may on works = change_played next (script.SetLocked u locked) held w s stands may works.work
 event_told next (script.Submit r) tried held w s stands of_units may on works = absurd may
 event_told next script.Drain tried held w s stands of_units may on works = absurd may
+event_told next other tried held w s stands of_units may on works = change_played next other held w s stands may works.work
 
 -- it goes on with a run, where the sector that it tries is that of the surface,
 pub event_goes_on : (drives : ℕ → Option DriveKind) (tables : ℕ → Option Table) (surface : Surface) (line next : ℕ) (input : Input) (tried : Tried)

@@ -37,18 +37,13 @@ empty_head held kind (x ∷ xs) waiting none match = absurd (grind (arith, none)
 work_stage : (phase : Phase) (v : UnitView) (d : DriveState) (a : AdapterState) (hand : told.Hand) (head : Option Request)
     → WorkOf phase v.queue → (v.queue ≡ [] → head ≡ None) → stage_by phase v a hand head ≡ stage_by phase (record v { drive = d }) a hand head
 work_stage phases.Waiting v d a hand head at none = rw (none at) refl
-work_stage (phases.Positioning taken) v d a hand head at none = refl
-work_stage phases.Queued v d a hand head at none = refl
-work_stage phases.Transferring v d a hand head at none = refl
 work_stage (phases.Due task) v d a hand head at none = absurd at
+work_stage other v d a hand head at none = refl
 
 work_progress : (phase : Phase) (v : UnitView) (d : DriveState) (a : AdapterState) (h : Held) (p : told.Progress) → WorkOf phase v.queue
     → IsProgress phase v a h p → IsProgress phase (record v { drive = d }) a h p
-work_progress phases.Waiting v d a h p at is = is
-work_progress (phases.Positioning taken) v d a h p at is = is
-work_progress phases.Queued v d a h p at is = is
-work_progress phases.Transferring v d a h p at is = is
 work_progress (phases.Due task) v d a h p at is = absurd at
+work_progress other v d a h p at is = is
 
 drive_changed : (held : ℕ → Held) (v : UnitView) (a : AdapterState) (seen : UnitSeen) (d : DriveState) → d.kind ≡ v.drive.kind → WorkOf v.phase v.queue
     → IsUnitSeen held v a seen → IsUnitSeen held (record v { drive = d }) a (record seen { drive = d })

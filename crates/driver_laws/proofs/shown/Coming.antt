@@ -26,35 +26,11 @@ event_shows u w s event shows = record {
 -- a line that is wished is no refusal
 may_by : (s : Replay) (line u id : ℕ) (told : moment.Deed) → LineMay s line u id told → ToldMay (wish_of u told) s line u id told
 may_by s line u id (moment.Search cylinder sector) may = may
-may_by s line u id (moment.Seek cylinder) may = may
-may_by s line u id moment.Recal may = may
-may_by s line u id (moment.Offset code) may = may
-may_by s line u id moment.Centre may = may
-may_by s line u id moment.Clear may = may
-may_by s line u id moment.Pack may = may
-may_by s line u id (moment.Transfer write block count) may = may
-may_by s line u id moment.Arrive may = may
-may_by s line u id (moment.Sector block last) may = may
-may_by s line u id moment.Intr may = may
-may_by s line u id (moment.Try block failures) may = may
-may_by s line u id moment.Attn may = may
-may_by s line u id (moment.End answer) may = may
+may_by s line u id other may = may
 
 pub after_by : (s : Replay) (u : ℕ) (told : moment.Deed) → drained (replay_told s u told (unit_after s u told)) ≡ told_after (wish_of u told) s u told
 after_by s u (moment.Search cylinder sector) = refl
-after_by s u (moment.Seek cylinder) = refl
-after_by s u moment.Recal = refl
-after_by s u (moment.Offset code) = refl
-after_by s u moment.Centre = refl
-after_by s u moment.Clear = refl
-after_by s u moment.Pack = refl
-after_by s u (moment.Transfer write block count) = refl
-after_by s u moment.Arrive = refl
-after_by s u (moment.Sector block last) = refl
-after_by s u moment.Intr = refl
-after_by s u (moment.Try block failures) = refl
-after_by s u moment.Attn = refl
-after_by s u (moment.End answer) = refl
+after_by s u other = refl
 
 pub lines_come : LinesCome
 lines_come line u id w s d told sound shows allowed surface tells number wished work =

@@ -48,20 +48,13 @@ SceneBears sure kind pack blocks s = At sure kind s.unit.table pack blocks s.hel
 attention_at : (sure : ℕ → Type 0) (kind : DriveKind) (table : Option Table) (pack : Pack) (blocks : Blocks) (h : Held) (t : Option TransferState) (phase : Phase) (a : AdapterState) (n : ℕ)
     → At sure kind table pack blocks h t phase a → At sure kind table pack blocks h t phase (record a { attentions = n })
 attention_at sure kind table pack blocks h t Waiting a n b = b
-attention_at sure kind table pack blocks h t (Positioning taken) a n b = b
-attention_at sure kind table pack blocks h t Queued a n b = b
-attention_at sure kind table pack blocks h t Transferring a n b = b
-attention_at sure kind table pack blocks h t (Due task) a n b = b
+attention_at sure kind table pack blocks h t other a n b = b
 
 interrupted_at : (sure : ℕ → Type 0) (kind : DriveKind) (table : Option Table) (pack : Pack) (blocks : Blocks) (h : Held) (t : TransferState) (moved : ℕ) (last : Moved)
     → HandBears sure kind table pack blocks h t (t.done + moved) last
     → HandBears sure kind table pack blocks h t (done_at (interrupted moved last) t) (last_at (interrupted moved last))
 interrupted_at sure kind table pack blocks h t moved verdict.Clean b = b
-interrupted_at sure kind table pack blocks h t moved (verdict.Burst at pattern) b = b
-interrupted_at sure kind table pack blocks h t moved verdict.Hard b = b
-interrupted_at sure kind table pack blocks h t moved verdict.Marked b = b
-interrupted_at sure kind table pack blocks h t moved (verdict.Faulted fault) b = b
-interrupted_at sure kind table pack blocks h t moved verdict.Offline b = b
+interrupted_at sure kind table pack blocks h t moved other b = b
 
 -- a segment that stopped in front of its end has not left its replacement
 pub one_sector : (index : Option ℕ) (job : Job) (done moved : ℕ) → moved < (segment_by index job done).count → (i : ℕ) → index ≡ Some i → done + moved ≡ done
@@ -205,7 +198,6 @@ IsPlain d = Unit {0}
 pub plain_bears : (sure : ℕ → Type 0) (pack : Pack) (blocks : Blocks) (line u p : ℕ) (d : Deed) (s : Scene) → SceneOk u s → May u d s → IsPlain d
     → length s.held.blocks ≡ s.held.loan.count → SceneBears sure s.unit.drive.kind pack blocks s → SceneBears sure s.unit.drive.kind pack blocks (effect line u p d s)
 plain_bears sure pack blocks line u p deed.Arrive s ok may plain size b = attention_at sure s.unit.drive.kind s.unit.table pack blocks s.held s.unit.transfer s.unit.phase s.adapter.state _ b
-plain_bears sure pack blocks line u p (deed.Sector block tried) s ok may plain size b = absurd plain
 plain_bears sure pack blocks line u p (deed.Intr moved last) s ok may plain size b = intr_bears sure pack blocks u s ok b moved last may
 plain_bears sure pack blocks line u p (deed.Attn taken) s ok may plain size b = at_phase sure pack blocks u s ok b (Positioning taken) may.0
 plain_bears sure pack blocks line u p (deed.Search target sector) s ok may plain size b =
@@ -228,4 +220,4 @@ plain_bears sure pack blocks line u p (deed.Continue moved) s ok may plain size 
     let due = due_of u (deed.Continue moved) s may in continue_bears sure pack blocks u s ok b moved due.0
 plain_bears sure pack blocks line u p (deed.Try moved block number next) s ok may plain size b =
     let due = due_of u (deed.Try moved block number next) s may in try_bears sure pack blocks u s ok b moved block number next due
-plain_bears sure pack blocks line u p (deed.End answer) s ok may plain size b = absurd plain
+plain_bears sure pack blocks line u p other s ok may plain size b = absurd plain

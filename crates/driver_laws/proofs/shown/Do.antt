@@ -61,28 +61,20 @@ do_core h v a seen b Recalibrate taken is due = record {
   stage = rw (is.stage, due.phase, due.next, due.is, behind_more due.before (steps_of (transfer_of v)) Recalibrate due.left due.is) refl;
   progress = rw due.phase at is.progress;
 }
-do_core h v a seen b (Seek cylinder) taken is due = record {
+do_core h v a seen b other taken is due = record {
   drive = rw is.drive refl;
   table = is.table;
-  stage = rw (is.stage, due.phase, due.next, due.is, behind_more due.before (steps_of (transfer_of v)) (Seek cylinder) due.left due.is) refl;
-  progress = rw due.phase at is.progress;
-}
-do_core h v a seen b (Offset code) taken is due = record {
-  drive = rw is.drive refl;
-  table = is.table;
-  stage = rw (is.stage, due.phase, due.next, due.is, behind_more due.before (steps_of (transfer_of v)) (Offset code) due.left due.is) refl;
+  stage = rw (is.stage, due.phase, due.next, due.is, behind_more due.before (steps_of (transfer_of v)) other due.left due.is) refl;
   progress = rw due.phase at is.progress;
 }
 
 step_command : (step : RetryStep) → told.command_of (step_seen step) ≡ step_told step
 step_command Recalibrate = refl
-step_command (Seek cylinder) = refl
-step_command (Offset code) = refl
+step_command other = refl
 
 step_unlocked : (step : RetryStep) (locked : Bool) → told.needs_unlocked (step_told step) && locked ≡ false
 step_unlocked Recalibrate locked = refl
-step_unlocked (Seek cylinder) locked = refl
-step_unlocked (Offset code) locked = refl
+step_unlocked other locked = refl
 
 step_talk : (h : Held) (v : UnitView) (a : AdapterState) (seen : UnitSeen) (step : RetryStep) (taken : ℕ)
     → Core h v a seen → IsStep v step taken → MayGo false v.drive
@@ -122,10 +114,9 @@ seeks_seek true c steps all = all
 seeks_seek false c steps all = (refl, all)
 
 steps_seek : (c : ℕ) (st : Step) → AllSeekAt c (steps_for c st)
-steps_seek c retry.Again = tt
 steps_seek c (retry.Offset code) = (tt, tt)
 steps_seek c (retry.Recalibrate code) = (tt, seeks_seek (c == 0) c (offset_steps code) (offsets_seek c code))
-steps_seek c retry.GiveUp = tt
+steps_seek c other = tt
 
 behind_seek : (c n : ℕ) (steps : List RetryStep) → AllSeekAt c steps → AllSeekAt c (drop n steps)
 behind_seek c zero steps all = all
@@ -155,29 +146,24 @@ step_taken d target (Offset code) still online at c seeks inside =
 
 step_plain : (u : ℕ) (s : Replay) (step : RetryStep) → IsPlain u s (step_told step)
 step_plain u s Recalibrate = record { service = refl; adapter = refl; surface = refl; frames = refl; outstanding = refl; leaves = refl }
-step_plain u s (Seek cylinder) = record { service = refl; adapter = refl; surface = refl; frames = refl; outstanding = refl; leaves = refl }
-step_plain u s (Offset code) = record { service = refl; adapter = refl; surface = refl; frames = refl; outstanding = refl; leaves = refl }
+step_plain u s other = record { service = refl; adapter = refl; surface = refl; frames = refl; outstanding = refl; leaves = refl }
 
 step_talks : (u : ℕ) (s : Replay) (step : RetryStep) → told.due (s.units u).drive (hand_of (s.units u)) (s.units u).stage ≡ Some (step_told step)
     → told.TalkMay (s.units u).drive (hand_of (s.units u)) (s.units u).stage (step_told step)
 step_talks u s Recalibrate is = is
-step_talks u s (Seek cylinder) is = is
-step_talks u s (Offset code) is = is
+step_talks u s other is = is
 
 step_adapter : (u : ℕ) (s : Replay) (step : RetryStep) → rule.AdapterMay (at_unit s u).state u (step_told step)
 step_adapter u s Recalibrate = tt
-step_adapter u s (Seek cylinder) = tt
-step_adapter u s (Offset code) = tt
+step_adapter u s other = tt
 
 step_verdict : (u : ℕ) (s : Replay) (step : RetryStep) → VerdictMay s.surface u (s.units u).drive (step_told step)
 step_verdict u s Recalibrate = tt
-step_verdict u s (Seek cylinder) = tt
-step_verdict u s (Offset code) = tt
+step_verdict u s other = tt
 
 step_bytes : (u : ℕ) (s : Replay) (step : RetryStep) → unit_after s u (step_told step) ≡ seen_told (s.units u) (at_unit s u).state (step_told step) []
 step_bytes u s Recalibrate = refl
-step_bytes u s (Seek cylinder) = refl
-step_bytes u s (Offset code) = refl
+step_bytes u s other = refl
 
 pub do_line : (line u id : ℕ) (w : World) (s : Replay) (step : RetryStep) (taken : ℕ) → Sound w → Shows u w s → InHand w u id → At u id w s
     → IsStep (unit_at w u) step taken → MayGo false (unit_at w u).drive → IsSaid line u id w s (deed.Do step taken) (step_told step)

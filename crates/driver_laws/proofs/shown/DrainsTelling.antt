@@ -38,13 +38,7 @@ named_comes (script.MoveAt a) w s line drains can rests = refl
 named_comes (script.AttendTo a) w s line drains can rests =
     serving_comes s a ((s.adapters a).state.busy && (s.adapters a).state.completion) (told.attentive (s.adapters a).state)
     (can_attend_is w s a rests.sound rests.shows can.0 ∙ can.1)
-named_comes (script.Submit r) w s line drains can rests = absurd can
-named_comes script.Drain w s line drains can rests = absurd can
-named_comes (script.Turn u sector) w s line drains can rests = absurd can
-named_comes (script.Noise noise) w s line drains can rests = absurd can
-named_comes (script.Arm u kind times) w s line drains can rests = absurd can
-named_comes (script.SetOnline u on) w s line drains can rests = absurd can
-named_comes (script.SetLocked u on) w s line drains can rests = absurd can
+named_comes other w s line drains can rests = absurd can
 
 line_comes : (input : Input) (w : World) (s : Replay) (line : ℕ) (drains : Bool) → CanCome w input → Rests line drains (act_named s input) w s
     → is_no_line (next_wish s) ≡ false
@@ -118,13 +112,7 @@ unfolding is_nothing
 named_some (script.ArriveAt u) w s can = refl
 named_some (script.MoveAt a) w s can = refl
 named_some (script.AttendTo a) w s can = refl
-named_some (script.Submit r) w s can = absurd can
-named_some script.Drain w s can = absurd can
-named_some (script.Turn u sector) w s can = absurd can
-named_some (script.Noise noise) w s can = absurd can
-named_some (script.Arm u kind times) w s can = absurd can
-named_some (script.SetOnline u on) w s can = absurd can
-named_some (script.SetLocked u on) w s can = absurd can
+named_some other w s can = absurd can
 
 counted : (n : ℕ) (next named : Act) → (if n == 0 then NothingToDo else next) ≡ named → is_nothing named ≡ false → 1 ≤ n
 unfolding is_nothing

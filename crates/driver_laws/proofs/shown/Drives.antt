@@ -15,23 +15,19 @@ use Rattle.trace_replay.specs.Drives.{addressed}
 -- ADDRESSES
 pub place_inside : (kind : DriveKind) (block : ℕ) → block < block_count kind → IsInside kind (place_at kind block)
 place_inside Rp06 block lt = record { cylinder = omega (arith, lt); track = omega (arith, lt); sector = omega (arith, lt) }
-place_inside Rm03 block lt = record { cylinder = omega (arith, lt); track = omega (arith, lt); sector = omega (arith, lt) }
-place_inside Rm05 block lt = record { cylinder = omega (arith, lt); track = omega (arith, lt); sector = omega (arith, lt) }
+place_inside other block lt = record { cylinder = omega (arith, lt); track = omega (arith, lt); sector = omega (arith, lt) }
 
 pub below_limit : (kind : DriveKind) (block : ℕ) → block < limit_of kind → block < block_count kind
 below_limit Rp06 block lt = omega (arith, lt)
-below_limit Rm03 block lt = omega (arith, lt)
-below_limit Rm05 block lt = omega (arith, lt)
+below_limit other block lt = omega (arith, lt)
 
 replacement_below : (kind : DriveKind) (i : ℕ) → replacement_at kind i < block_count kind
 replacement_below Rp06 i = omega arith
-replacement_below Rm03 i = omega arith
-replacement_below Rm05 i = omega arith
+replacement_below other i = omega arith
 
 small_sector : (kind : DriveKind) (sector : ℕ) → sector < sectors_of kind → sector < 256
 small_sector Rp06 sector lt = omega (arith, lt)
-small_sector Rm03 sector lt = omega (arith, lt)
-small_sector Rm05 sector lt = omega (arith, lt)
+small_sector other sector lt = omega (arith, lt)
 
 tests_true : (x y z : Bool) → x ≡ true → y ≡ true → z ≡ true → (x && (y && z)) ≡ true
 tests_true x y z e f g = rw (e, f, g) refl

@@ -66,8 +66,7 @@ pub record IsOwnLine (unit : ℕ) (line : moment.Deed) : Type 0 where
 
 step_own : (unit : ℕ) (s : RetryStep) → IsOwnLine unit (step_told s)
 step_own unit step.Recalibrate = record { wish = refl; act = λ act. refl }
-step_own unit (step.Seek cylinder) = record { wish = refl; act = λ act. refl }
-step_own unit (step.Offset code) = record { wish = refl; act = λ act. refl }
+step_own unit other = record { wish = refl; act = λ act. refl }
 
 one_same : {x y : moment.Deed} → x ∷ [] ≡ y ∷ [] → x ≡ y
 one_same e = grind (arith, e)
@@ -103,9 +102,7 @@ saying_goes (line ∷ lines) next goes = refl
 
 retried_goes : (s : Step) (cylinder : ℕ) (segment : told.Segment) (done : ℕ) → goes_on (told.retried s cylinder segment done) ≡ true
 retried_goes retry.Again cylinder segment done = refl
-retried_goes (retry.Offset code) cylinder segment done = refl
-retried_goes (retry.Recalibrate offset) cylinder segment done = refl
-retried_goes retry.GiveUp cylinder segment done = refl
+retried_goes other cylinder segment done = refl
 
 forwarded_goes : (h : Hand) (entry : Option ℕ) → goes_on (told.forwarded h entry) ≡ true
 forwarded_goes h (Some i) = refl
@@ -123,12 +120,11 @@ continued_goes h = by_test (h.progress.done == h.request.count)
     by_test false = refl
 
 outcome_goes : (last : Moved) (h : Hand) (segment : told.Segment) → goes_on (outcome last h segment) ≡ true
-outcome_goes verdict.Clean h segment = continued_goes h
-outcome_goes (verdict.Burst at pattern) h segment = continued_goes h
 outcome_goes verdict.Hard h segment = retried_goes _ _ segment _
 outcome_goes (verdict.Faulted kind) h segment = retried_goes _ _ segment _
 outcome_goes verdict.Marked h segment = marked_goes h segment
 outcome_goes verdict.Offline h segment = refl
+outcome_goes other h segment = continued_goes h
 
 steps_go : (steps : List RetryStep) (segment : told.Segment) (taken : ℕ) (v : UnitView) (h : Held) (line : moment.Deed)
     → deed_told h (step_of steps taken v) ≡ line ∷ [] → goes_on (told.Steps (steps_seen steps) segment) ≡ true
@@ -137,11 +133,9 @@ steps_go (step ∷ left) segment taken v h line is = refl
 
 task_goes : (task : Task) (v : UnitView) (h : Held) (hand : Hand) (line : moment.Deed) → deed_told h (deed_for task v h) ≡ line ∷ []
     → goes_on (task_stage task v hand) ≡ true
-task_goes (Clear moved last) v h hand line is = refl
 task_goes (Judge moved last) v h hand line is = saying_goes (lines_left last v.drive hand (segment_seen (transfer_of v))) _ (outcome_goes last hand (segment_seen (transfer_of v)))
 task_goes (Steps taken) v h hand line is = steps_go (drop taken (steps_of (transfer_of v))) (segment_seen (transfer_of v)) taken v h line is
-task_goes Command v h hand line is = refl
-task_goes (GiveUp done) v h hand line is = refl
+task_goes other v h hand line is = refl
 
 search_at : (b : Bool) (c s cylinder sector : ℕ) → (if b then position.Ready else position.Search c s) ≡ position.Search cylinder sector → c ≡ cylinder
 search_at true c s cylinder sector e = absurd (grind (arith, e))
@@ -167,9 +161,7 @@ due_goes_by Waiting h v a seen d line at next is core head =
 due_goes_by (Due task) h v a seen d line at next is core head =
     ap goes_on (core.stage ∙ ap (λ (p : Phase). stage_by p v a (hand_of seen) (head_of seen.service)) at)
     ∙ task_goes task v h (hand_of seen) line (ap (deed_told h) (some_same next) ∙ is)
-due_goes_by (Positioning taken) h v a seen d line at next is core head = absurd (none_some next)
-due_goes_by Queued h v a seen d line at next is core head = absurd (none_some next)
-due_goes_by Transferring h v a seen d line at next is core head = absurd (none_some next)
+due_goes_by other h v a seen d line at next is core head = absurd (none_some next)
 
 pub due_goes : (held : ℕ → Held) (v : UnitView) (a : AdapterState) (seen : UnitSeen) (d : Deed) (line : moment.Deed)
     → IsUnitSeen held v a seen → 0 < length v.queue → next_of v (held (slot_in_hand v)) ≡ Some d

@@ -89,10 +89,6 @@ module _ (line u id : ℕ) (w : World) (s : Replay) (told : moment.Deed) (sound 
   said deed.Rtc may surface tells =
       let due : IsDue (unit_at w u) (held_in w (slot_in_hand (unit_at w u))) deed.Rtc = next_due u w deed.Rtc may in
       subst (IsSaid line u id w s deed.Rtc) (same_line tells) (centre_line line u id w s due.0 due.1 sound shows hand at due.2 due.3)
-  said (deed.Ready t) may surface tells = no_line tells
-  said (deed.Repair moved place pattern) may surface tells = no_line tells
-  said (deed.Forward moved index) may surface tells = no_line tells
-  said (deed.Continue moved) may surface tells = no_line tells
   said (deed.Try moved block number next) may surface tells =
       let due : IsDue (unit_at w u) (held_in w (slot_in_hand (unit_at w u))) (deed.Try moved block number next) =
       next_due u w (deed.Try moved block number next) may in
@@ -106,6 +102,7 @@ module _ (line u id : ℕ) (w : World) (s : Replay) (told : moment.Deed) (sound 
       (try_line line u id w s due.0 moved sound shows hand at due.1 due.2))))
   said (deed.End kind) may surface tells =
       subst (IsSaid line u id w s (deed.End kind)) (same_line tells) (end_line line u id w s kind sound shows hand at (next_due u w (deed.End kind) may))
+  said other may surface tells = no_line tells
 
 pub lines_are_said : LinesAreSaid
 lines_are_said line u id w s d told sound shows allowed surface tells = said line u id w s told sound shows allowed.0 d allowed.1 surface tells
@@ -122,15 +119,4 @@ silent_deeds_show line u id w s (deed.Forward moved index) sound shows allowed t
 silent_deeds_show line u id w s (deed.Continue moved) sound shows allowed tells =
     let due : IsDue (unit_at w u) (held_in w (slot_in_hand (unit_at w u))) (deed.Continue moved) = next_due u w (deed.Continue moved) allowed.1 in
     continue_shows line u id moved w s sound shows allowed.0 (at_facts u id w s sound shows allowed.0) due.0 due.1
-silent_deeds_show line u id w s deed.Arrive sound shows allowed tells = some_line tells
-silent_deeds_show line u id w s (deed.Sector block t) sound shows allowed tells = some_line tells
-silent_deeds_show line u id w s (deed.Intr moved last) sound shows allowed tells = some_line tells
-silent_deeds_show line u id w s (deed.Attn taken) sound shows allowed tells = some_line tells
-silent_deeds_show line u id w s (deed.Search target sector) sound shows allowed tells = some_line tells
-silent_deeds_show line u id w s (deed.Do step taken) sound shows allowed tells = some_line tells
-silent_deeds_show line u id w s (deed.Move write segment) sound shows allowed tells = some_line tells
-silent_deeds_show line u id w s deed.Pack sound shows allowed tells = some_line tells
-silent_deeds_show line u id w s (deed.Dclr moved last) sound shows allowed tells = some_line tells
-silent_deeds_show line u id w s deed.Rtc sound shows allowed tells = some_line tells
-silent_deeds_show line u id w s (deed.Try moved block number next) sound shows allowed tells = some_line tells
-silent_deeds_show line u id w s (deed.End kind) sound shows allowed tells = some_line tells
+silent_deeds_show line u id w s other sound shows allowed tells = some_line tells

@@ -89,15 +89,7 @@ fits w (script.MoveAt a) tried sound none may = λ can.
             (last_few w (slot_in_hand (unit_at w (unit_of w a))) sound));
       };
     }
-fits w (script.ArriveAt u) tried sound none may = tt
-fits w (script.AttendTo a) tried sound none may = tt
-fits w (script.Submit r) tried sound none may = tt
-fits w script.Drain tried sound none may = tt
-fits w (script.Turn u sector) tried sound none may = tt
-fits w (script.Noise noise) tried sound none may = tt
-fits w (script.Arm u kind times) tried sound none may = tt
-fits w (script.SetOnline u on) tried sound none may = tt
-fits w (script.SetLocked u on) tried sound none may = tt
+fits w other tried sound none may = tt
 
 -- THE SAME REPLAY OVER OTHER PACKS: nothing but a sector that is tried sees them.
 abbrev pub over : (ℕ → Pack) → Replay → Replay

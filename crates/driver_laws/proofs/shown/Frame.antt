@@ -44,24 +44,19 @@ same_transfer a = record { completion = refl; verdict = refl; count = refl; move
 
 stage_stays : (phase : Phase) (v : UnitView) (old new : AdapterState) (hand : told.Hand) (head : Option Request)
     → (phase ≡ phases.Transferring → IsSameTransfer old new) → stage_by phase v old hand head ≡ stage_by phase v new hand head
-stage_stays phases.Waiting v old new hand head same = refl
-stage_stays (phases.Positioning taken) v old new hand head same = refl
-stage_stays phases.Queued v old new hand head same = refl
-stage_stays (phases.Due task) v old new hand head same = refl
 stage_stays phases.Transferring v old new hand head same =
     let is : IsSameTransfer old new = same refl in
     rw (is.completion, is.verdict, is.count, is.moved) refl
+stage_stays other v old new hand head same = refl
 
 pub progress_stays : (phase : Phase) (v : UnitView) (old new : AdapterState) (g h : Held) (p : told.Progress)
     → (phase ≡ phases.Transferring → IsSameTransfer old new) → (is_waiting phase ≡ false → g ≡ h)
     → IsProgress phase v old g p → IsProgress phase v new h p
 progress_stays phases.Waiting v old new g h p same one is = is
-progress_stays (phases.Positioning taken) v old new g h p same one is = subst (λ x. IsProgress (phases.Positioning taken) v new x p) (one refl) is
-progress_stays phases.Queued v old new g h p same one is = subst (λ x. IsProgress phases.Queued v new x p) (one refl) is
-progress_stays (phases.Due task) v old new g h p same one is = subst (λ x. IsProgress (phases.Due task) v new x p) (one refl) is
 progress_stays phases.Transferring v old new g h p same one is =
     let at : IsSameTransfer old new = same refl in
     subst (λ x. IsProgress phases.Transferring v new x p) (one refl) (rw (at.completion, at.verdict, at.moved) is)
+progress_stays other v old new g h p same one is = subst (λ x. IsProgress other v new x p) (one refl) is
 
 -- another unit
 pub unit_stays : (held held' : ℕ → Held) (v : UnitView) (old new : AdapterState) (seen : UnitSeen)

@@ -189,11 +189,8 @@ module _ (sure : ℕ → Type 0) (kind : DriveKind) (table : Option Table) (pack
 stopped_less : (sure less : Type 0) (pack : Pack) (sector : ℕ) (h : Held) (k : ℕ) (block : Option (List ℕ)) (v : Moved) → (less → sure) → IsStopped sure pack sector h k block v
     → IsStopped less pack sector h k block v
 stopped_less sure less pack sector h k block (Burst at q) fewer is = (is.0, λ l. is.1 (fewer l))
-stopped_less sure less pack sector h k block Clean fewer is = tt
-stopped_less sure less pack sector h k block Hard fewer is = tt
 stopped_less sure less pack sector h k block Marked fewer is = is
-stopped_less sure less pack sector h k block (Faulted kind) fewer is = tt
-stopped_less sure less pack sector h k block Offline fewer is = tt
+stopped_less sure less pack sector h k block other fewer is = tt
 
 pub hand_less : (sure less : ℕ → Type 0) (kind : DriveKind) (table : Option Table) (pack : Pack) (blocks : Blocks) (h : Held) (t : TransferState) (done : ℕ) (last : Moved)
     → ((sector : ℕ) → less sector → sure sector) → HandBears sure kind table pack blocks h t done last → HandBears less kind table pack blocks h t done last

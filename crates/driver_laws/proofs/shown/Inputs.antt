@@ -44,18 +44,13 @@ still is moves = false_true (sym (ap is_positioning is) ∙ moves)
 
 task_still : (task : Task) (u : ℕ) (v : UnitView) (h : Held) → IsTask v h task → v.drive.work ≡ doing.Ready
 task_still (Clear moved last) u v h is = is.1.work
-task_still (Judge moved last) u v h is = is.1.work
-task_still (Steps taken) u v h is = is.1.work
-task_still Command u v h is = is.1.work
-task_still (GiveUp done) u v h is = is.1.work
+task_still other u v h is = is.1.work
 
 pub going_phase : (u : ℕ) (phase : Phase) (v : UnitView) (a : AdapterView) (h : Held) → IsPhase u v a h phase → is_positioning v.drive.work ≡ true
     → (is_waiting phase ≡ false) × (is_resting phase ≡ true)
 going_phase u Waiting v a h is moves = absurd (still is.0.work moves)
 going_phase u (Due task) v a h is moves = absurd (still (task_still task u v h is) moves)
-going_phase u (Positioning taken) v a h is moves = (refl, refl)
-going_phase u Queued v a h is moves = (refl, refl)
-going_phase u Transferring v a h is moves = (refl, refl)
+going_phase u other v a h is moves = (refl, refl)
 
 -- a deed behind which its unit rests and nothing is still to come
 pub rest_over : (line : ℕ) (drains : Bool) (others : ℕ → UnitView) (raised u : ℕ) {w : World} {s : Replay}

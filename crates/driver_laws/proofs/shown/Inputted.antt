@@ -19,12 +19,8 @@ lines_with_none line unit id [] ms = refl
 lines_with_none line unit id (told ∷ rest) ms = lines_with_none line unit id rest ms
 
 act_none : (w : World) (act : Act) (ms : List Moment) → played (lines_of w act ++ ms) ≡ played ms
-act_none w (Refuse line r kind) ms = refl
-act_none w (Submit line p h) ms = refl
 act_none w (Of line u id deed) ms = lines_with_none line u id (deed_told (held_in w (slot_in_hand (unit_at w u))) deed) ms
-act_none w (Change input) ms = refl
-act_none w (Nothing line) ms = refl
-act_none w Taken ms = refl
+act_none w other ms = refl
 
 lines_none : (w : World) (acts : List Act) → played (lines_of_all w acts) ≡ []
 lines_none w [] = refl

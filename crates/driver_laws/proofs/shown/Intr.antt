@@ -28,21 +28,13 @@ interrupted_stage : (last : Moved) (moved : ℕ) (v : UnitView) (c : AdapterStat
     → told.interrupted_by last v.drive hand (segment_seen (transfer_of v))
     ≡ stage_by (Due (interrupted moved last)) (in_phase (Due (interrupted moved last)) v) c hand head
 interrupted_stage Clean moved v c hand head = refl
-interrupted_stage (Burst at pattern) moved v c hand head = refl
-interrupted_stage Hard moved v c hand head = refl
-interrupted_stage Marked moved v c hand head = refl
-interrupted_stage (Faulted kind) moved v c hand head = refl
-interrupted_stage Offline moved v c hand head = refl
+interrupted_stage other moved v c hand head = refl
 
 interrupted_progress : (last : Moved) (moved : ℕ) (v : UnitView) (c : AdapterState) (h : Held) (p : told.Progress)
     → p ≡ progress_judged last moved (transfer_of v) h
     → IsProgress (Due (interrupted moved last)) (in_phase (Due (interrupted moved last)) v) c (record h { on_bus = false }) p
 interrupted_progress Clean moved v c h p is = is
-interrupted_progress (Burst at pattern) moved v c h p is = is
-interrupted_progress Hard moved v c h p is = is
-interrupted_progress Marked moved v c h p is = is
-interrupted_progress (Faulted kind) moved v c h p is = is
-interrupted_progress Offline moved v c h p is = is
+interrupted_progress other moved v c h p is = is
 
 intr_core : (h : Held) (v : UnitView) (a : AdapterState) (seen : UnitSeen) (b : AdapterState) (moved : ℕ) (last : Moved)
     → Core h v a seen → v.phase ≡ Transferring → a.completion ≡ true → moved ≡ a.moved → last ≡ a.verdict
@@ -74,11 +66,7 @@ none n = omega arith
 
 intr_may_by : (last : Moved) (left : ℕ) → (last ≡ Clean → left ≡ 0) → left == 0 || not (told.is_clean last) ≡ true
 intr_may_by Clean left over = rw (over refl) refl
-intr_may_by (Burst at pattern) left over = or_true (left == 0)
-intr_may_by Hard left over = or_true (left == 0)
-intr_may_by Marked left over = or_true (left == 0)
-intr_may_by (Faulted kind) left over = or_true (left == 0)
-intr_may_by Offline left over = or_true (left == 0)
+intr_may_by other left over = or_true (left == 0)
 
 intr_talk : (h : Held) (v : UnitView) (a : AdapterState) (seen : UnitSeen)
     → Core h v a seen → v.phase ≡ Transferring → (last_verdict a ≡ Clean → a.moved ≡ a.count) → told.intr_may seen.stage ≡ true

@@ -109,8 +109,7 @@ not_drained s some = by_drain s.event.drains
 drained_not : (m : Moment) (s : Replay) → LineFollows s m → drained s ≡ s
 drained_not (Told line unit id deed) s may =
     not_drained s (ap is_no_line may.wished ∙ some_line unit deed)
-drained_not (Played line input) s may = absurd may
-drained_not (Idle line) s may = absurd may
+drained_not other s may = absurd may
 
 -- THE LINES FOLLOW, and behind the last one a drain goes on.
 pub record Followed (s : Replay) (ms : List Moment) : Type 0 where
@@ -122,8 +121,7 @@ one_line (Told line unit id deed) s may = (
   subst (λ (wish : Wish). ToldMay wish s line unit id deed) (sym may.wished) (line_may s line unit id deed may),
   ap (λ (wish : Wish). told_after wish s unit deed) may.wished ∙ line_after s unit deed,
 )
-one_line (Played line input) s may = absurd may
-one_line (Idle line) s may = absurd may
+one_line other s may = absurd may
 
 pub lines_follow : (ms : List Moment) (s : Replay) → LinesFollow s ms → Followed s ms
 lines_follow [] s follow = record { follows = tt; after = refl }

@@ -48,9 +48,7 @@ continued_goes false answer = refl
 
 retried_goes : (st : Step) (cylinder done : ℕ) (segment : told.Segment) → told.is_waiting (told.retried st cylinder segment done) ≡ false
 retried_goes retry.Again cylinder done segment = refl
-retried_goes (retry.Offset code) cylinder done segment = refl
-retried_goes (retry.Recalibrate code) cylinder done segment = refl
-retried_goes retry.GiveUp cylinder done segment = refl
+retried_goes other cylinder done segment = refl
 
 forwarded_goes : (hand : told.Hand) (found : Option ℕ) → told.is_waiting (told.forwarded hand found) ≡ false
 forwarded_goes hand None = refl
@@ -66,12 +64,11 @@ failed_goes hand segment =
     hand.progress.done segment
 
 outcome_goes : (last : Moved) (hand : told.Hand) (segment : told.Segment) → told.is_waiting (told.outcome last hand segment) ≡ false
-outcome_goes verdict.Clean hand segment = continued_goes (hand.progress.done == hand.request.count) (told.ok_answer hand)
-outcome_goes (verdict.Burst at pattern) hand segment = continued_goes (hand.progress.done == hand.request.count) (told.ok_answer hand)
 outcome_goes verdict.Hard hand segment = failed_goes hand segment
 outcome_goes (verdict.Faulted kind) hand segment = failed_goes hand segment
 outcome_goes verdict.Marked hand segment = marked_goes hand segment
 outcome_goes verdict.Offline hand segment = refl
+outcome_goes other hand segment = continued_goes (hand.progress.done == hand.request.count) (told.ok_answer hand)
 
 saying_goes : (lines : List moment.Deed) (next : told.Stage) → told.is_waiting next ≡ false → told.is_waiting (told.saying lines next) ≡ false
 saying_goes [] next goes = goes
@@ -91,21 +88,11 @@ stage_goes (phases.Due (tasks.GiveUp done)) v a hand r = refl
 
 joined_same : (stage : told.Stage) (d : DriveState) (r : Request) → told.is_waiting stage ≡ false → stage_joined stage d r ≡ stage
 joined_same told.Waiting d r goes = absurd (grind (arith, goes))
-joined_same (told.Steps left segment) d r goes = refl
-joined_same (told.UnderWay left segment) d r goes = refl
-joined_same (told.AtOnce segment) d r goes = refl
-joined_same (told.Moving segment left last) d r goes = refl
-joined_same (told.Saying lines next) d r goes = refl
-joined_same (told.Ending answer) d r goes = refl
+joined_same other d r goes = refl
 
 joined_waits : (stage : told.Stage) (d : DriveState) (r : Request) → told.waits stage ≡ true → told.waits (stage_joined stage d r) ≡ true
 joined_waits told.Waiting d r waits = absurd (grind (arith, waits))
-joined_waits (told.Steps left segment) d r waits = waits
-joined_waits (told.UnderWay left segment) d r waits = waits
-joined_waits (told.AtOnce segment) d r waits = waits
-joined_waits (told.Moving segment left last) d r waits = waits
-joined_waits (told.Saying lines next) d r waits = waits
-joined_waits (told.Ending answer) d r waits = waits
+joined_waits other d r waits = waits
 
 -- THE UNIT, where none waited, and where one did
 nothing_waits : (held : ℕ → Held) (kind : DriveKind) (queue : List Waiter) (waiting : List (Waiting Request)) → queue ≡ [] → Match held kind queue waiting → waiting ≡ []
@@ -145,10 +132,7 @@ none_less e = absurd (omega (arith, e))
 
 waits_for : (phase : Phase) → (is_waiting phase ≡ false → 0 < 0) → phase ≡ phases.Waiting
 waits_for phases.Waiting goes = refl
-waits_for (phases.Positioning taken) goes = none_less (goes refl)
-waits_for phases.Queued goes = none_less (goes refl)
-waits_for phases.Transferring goes = none_less (goes refl)
-waits_for (phases.Due task) goes = none_less (goes refl)
+waits_for other goes = none_less (goes refl)
 
 joined_stage : (held : ℕ → Held) (v : UnitView) (a : AdapterState) (seen : UnitSeen) (r : Request) (queue : List Waiter) → IsUnitSeen held v a seen
     → IsService (cylinder_of seen.drive.kind) seen.service → v.queue ≡ queue → (is_waiting v.phase ≡ false → 0 < length v.queue)
@@ -184,10 +168,7 @@ queue_stage (phases.Due (tasks.GiveUp done)) v q a hand head = refl
 queue_progress : (phase : Phase) (v : UnitView) (q : List Waiter) (a : AdapterState) (h : Held) (n : told.Progress)
     → IsProgress phase v a h n → IsProgress phase (record v { queue = q }) a h n
 queue_progress phases.Waiting v q a h n is = is
-queue_progress (phases.Positioning taken) v q a h n is = is
-queue_progress phases.Queued v q a h n is = is
-queue_progress phases.Transferring v q a h n is = is
-queue_progress (phases.Due task) v q a h n is = is
+queue_progress other v q a h n is = is
 
 -- ONE MORE is outstanding.
 outstanding_more : (slots : List (Option Held)) (p : ℕ) (h : Held) → slice_index_or slots p None ≡ None → p < length slots → h.ended ≡ false
@@ -354,10 +335,7 @@ module _ (line p : ℕ) (h : Held) (r : Request) (w : World) (s : Replay) (sound
       let ready : (at_unit s h.unit).ready ≡ (adapter_at w (adapter_of h.unit)).queue = shows.own_ready ∙ rw phase refl in
       ap (rule.with_ready (told.waits (unit_joined (s.units h.unit) r).stage) h.unit) ready
       ∙ ready_stays (told.waits (unit_joined (s.units h.unit) r).stage) h.unit (adapter_at w (adapter_of h.unit)).queue queued.2
-  ready_by phases.Waiting phase = goes_on (λ e. grind (arith, phase, e))
-  ready_by (phases.Positioning taken) phase = goes_on (λ e. grind (arith, phase, e))
-  ready_by phases.Transferring phase = goes_on (λ e. grind (arith, phase, e))
-  ready_by (phases.Due task) phase = goes_on (λ e. grind (arith, phase, e))
+  ready_by other phase = goes_on (λ e. grind (arith, phase, e))
 
   joined_ready : ((joined_at s r h.unit).adapters (adapter_of h.unit)).ready
       ≡ with_coming (is_coming (unit_at (after w (Submit line p h)) h.unit).phase ((joined_at s r h.unit).units h.unit).stage) h.unit

@@ -75,19 +75,7 @@ long_append s (m ∷ ms) ns unit long = long_append (after_moment s m) ms ns uni
 -- without a sector
 quiet_line : (s : Replay) (line u id : ℕ) (d : Deed) (unit long : ℕ) → AreNoSectors (Told line u id d ∷ []) → length_told s (Told line u id d) unit long ≡ long
 quiet_line s line u id (Sector b v) unit long none = absurd none.0
-quiet_line s line u id (Search c y) unit long none = refl
-quiet_line s line u id (Seek c) unit long none = refl
-quiet_line s line u id Recal unit long none = refl
-quiet_line s line u id (Offset o) unit long none = refl
-quiet_line s line u id Centre unit long none = refl
-quiet_line s line u id Clear unit long none = refl
-quiet_line s line u id PackLine unit long none = refl
-quiet_line s line u id (Transfer w b k) unit long none = refl
-quiet_line s line u id Arrive unit long none = refl
-quiet_line s line u id Intr unit long none = refl
-quiet_line s line u id (Try b f) unit long none = refl
-quiet_line s line u id Attn unit long none = refl
-quiet_line s line u id (End a) unit long none = refl
+quiet_line s line u id other unit long none = refl
 
 pub quiet_long : (s : Replay) (ms : List Moment) (unit long : ℕ) → AreNoSectors ms → length_behind s ms unit long ≡ long
 quiet_long s [] unit long none = refl
@@ -180,15 +168,7 @@ still_acts s w held line input t unit is =
 event_long : (s : Replay) (w : World) (held : ℕ → Pack) (line : ℕ) (input : Input) (t : Tried) (unit : ℕ) → Sound w → ((a : ℕ) → input ≡ script.MoveAt a → ShowsAll w s)
     → Run w (event_acts line input t w) → ActsAreLong s w held (event_acts line input t w) unit
 event_long s w held line (script.MoveAt a) t unit sound shows run = move_long s w held line a t unit sound (shows a refl) run
-event_long s w held line (script.Submit r) t unit sound shows run = still_acts s w held line (script.Submit r) t unit tt
-event_long s w held line (script.ArriveAt u) t unit sound shows run = still_acts s w held line (script.ArriveAt u) t unit tt
-event_long s w held line (script.AttendTo a) t unit sound shows run = still_acts s w held line (script.AttendTo a) t unit tt
-event_long s w held line script.Drain t unit sound shows run = still_acts s w held line script.Drain t unit tt
-event_long s w held line (script.Turn u y) t unit sound shows run = still_acts s w held line (script.Turn u y) t unit tt
-event_long s w held line (script.Noise n) t unit sound shows run = still_acts s w held line (script.Noise n) t unit tt
-event_long s w held line (script.Arm u kind times) t unit sound shows run = still_acts s w held line (script.Arm u kind times) t unit tt
-event_long s w held line (script.SetOnline u on) t unit sound shows run = still_acts s w held line (script.SetOnline u on) t unit tt
-event_long s w held line (script.SetLocked u on) t unit sound shows run = still_acts s w held line (script.SetLocked u on) t unit tt
+event_long s w held line other t unit sound shows run = still_acts s w held line other t unit tt
 
 -- another event is seen over the same world
 pub same_shown : (w : World) (s : Replay) (e : Event) → ShowsAll w s → ShowsAll w (record s { event = e })

@@ -65,10 +65,7 @@ change_flips w other may all = all
 act_flips : (w : World) (act : Act) → Allowed w act → AllFlip w.book.live → AllFlip (after w act).book.live
 act_flips w (Of line u id d) allowed all = deed_flips line u (slot_in_hand (unit_at w u)) d (scene_of w u) all
 act_flips w (Change input) allowed all = change_flips w input allowed all
-act_flips w (Refuse line r kind) allowed all = all
-act_flips w (Submit line p h) allowed all = all
-act_flips w (Nothing line) allowed all = all
-act_flips w Taken allowed all = all
+act_flips w other allowed all = all
 
 pub acts_keep_noise : ActsKeepNoise
 acts_keep_noise w [] run all = all

@@ -25,11 +25,7 @@ deed_marks line u id other w held unit = refl
 
 act_marks : (act : Act) (w : World) (held : ℕ → Pack) (unit : ℕ) → (packs_after w held act unit).marks ≡ (held unit).marks
 act_marks (Of line u id d) w held unit = deed_marks line u id d w held unit
-act_marks (Refuse line r kind) w held unit = refl
-act_marks (Submit line p h) w held unit = refl
-act_marks (Change input) w held unit = refl
-act_marks (Nothing line) w held unit = refl
-act_marks Taken w held unit = refl
+act_marks other w held unit = refl
 
 pub marks_stay : MarksStay
 marks_stay w [] held unit = refl

@@ -34,10 +34,7 @@ same_move a = record { completion = refl; verdict = refl; moved = refl }
 
 waits_is : (phase : Phase) → is_waiting phase ≡ true → phase ≡ Waiting
 waits_is Waiting is = refl
-waits_is (Positioning taken) is = absurd (false≢true is)
-waits_is Queued is = absurd (false≢true is)
-waits_is Transferring is = absurd (false≢true is)
-waits_is (Due task) is = absurd (false≢true is)
+waits_is other is = absurd (false≢true is)
 
 module _ (sure : ℕ → Type 0) (pack : Pack) (blocks : Blocks) where
   at_adapter : (kind : DriveKind) (table : Option Table) (h : Held) (t : Option TransferState) (phase : Phase) (a c : AdapterState) → (phase ≡ Transferring → IsSameMove a c)

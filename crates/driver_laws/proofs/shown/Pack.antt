@@ -152,8 +152,7 @@ pack_due u w (inr chosen) =
 
 step_unlocked : (step : RetryStep) (locked : Bool) → told.needs_unlocked (told.command_of (step_seen step)) && locked ≡ false
 step_unlocked Recalibrate locked = refl
-step_unlocked (Seek cylinder) locked = refl
-step_unlocked (Offset code) locked = refl
+step_unlocked other locked = refl
 
 pack_talk : (h : Held) (v : UnitView) (a : AdapterState) (seen : UnitSeen) → Core h v a seen → IsHead h v.drive.kind seen
     → (IsAtCommand v.phase → IsBegun v h) → IsPackDue v h → IsPackAt v h → told.due seen.drive (hand_of seen) seen.stage ≡ Some moment.Pack
@@ -194,12 +193,10 @@ pack_ready u id w s shows at phases.Queued phase calls =
     let ready : (at_unit s u).ready ≡ (adapter_at w (adapter_of u)).queue = shows.own_ready ∙ rw phase refl in
     ap (rule.with_ready (told.waits (s.units u).stage) u) ready
     ∙ ready_stays (told.waits (s.units u).stage) u (adapter_at w (adapter_of u)).queue is.2
-pack_ready u id w s shows at phases.Waiting phase calls =
-    ready_plain u id w s (told.waits (s.units u).stage) shows at (λ e. grind (arith, phase, e)) (λ e. e)
-pack_ready u id w s shows at (Due task) phase calls =
-    ready_plain u id w s (told.waits (s.units u).stage) shows at (λ e. grind (arith, phase, e)) (λ e. e)
 pack_ready u id w s shows at (phases.Positioning taken) phase calls = elim calls [ ]
 pack_ready u id w s shows at phases.Transferring phase calls = elim calls [ ]
+pack_ready u id w s shows at other phase calls =
+    ready_plain u id w s (told.waits (s.units u).stage) shows at (λ e. grind (arith, phase, e)) (λ e. e)
 
 pub pack_line : (line u id : ℕ) (w : World) (s : Replay) → Sound w → Shows u w s → InHand w u id → At u id w s
     → IsNext u deed.Pack (scene_of w u) → IsSaid line u id w s deed.Pack moment.Pack

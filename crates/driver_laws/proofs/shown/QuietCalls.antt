@@ -28,11 +28,7 @@ true_false e = cc
 
 same_map : (w : World) (act : Act) (maps : ℕ → Blocks) → is_taking act ≡ false → maps_after w act maps ≡ maps
 same_map w Taken maps is = absurd (true_false is)
-same_map w (Refuse line r kind) maps is = refl
-same_map w (Submit line p h) maps is = refl
-same_map w (Of line u id d) maps is = refl
-same_map w (Change input) maps is = refl
-same_map w (Nothing line) maps is = refl
+same_map w other maps is = refl
 
 runs_bear : (armed : List LiveNoise) (w : World) (acts : List Act) (held : ℕ → Pack) (maps : ℕ → Blocks) → Sound w → AreAll IsPlain acts → Run w acts → ReadAll w held acts
     → Bears armed w held maps → Bears armed (after_all w acts) (packs_after_all w held acts) maps
@@ -82,24 +78,8 @@ noise_bears armed w noise (act ∷ other ∷ rest) left held maps s is run reads
 
 pub events_bear : EventsBear
 events_bear armed w line (script.Noise noise) tried done left held maps s is run reads b = noise_bears armed w noise done left held maps s is run reads b
-events_bear armed w line (script.ArriveAt u) tried done left held maps s is run reads b =
-    quiet_bears armed w line (script.ArriveAt u) tried done left held maps (record { arms = λ l. refl; takes = refl }) s is run reads b
-events_bear armed w line (script.MoveAt a) tried done left held maps s is run reads b =
-    quiet_bears armed w line (script.MoveAt a) tried done left held maps (record { arms = λ l. refl; takes = refl }) s is run reads b
-events_bear armed w line (script.AttendTo a) tried done left held maps s is run reads b =
-    quiet_bears armed w line (script.AttendTo a) tried done left held maps (record { arms = λ l. refl; takes = refl }) s is run reads b
-events_bear armed w line (script.Submit r) tried done left held maps s is run reads b =
-    quiet_bears armed w line (script.Submit r) tried done left held maps (record { arms = λ l. refl; takes = refl }) s is run reads b
-events_bear armed w line script.Drain tried done left held maps s is run reads b =
-    quiet_bears armed w line script.Drain tried done left held maps (record { arms = λ l. refl; takes = refl }) s is run reads b
-events_bear armed w line (script.Turn u sector) tried done left held maps s is run reads b =
-    quiet_bears armed w line (script.Turn u sector) tried done left held maps (record { arms = λ l. refl; takes = refl }) s is run reads b
-events_bear armed w line (script.Arm u kind times) tried done left held maps s is run reads b =
-    quiet_bears armed w line (script.Arm u kind times) tried done left held maps (record { arms = λ l. refl; takes = refl }) s is run reads b
-events_bear armed w line (script.SetOnline u on) tried done left held maps s is run reads b =
-    quiet_bears armed w line (script.SetOnline u on) tried done left held maps (record { arms = λ l. refl; takes = refl }) s is run reads b
-events_bear armed w line (script.SetLocked u on) tried done left held maps s is run reads b =
-    quiet_bears armed w line (script.SetLocked u on) tried done left held maps (record { arms = λ l. refl; takes = refl }) s is run reads b
+events_bear armed w line other tried done left held maps s is run reads b =
+    quiet_bears armed w line other tried done left held maps (record { arms = λ l. refl; takes = refl }) s is run reads b
 
 pub takings_bear : TakingsBear
 takings_bear armed w held maps s some b = acts_bear armed w Taken held maps s some tt b

@@ -235,9 +235,7 @@ ended_step sure blocks h (Error (cause.Fault tries) done) is = record { usable =
 
 ended_done : (kind : AnswerKind) (h : Held) → done_by kind (record h { ended = true }) ≡ done_by kind h
 ended_done (ReadOk count last) h = refl
-ended_done WriteOk h = refl
-ended_done Eof h = refl
-ended_done (Error why done) h = refl
+ended_done other h = refl
 
 with_here : (maps : ℕ → Blocks) (h : Held) (done u : ℕ) → h.unit ≡ u → maps_with maps h done u ≡ map_done (maps u) h done
 with_here maps h done u is = rw (eq-eqb u h.unit (sym is)) refl
@@ -297,17 +295,4 @@ pub deed_kept : (armed : List LiveNoise) (w : World) (line u id : ℕ) (d : Deed
     → Bears armed w held first → Bears armed (after w (Of line u id d)) (packs_after w held (Of line u id d)) first
 deed_kept armed w line u id (deed.Sector block t) held first s may reads b = sector_kept armed w line u id block t held first s may reads b
 deed_kept armed w line u id (deed.End kind) held first s may reads b = end_kept armed w line u id kind held first s may b
-deed_kept armed w line u id deed.Arrive held first s may reads b = plain_kept armed w line u id deed.Arrive held first s may tt (λ kind e. cc) b
-deed_kept armed w line u id (deed.Intr moved last) held first s may reads b = plain_kept armed w line u id (deed.Intr moved last) held first s may tt (λ kind e. cc) b
-deed_kept armed w line u id (deed.Attn taken) held first s may reads b = plain_kept armed w line u id (deed.Attn taken) held first s may tt (λ kind e. cc) b
-deed_kept armed w line u id (deed.Search target sector) held first s may reads b = plain_kept armed w line u id (deed.Search target sector) held first s may tt (λ kind e. cc) b
-deed_kept armed w line u id (deed.Do step taken) held first s may reads b = plain_kept armed w line u id (deed.Do step taken) held first s may tt (λ kind e. cc) b
-deed_kept armed w line u id (deed.Move write segment) held first s may reads b = plain_kept armed w line u id (deed.Move write segment) held first s may tt (λ kind e. cc) b
-deed_kept armed w line u id deed.Pack held first s may reads b = plain_kept armed w line u id deed.Pack held first s may tt (λ kind e. cc) b
-deed_kept armed w line u id (deed.Dclr moved last) held first s may reads b = plain_kept armed w line u id (deed.Dclr moved last) held first s may tt (λ kind e. cc) b
-deed_kept armed w line u id deed.Rtc held first s may reads b = plain_kept armed w line u id deed.Rtc held first s may tt (λ kind e. cc) b
-deed_kept armed w line u id (deed.Ready x) held first s may reads b = plain_kept armed w line u id (deed.Ready x) held first s may tt (λ kind e. cc) b
-deed_kept armed w line u id (deed.Repair moved at pattern) held first s may reads b = plain_kept armed w line u id (deed.Repair moved at pattern) held first s may tt (λ kind e. cc) b
-deed_kept armed w line u id (deed.Forward moved index) held first s may reads b = plain_kept armed w line u id (deed.Forward moved index) held first s may tt (λ kind e. cc) b
-deed_kept armed w line u id (deed.Continue moved) held first s may reads b = plain_kept armed w line u id (deed.Continue moved) held first s may tt (λ kind e. cc) b
-deed_kept armed w line u id (deed.Try moved block number next) held first s may reads b = plain_kept armed w line u id (deed.Try moved block number next) held first s may tt (λ kind e. cc) b
+deed_kept armed w line u id other held first s may reads b = plain_kept armed w line u id other held first s may tt (λ kind e. cc) b

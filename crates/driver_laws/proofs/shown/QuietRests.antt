@@ -41,10 +41,8 @@ none_first queue none some = absurd (never (length queue) (ap length none) some)
 
 waits_only : (p : Phase) (queue : List Waiter) → queue ≡ [] → WorkOf p queue → (is_waiting p ≡ false → 0 < length queue) → p ≡ Waiting
 waits_only Waiting queue none works head = refl
-waits_only (Positioning taken) queue none works head = none_first queue none (head refl)
-waits_only Queued queue none works head = none_first queue none (head refl)
-waits_only Transferring queue none works head = none_first queue none (head refl)
 waits_only (Due task) queue none works head = absurd works
+waits_only other queue none works head = none_first queue none (head refl)
 
 none_counted : (slots : List (Option Held)) → ((p : ℕ) (h : Held) → slice_index_or slots p None ≡ Some h → h.ended ≡ true) → outstanding_in slots ≡ 0
 none_counted [] ended = refl

@@ -190,8 +190,7 @@ module _ (sure : ℕ → Type 0) (kind : DriveKind) (table : Option Table) (pack
   tried_bears (verdict.Burst at q) try = by_burst at q (is_writing d.work) refl (moved_there (verdict.Burst at q) refl try).1 try
   tried_bears verdict.Hard try = by_hard (is_writing d.work) refl (moved_there verdict.Hard refl try).1 try
   tried_bears verdict.Marked try = marked_there try
-  tried_bears (verdict.Faulted fault) try = hand_stopped sure kind table pack blocks h t done verdict.Clean b (verdict.Faulted fault) tt
-  tried_bears verdict.Offline try = hand_stopped sure kind table pack blocks h t done verdict.Clean b verdict.Offline tt
+  tried_bears other try = hand_stopped sure kind table pack blocks h t done verdict.Clean b other tt
 
   -- and the table stays that of the pack.
   table_by : (w : Bool) → is_writing d.work ≡ w → Try verdict.Clean → IsTableOf kind pack table → IsTableOf kind (pack_tried w pack sector bytes) table
@@ -208,6 +207,4 @@ module _ (sure : ℕ → Type 0) (kind : DriveKind) (table : Option Table) (pack
   tried_table (verdict.Burst at q) try read =
       rw (not_written (is_writing d.work) places (verdict.Burst at q) refl (moved_there (verdict.Burst at q) refl try).1) read
   tried_table verdict.Hard try read = rw (not_written (is_writing d.work) places verdict.Hard refl (moved_there verdict.Hard refl try).1) read
-  tried_table verdict.Marked try read = read
-  tried_table (verdict.Faulted fault) try read = read
-  tried_table verdict.Offline try read = read
+  tried_table other try read = read

@@ -46,11 +46,7 @@ deed_stays ends line u id d w held unit sound allowed reaches = refl
 
 packs_stay : (ends : ℕ → ℕ) (w : World) (act : Act) (held : ℕ → Pack) → Sound w → Allowed w act → Reaches ends w → StayFrom ends held (packs_after w held act)
 packs_stay ends w (Of line u id d) held sound allowed reaches unit = deed_stays ends line u id d w held unit sound allowed reaches
-packs_stay ends w (Refuse line r kind) held sound allowed reaches unit = refl
-packs_stay ends w (Submit line p h) held sound allowed reaches unit = refl
-packs_stay ends w (Change input) held sound allowed reaches unit = refl
-packs_stay ends w (Nothing line) held sound allowed reaches unit = refl
-packs_stay ends w Taken held sound allowed reaches unit = refl
+packs_stay ends w other held sound allowed reaches unit = refl
 
 -- THE SLOTS
 abbrev Below : (ℕ → ℕ) → Held → Type 0
@@ -93,12 +89,11 @@ changed_below ends w (script.SetLocked u on) may are = are
 changed_below ends w input may are = absurd may
 
 act_below : (ends : ℕ → ℕ) (w : World) (act : Act) → Allowed w act → JoinsBelow ends act → AreBelow ends w.slots → AreBelow ends (after w act).slots
-act_below ends w (Refuse line r kind) allowed joins are = are
 act_below ends w (Submit line p h) allowed joins are = set_below ends w.slots p h allowed.free joins are
 act_below ends w (Of line u id d) allowed joins are = deed_below ends w line u id d allowed.0 are
 act_below ends w (Change input) allowed joins are = changed_below ends w input allowed are
-act_below ends w (Nothing line) allowed joins are = are
 act_below ends w Taken allowed joins are = λ p h e. are p h (freed_was w.answers w.slots p h e)
+act_below ends w other allowed joins are = are
 
 -- ONE ACT
 act_reaches : (ends : ℕ → ℕ) (w : World) (act : Act) → Allowed w act → JoinsBelow ends act → Reaches ends w → Reaches ends (after w act)

@@ -81,12 +81,4 @@ pub tried_on : (input : Input) (tried : Tried) (held : ℕ → Pack) (w : World)
     → IsTriedOn w s input tried
 tried_on (script.MoveAt a) tried held w s shows packs of_packs = λ can.
     reads_are_on_surface 0 (unit_of w a) 0 (next_block (adapter_at w a).state) tried held w s shows packs (of_packs can).flips (of_packs can).read
-tried_on (script.ArriveAt u) tried held w s shows packs of_packs = tt
-tried_on (script.AttendTo a) tried held w s shows packs of_packs = tt
-tried_on (script.Submit r) tried held w s shows packs of_packs = tt
-tried_on script.Drain tried held w s shows packs of_packs = tt
-tried_on (script.Turn u sector) tried held w s shows packs of_packs = tt
-tried_on (script.Noise noise) tried held w s shows packs of_packs = tt
-tried_on (script.Arm u kind times) tried held w s shows packs of_packs = tt
-tried_on (script.SetOnline u online) tried held w s shows packs of_packs = tt
-tried_on (script.SetLocked u locked) tried held w s shows packs of_packs = tt
+tried_on other tried held w s shows packs of_packs = tt

@@ -93,11 +93,7 @@ changes_show u (script.Noise noise) w s sound shows allowed work = noise_shows u
 changes_show u (script.Arm x kind times) w s sound shows allowed work = arm_shows u x kind times w s sound allowed.0 work shows
 changes_show u (script.SetOnline x on) w s sound shows allowed work = online_shows u x on w s sound allowed work shows
 changes_show u (script.SetLocked x on) w s sound shows allowed work = locked_shows u x on w s sound allowed work shows
-changes_show u (script.Submit r) w s sound shows allowed work = absurd allowed
-changes_show u (script.ArriveAt x) w s sound shows allowed work = absurd allowed
-changes_show u (script.MoveAt a) w s sound shows allowed work = absurd allowed
-changes_show u (script.AttendTo a) w s sound shows allowed work = absurd allowed
-changes_show u script.Drain w s sound shows allowed work = absurd allowed
+changes_show u other w s sound shows allowed work = absurd allowed
 
 -- AN ANSWER IS TAKEN: its slot is free, and all that is outstanding stays.
 record IsFreed (slots now : List (Option Held)) : Type 0 where
@@ -214,10 +210,7 @@ none_outstanding (suc n) = none_outstanding n
 
 waiting_calm : (phase : Phase) → is_coming phase told.Waiting ≡ false
 waiting_calm phases.Waiting = refl
-waiting_calm (phases.Positioning taken) = refl
-waiting_calm phases.Queued = refl
-waiting_calm phases.Transferring = refl
-waiting_calm (phases.Due task) = refl
+waiting_calm other = refl
 
 new_adapters : IsAdapterSeen new_adapter new_adapter
 new_adapters = record {

@@ -39,9 +39,7 @@ rest_by (Due task) w line u is sound lt none =
     let some : 0 < length (unit_at w u).queue = (sound.each_unit u lt).head (ap is_waiting is) in
     let empty : length (unit_at w u).queue ≡ 0 = ap (λ (l : List Waiter). length l) (none_due (unit_at w u).queue line u _ w none) in
     absurd (grind (arith, some, empty))
-rest_by (Positioning taken) w line u is sound lt none = inl refl
-rest_by Queued w line u is sound lt none = inl refl
-rest_by Transferring w line u is sound lt none = inl refl
+rest_by other w line u is sound lt none = inl refl
 
 pub at_rest : (w : World) (line u : ℕ) → Sound w → u < 32 → next_acts line u w ≡ [] → IsAtRest (unit_at w u).phase (unit_at w u).queue
 at_rest w line u sound lt none = rest_by (unit_at w u).phase w line u refl sound lt none

@@ -30,10 +30,8 @@ use Rattle.driver_laws.proofs.shown.Others.{waits_none}
 -- a unit without an outstanding request waits
 waits_only : (p : Phase) (queue : List Waiter) → WorkOf p queue → (is_waiting p ≡ false → ⊥) → p ≡ Waiting
 waits_only Waiting queue works never = refl
-waits_only (Positioning taken) queue works never = absurd (never refl)
-waits_only Queued queue works never = absurd (never refl)
-waits_only Transferring queue works never = absurd (never refl)
 waits_only (Due task) queue works never = absurd works
+waits_only other queue works never = absurd (never refl)
 
 unit_waits : (w : World) (held : ℕ → Pack) (u : ℕ) → Sound w → AtWork w → Rests w held → u < 32 → (unit_at w u).phase ≡ Waiting
 unit_waits w held u s work rests lt =

@@ -93,8 +93,7 @@ search_taken d place still online at = rw (still, online, addressed_is d place a
 
 sector_before_small : (kind : DriveKind) (sector : ℕ) → sector_before (sectors_of kind) 3 sector < sectors_of kind
 sector_before_small Rp06 sector = omega arith
-sector_before_small Rm03 sector = omega arith
-sector_before_small Rm05 sector = omega arith
+sector_before_small other sector = omega arith
 
 search_inside : (kind : DriveKind) (block sector : ℕ) → block < block_count kind → sector_before (sectors_of kind) 3 (place_at kind block).sector ≡ sector
     → IsInside kind (search_place (place_at kind block).cylinder sector (place_at kind block))

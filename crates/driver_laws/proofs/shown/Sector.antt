@@ -109,10 +109,6 @@ sector_adapter Clean a seen over is = record {
   attentions = is.attentions;
   counted = λ busy. less_by_one seen.byte_count seen.count seen.moved (is.counted busy);
 }
-sector_adapter (Burst at pattern) a seen over is = stopped_adapter (Burst at pattern) a seen is
-sector_adapter Hard a seen over is = stopped_adapter Hard a seen is
-sector_adapter Marked a seen over is = stopped_adapter Marked a seen is
-sector_adapter Offline a seen over is = stopped_adapter Offline a seen is
 sector_adapter (Faulted kind) a seen over is = record {
   busy = is.busy;
   completion = refl;
@@ -126,6 +122,7 @@ sector_adapter (Faulted kind) a seen over is = record {
   attentions = is.attentions;
   counted = is.counted;
 }
+sector_adapter other a seen over is = stopped_adapter other a seen is
 
 -- and so for the drive
 sector_drive : (v : Moved) (a seen : AdapterState) (d : DriveState) → IsAdapterSeen a seen → IsAdapterSeen (stepped v a) (stepped v seen)
@@ -142,19 +139,11 @@ clean_by false = refl
 -- THE STAGE
 stepped_verdict : (v : Moved) (a : AdapterState) → last_verdict (stepped v a) ≡ v
 stepped_verdict Clean a = clean_by (a.byte_count - step_bytes a == 0)
-stepped_verdict (Burst at pattern) a = refl
-stepped_verdict Hard a = refl
-stepped_verdict Marked a = refl
-stepped_verdict (Faulted kind) a = refl
-stepped_verdict Offline a = refl
+stepped_verdict other a = refl
 
 left_after : (v : Moved) (a : AdapterState) → a.count - a.moved - 1 ≡ left_by v ((stepped v a).count - (stepped v a).moved)
 left_after Clean a = one_less a.count a.moved
-left_after (Burst at pattern) a = refl
-left_after Hard a = refl
-left_after Marked a = refl
-left_after (Faulted kind) a = refl
-left_after Offline a = refl
+left_after other a = refl
 
 sector_stage : (h : Held) (v : UnitView) (a : AdapterState) (seen : UnitSeen) → Core h v a seen → v.phase ≡ Transferring → a.completion ≡ false
     → seen.stage ≡ told.Moving (segment_seen (transfer_of v)) (a.count - a.moved) Clean

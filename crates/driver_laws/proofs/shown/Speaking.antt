@@ -49,8 +49,7 @@ some_line e = grind (arith, e)
 
 step_keeps : (s : Replay) (u : ℕ) (step : RetryStep) → surface_after s u (step_told step) ≡ s.surface
 step_keeps s u step.Recalibrate = refl
-step_keeps s u (step.Seek cylinder) = refl
-step_keeps s u (step.Offset code) = refl
+step_keeps s u other = refl
 
 -- such a deed's line leaves the surface
 pub keeps_surface : (s : Replay) (u : ℕ) (h : Held) (d : Deed) (line : moment.Deed) → IsUntried d → deed_told h d ≡ line ∷ []

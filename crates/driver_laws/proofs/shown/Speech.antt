@@ -56,31 +56,14 @@ tells h (deed.Move write segment) = inr (moment.Transfer write segment.block seg
 tells h deed.Pack = inr (moment.Pack, refl)
 tells h (deed.Dclr moved last) = inr (moment.Clear, refl)
 tells h deed.Rtc = inr (moment.Centre, refl)
-tells h (deed.Ready t) = inl refl
-tells h (deed.Repair moved place pattern) = inl refl
-tells h (deed.Forward moved index) = inl refl
-tells h (deed.Continue moved) = inl refl
 tells h (deed.Try moved block number next) = inr (moment.Try block number, refl)
 tells h (deed.End kind) = inr (moment.End (answer_told kind h.blocks), refl)
+tells h other = inl refl
 
 -- WHAT IS DUE is none of the deeds that begin an event.
 due_surface : (s : Replay) (u : ℕ) (scene : Scene) (v : UnitView) (h : Held) (d : Deed) → IsDue v h d → IsOnSurface s u d scene
-due_surface s u scene v h deed.Arrive is = tt
 due_surface s u scene v h (deed.Sector block t) is = absurd is
-due_surface s u scene v h (deed.Intr moved last) is = tt
-due_surface s u scene v h (deed.Attn taken) is = tt
-due_surface s u scene v h (deed.Search target sector) is = tt
-due_surface s u scene v h (deed.Do step taken) is = tt
-due_surface s u scene v h (deed.Move write segment) is = tt
-due_surface s u scene v h deed.Pack is = tt
-due_surface s u scene v h (deed.Dclr moved last) is = tt
-due_surface s u scene v h deed.Rtc is = tt
-due_surface s u scene v h (deed.Ready t) is = tt
-due_surface s u scene v h (deed.Repair moved place pattern) is = tt
-due_surface s u scene v h (deed.Forward moved index) is = tt
-due_surface s u scene v h (deed.Continue moved) is = tt
-due_surface s u scene v h (deed.Try moved block number next) is = tt
-due_surface s u scene v h (deed.End kind) is = tt
+due_surface s u scene v h other is = tt
 
 -- it leaves of the event what is still to come, and its line is that of the unit by itself
 record IsOwnLine (u : ℕ) (told : moment.Deed) : Type 0 where
@@ -89,8 +72,7 @@ record IsOwnLine (u : ℕ) (told : moment.Deed) : Type 0 where
 
 own_step : (u : ℕ) (step : RetryStep) → IsOwnLine u (step_told step)
 own_step u Recalibrate = record { wish = refl; act = λ act. refl }
-own_step u (Seek cylinder) = record { wish = refl; act = λ act. refl }
-own_step u (Offset code) = record { wish = refl; act = λ act. refl }
+own_step u other = record { wish = refl; act = λ act. refl }
 
 same_told : {x y : moment.Deed} → x ∷ [] ≡ y ∷ [] → x ≡ y
 same_told e = grind (arith, e)
@@ -103,18 +85,12 @@ own_line u v h deed.Arrive told is tells = absurd is
 own_line u v h (deed.Sector block t) told is tells = absurd is
 own_line u v h (deed.Intr moved last) told is tells = absurd is
 own_line u v h (deed.Attn taken) told is tells = absurd is
-own_line u v h (deed.Search target sector) told is tells = subst (IsOwnLine u) (same_told tells) (record { wish = refl; act = λ act. refl })
 own_line u v h (deed.Do step taken) told is tells = subst (IsOwnLine u) (same_told tells) (own_step u step)
-own_line u v h (deed.Move write segment) told is tells = subst (IsOwnLine u) (same_told tells) (record { wish = refl; act = λ act. refl })
-own_line u v h deed.Pack told is tells = subst (IsOwnLine u) (same_told tells) (record { wish = refl; act = λ act. refl })
-own_line u v h (deed.Dclr moved last) told is tells = subst (IsOwnLine u) (same_told tells) (record { wish = refl; act = λ act. refl })
-own_line u v h deed.Rtc told is tells = subst (IsOwnLine u) (same_told tells) (record { wish = refl; act = λ act. refl })
 own_line u v h (deed.Ready t) told is tells = no_told tells
 own_line u v h (deed.Repair moved place pattern) told is tells = no_told tells
 own_line u v h (deed.Forward moved index) told is tells = no_told tells
 own_line u v h (deed.Continue moved) told is tells = no_told tells
-own_line u v h (deed.Try moved block number next) told is tells = subst (IsOwnLine u) (same_told tells) (record { wish = refl; act = λ act. refl })
-own_line u v h (deed.End kind) told is tells = subst (IsOwnLine u) (same_told tells) (record { wish = refl; act = λ act. refl })
+own_line u v h other told is tells = subst (IsOwnLine u) (same_told tells) (record { wish = refl; act = λ act. refl })
 
 not_ready : (h : Held) (d : Deed) (told : moment.Deed) → deed_told h d ≡ told ∷ [] → (t : TransferState) → d ≢ deed.Ready t
 not_ready h d told is t same = no_told (sym (ap (deed_told h) same) ∙ is)
@@ -126,18 +102,14 @@ still_free line u p deed.Arrive s is free has = absurd is
 still_free line u p (deed.Sector block t) s is free has = absurd is
 still_free line u p (deed.Intr moved last) s is free has = absurd is
 still_free line u p (deed.Attn taken) s is free has = absurd is
-still_free line u p (deed.Search target sector) s is free has = absurd (grind (arith, has))
-still_free line u p (deed.Do step taken) s is free has = absurd (grind (arith, has))
-still_free line u p (deed.Move write segment) s is free has = absurd (grind (arith, has))
 still_free line u p deed.Pack s is free has = free has
 still_free line u p (deed.Dclr moved last) s is free has = free (rw is refl)
 still_free line u p deed.Rtc s is free has = free has
-still_free line u p (deed.Ready t) s is free has = absurd (grind (arith, has))
 still_free line u p (deed.Repair moved place pattern) s is free has = free (rw is.phase refl)
 still_free line u p (deed.Forward moved index) s is free has = free (rw is.0.phase refl)
 still_free line u p (deed.Continue moved) s is free has = free (rw is.0.phase refl)
 still_free line u p (deed.Try moved block number next) s is free has = free (rw is.2.phase refl)
-still_free line u p (deed.End kind) s is free has = absurd (grind (arith, has))
+still_free line u p other s is free has = absurd (grind (arith, has))
 
 -- the guard of what is due
 free_command : (phase : Phase) (busy : Bool) → (has_adapter phase ≡ true → busy ≡ false) → phase ≡ Due tasks.Command → busy ≡ false

@@ -27,10 +27,7 @@ use Rattle.driver_laws.proofs.shown.TraceRuns.{filter_by}
 
 waiting_calm : (phase : Phase) → is_coming phase told.Waiting ≡ false
 waiting_calm Waiting = refl
-waiting_calm (Positioning taken) = refl
-waiting_calm Queued = refl
-waiting_calm Transferring = refl
-waiting_calm (Due task) = refl
+waiting_calm other = refl
 
 -- AT THE START, where the drives and tables are those of the units that are set up
 pub starts : (drives : ℕ → Option DriveKind) (tables : ℕ → Option Table) (held : ℕ → Pack) (setups : List Setup) (outstanding noises : ℕ)

@@ -84,9 +84,7 @@ is_told_plain line held w s acts packs tells =
 pub work_rest : (phase : Phase) (queue : List Waiter) → WorkOf phase queue → IsAtRest phase queue
 work_rest Waiting queue work = inr (refl, work)
 work_rest (Due task) queue work = absurd work
-work_rest (Positioning taken) queue work = inl refl
-work_rest Queued queue work = inl refl
-work_rest Transferring queue work = inl refl
+work_rest other queue work = inl refl
 
 pub calm : (w : World) (s : Replay) (x : ℕ) → AtWork w → IsSetUp w x
     → Rattle.driver_laws.specs.shown.Shows.IsUnitSeen (held_in w) (unit_at w x) (adapter_at w (adapter_of x)).state (s.units x)
@@ -172,11 +170,7 @@ change_played line (script.SetLocked u on) held w s stands may work =
 change_played line (script.Noise noise) held w s stands may work =
     changed_told line noise.unit (script.Noise noise) held w s may.0 (record { unit = may.0.unit; declared = may.0.declared }) stands may
     tt work refl refl (λ y. refl) (same_surface held s _ stands.packs refl refl) refl
-change_played line (script.Submit r) held w s stands may work = absurd may
-change_played line (script.ArriveAt u) held w s stands may work = absurd may
-change_played line (script.MoveAt a) held w s stands may work = absurd may
-change_played line (script.AttendTo a) held w s stands may work = absurd may
-change_played line script.Drain held w s stands may work = absurd may
+change_played line other held w s stands may work = absurd may
 
 -- A REQUEST IS REFUSED. The event that answers it
 abbrev refusing : ℕ → Request → Rejection → Event

@@ -57,22 +57,16 @@ change_declared w (script.SetOnline u on) x sound may =
 change_declared w (script.SetLocked u on) x sound may =
     set_declared w u (deed.with_drive (locked_set on) (unit_at w u)) x (within_units w u sound may.unit) refl
 change_declared w (script.Noise noise) x sound may = refl
-change_declared w (script.Submit r) x sound may = absurd may
-change_declared w (script.ArriveAt u) x sound may = absurd may
-change_declared w (script.MoveAt a) x sound may = absurd may
-change_declared w (script.AttendTo a) x sound may = absurd may
-change_declared w script.Drain x sound may = absurd may
+change_declared w other x sound may = absurd may
 
 act_declared : (w : World) (act : Act) (x : ℕ) → Sound w → Allowed w act → (unit_at (after w act) x).declared ≡ (unit_at w x).declared
-act_declared w (Refuse line r kind) x sound allowed = refl
 act_declared w (Submit line p h) x sound allowed =
     set_declared w h.unit (joined p h (unit_at w h.unit)) x (within_units w h.unit sound allowed.unit.unit) refl
 act_declared w (Of line u id d) x sound allowed =
     set_declared w u (effect line u (slot_in_hand (unit_at w u)) d (scene_of w u)).unit x (within_units w u sound allowed.0.unit)
     (effect_same line u (slot_in_hand (unit_at w u)) d (scene_of w u)).declared
 act_declared w (Change input) x sound allowed = change_declared w input x sound allowed
-act_declared w (Nothing line) x sound allowed = refl
-act_declared w Taken x sound allowed = refl
+act_declared w other x sound allowed = refl
 
 all_declared : (w : World) (acts : List Act) (x : ℕ) → Sound w → Run w acts → (unit_at (after_all w acts) x).declared ≡ (unit_at w x).declared
 all_declared w [] x sound run = refl
@@ -97,15 +91,7 @@ submit_there s r Joined = refl
 
 pub played_there : (s : Replay) (input : Input) → (replay_played s input).there ≡ s.there
 played_there s (script.Submit r) = submit_there s r (submission s r)
-played_there s (script.Turn u sector) = refl
-played_there s (script.Noise noise) = refl
-played_there s (script.Arm u kind times) = refl
-played_there s (script.SetOnline u on) = refl
-played_there s (script.SetLocked u on) = refl
-played_there s (script.ArriveAt u) = refl
-played_there s (script.MoveAt a) = refl
-played_there s (script.AttendTo a) = refl
-played_there s script.Drain = refl
+played_there s other = refl
 
 -- MOMENTS behind others
 pub moments_append : (s : Replay) (ms ns : List Moment) → after_moments s (ms ++ ns) ≡ after_moments (after_moments s ms) ns

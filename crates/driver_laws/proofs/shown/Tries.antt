@@ -44,11 +44,7 @@ more_done done moved = omega arith
 
 done_stepped : (v : Moved) (done : ℕ) (a : AdapterState) → done_tried v (done + a.moved) ≡ done + (stepped v a).moved
 done_stepped verdict.Clean done a = more_done done a.moved
-done_stepped (verdict.Burst at q) done a = refl
-done_stepped verdict.Hard done a = refl
-done_stepped verdict.Marked done a = refl
-done_stepped (verdict.Faulted kind) done a = refl
-done_stepped verdict.Offline done a = refl
+done_stepped other done a = refl
 
 clean_by : (b : Bool) → verdict.Clean ≡ (if b then verdict.Clean else verdict.Clean)
 clean_by true = refl
@@ -56,11 +52,7 @@ clean_by false = refl
 
 last_stepped : (v : Moved) (a : AdapterState) → v ≡ (if (stepped v a).completion then (stepped v a).verdict else verdict.Clean)
 last_stepped verdict.Clean a = clean_by (stepped verdict.Clean a).completion
-last_stepped (verdict.Burst at q) a = refl
-last_stepped verdict.Hard a = refl
-last_stepped verdict.Marked a = refl
-last_stepped (verdict.Faulted kind) a = refl
-last_stepped verdict.Offline a = refl
+last_stepped other a = refl
 
 below_limit : (first done count job limit : ℕ) → done < job → job ≡ count → first + count ≤ limit → first + done < limit
 below_limit first done count job limit less same inside = omega (arith, less, same, inside)

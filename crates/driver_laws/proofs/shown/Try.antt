@@ -47,14 +47,12 @@ one_failure true failures = refl
 one_failure false failures = refl
 
 failed_progress : (last : Moved) (moved : ℕ) (t : TransferState) (h : Held) → IsFailure last → progress_judged last moved t h ≡ progress_failed moved t h
-failed_progress Hard moved t h fails =
-    ap (λ n. record { done = t.done + moved; failures = n; bytes = front_of h (t.done + moved); struck = [] }) (one_failure (moved == 0) t.failures)
-failed_progress (Faulted kind) moved t h fails =
-    ap (λ n. record { done = t.done + moved; failures = n; bytes = front_of h (t.done + moved); struck = [] }) (one_failure (moved == 0) t.failures)
 failed_progress Clean moved t h fails = absurd fails
 failed_progress (Burst at pattern) moved t h fails = absurd fails
 failed_progress Marked moved t h fails = absurd fails
 failed_progress Offline moved t h fails = absurd fails
+failed_progress other moved t h fails =
+    ap (λ n. record { done = t.done + moved; failures = n; bytes = front_of h (t.done + moved); struck = [] }) (one_failure (moved == 0) t.failures)
 
 try_stage : (last : Moved) (h : Held) (v : UnitView) (a : AdapterState) (seen : UnitSeen) (moved : ℕ) → IsFailure last → Core h v a seen
     → IsJudged v moved last
@@ -62,10 +60,7 @@ try_stage : (last : Moved) (h : Held) (v : UnitView) (a : AdapterState) (seen : 
     (told.failed (hand_of seen) (segment_seen (transfer_of v)))
 try_stage Hard h v a seen moved fails is due = is.stage ∙ rw (due.phase, due.centred) refl
 try_stage (Faulted kind) h v a seen moved fails is due = is.stage ∙ rw (due.phase, due.centred) refl
-try_stage Clean h v a seen moved fails is due = absurd fails
-try_stage (Burst at pattern) h v a seen moved fails is due = absurd fails
-try_stage Marked h v a seen moved fails is due = absurd fails
-try_stage Offline h v a seen moved fails is due = absurd fails
+try_stage other h v a seen moved fails is due = absurd fails
 
 try_progress : (last : Moved) (h : Held) (v : UnitView) (a : AdapterState) (seen : UnitSeen) (moved : ℕ) → IsFailure last → Core h v a seen
     → IsJudged v moved last → seen.progress ≡ progress_failed moved (transfer_of v) h
@@ -98,12 +93,11 @@ retried_stage : (st : Step) (cylinder moved done : ℕ) (v : UnitView) (t : Tran
     → steps_of (engine.failed moved t) ≡ steps_for cylinder st
     → told.retried st cylinder (segment_seen t) done
     ≡ stage_by (Due (task_for st done)) (with_transfer (transfer_tried (task_for st done) moved t) (task_for st done) v) a hand head
-retried_stage retry.Again cylinder moved done v t a hand head is = refl
 retried_stage (retry.Offset code) cylinder moved done v t a hand head is = ap (λ steps. told.Steps (steps_seen steps) (segment_seen t)) (sym is)
 retried_stage (retry.Recalibrate code) cylinder moved done v t a hand head is =
     ap (λ steps. told.Steps (told.Recalibrate ∷ steps) (segment_seen t)) (sym (seeks_seen (cylinder == 0) cylinder code))
     ∙ ap (λ steps. told.Steps (steps_seen steps) (segment_seen t)) (sym is)
-retried_stage retry.GiveUp cylinder moved done v t a hand head is = refl
+retried_stage other cylinder moved done v t a hand head is = refl
 
 plus_none : (n : ℕ) → n ≡ n + 0
 plus_none n = omega arith
@@ -116,10 +110,8 @@ retried_progress : (st : Step) (moved : ℕ) (v : UnitView) (t : TransferState) 
     → p ≡ progress_failed moved t h
     → IsProgress (Due (task_for st (t.done + moved)))
     (with_transfer (transfer_tried (task_for st (t.done + moved)) moved t) (task_for st (t.done + moved)) v) a h p
-retried_progress retry.Again moved v t a h p is = is ∙ failed_same moved t h
-retried_progress (retry.Offset code) moved v t a h p is = is ∙ failed_same moved t h
-retried_progress (retry.Recalibrate code) moved v t a h p is = is ∙ failed_same moved t h
 retried_progress retry.GiveUp moved v t a h p is = ap (λ (q : told.Progress). q.done) is
+retried_progress other moved v t a h p is = is ∙ failed_same moved t h
 
 failed_block : (index : Option ℕ) (job : Job) (done moved : ℕ) → ((i : ℕ) → index ≡ Some i → moved ≡ 0)
     → (engine.segment_by index job (done + moved)).block ≡ (engine.segment_by index job done).block + moved
@@ -164,10 +156,7 @@ one_sector (Some j) job done moved less i is = omega (arith, less)
 fails_at : (last : Moved) (moved count : ℕ) → IsFailure last → IsEndedAt last moved count → moved < count
 fails_at verdict.Hard moved count fails is = is
 fails_at (verdict.Faulted kind) moved count fails is = is
-fails_at verdict.Clean moved count fails is = absurd fails
-fails_at (verdict.Burst at pattern) moved count fails is = absurd fails
-fails_at verdict.Marked moved count fails is = absurd fails
-fails_at verdict.Offline moved count fails is = absurd fails
+fails_at other moved count fails is = absurd fails
 
 pub try_line : (line u id : ℕ) (w : World) (s : Replay) (last : Moved) (moved : ℕ) → Sound w → Shows u w s → InHand w u id → At u id w s
     → IsFailure last → IsJudged (unit_at w u) moved last

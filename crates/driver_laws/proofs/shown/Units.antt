@@ -42,14 +42,9 @@ change_same w (script.SetOnline u on) x sound may =
 change_same w (script.SetLocked u on) x sound may =
     set_same w u (deed.with_drive (locked_set on) (unit_at w u)) x sound may.unit (record { declared = refl; kind = refl })
 change_same w (script.Noise noise) x sound may = same_unit (unit_at w x)
-change_same w (script.Submit r) x sound may = absurd may
-change_same w (script.ArriveAt u) x sound may = absurd may
-change_same w (script.MoveAt a) x sound may = absurd may
-change_same w (script.AttendTo a) x sound may = absurd may
-change_same w script.Drain x sound may = absurd may
+change_same w other x sound may = absurd may
 
 pub act_same : (w : World) (act : Act) (x : ℕ) → Sound w → Allowed w act → IsSameUnit (unit_at w x) (unit_at (after w act) x)
-act_same w (Refuse line r kind) x sound allowed = same_unit (unit_at w x)
 act_same w (Submit line p h) x sound allowed =
     set_same w h.unit (joined p h (unit_at w h.unit)) x sound allowed.unit.unit (record { declared = refl; kind = refl })
 act_same w (Of line u id d) x sound allowed =
@@ -58,5 +53,4 @@ act_same w (Of line u id d) x sound allowed =
       kind = (effect_same line u (slot_in_hand (unit_at w u)) d (scene_of w u)).kind;
     })
 act_same w (Change input) x sound allowed = change_same w input x sound allowed
-act_same w (Nothing line) x sound allowed = same_unit (unit_at w x)
-act_same w Taken x sound allowed = same_unit (unit_at w x)
+act_same w other x sound allowed = same_unit (unit_at w x)

@@ -41,9 +41,7 @@ continued_on false answer = refl
 
 retried_on : (st : Step) (cylinder done : ℕ) (segment : told.Segment) → told.goes_on (told.retried st cylinder segment done) ≡ true
 retried_on retry.Again cylinder done segment = refl
-retried_on (retry.Offset code) cylinder done segment = refl
-retried_on (retry.Recalibrate code) cylinder done segment = refl
-retried_on retry.GiveUp cylinder done segment = refl
+retried_on other cylinder done segment = refl
 
 forwarded_on : (hand : told.Hand) (found : Option ℕ) → told.goes_on (told.forwarded hand found) ≡ true
 forwarded_on hand None = refl
@@ -59,12 +57,11 @@ failed_on hand segment =
     hand.progress.done segment
 
 outcome_on : (last : Moved) (hand : told.Hand) (segment : told.Segment) → told.goes_on (told.outcome last hand segment) ≡ true
-outcome_on verdict.Clean hand segment = continued_on (hand.progress.done == hand.request.count) (told.ok_answer hand)
-outcome_on (verdict.Burst at pattern) hand segment = continued_on (hand.progress.done == hand.request.count) (told.ok_answer hand)
 outcome_on verdict.Hard hand segment = failed_on hand segment
 outcome_on (verdict.Faulted kind) hand segment = failed_on hand segment
 outcome_on verdict.Marked hand segment = marked_on hand segment
 outcome_on verdict.Offline hand segment = refl
+outcome_on other hand segment = continued_on (hand.progress.done == hand.request.count) (told.ok_answer hand)
 
 saying_on : (lines : List moment.Deed) (next : told.Stage) → told.goes_on next ≡ true → told.goes_on (told.saying lines next) ≡ true
 saying_on [] next on = on
@@ -123,10 +120,8 @@ pub rest_off : (phase : Phase) (held : ℕ → Held) (v : UnitView) (a : Adapter
 rest_off phases.Waiting held v a seen phase is none =
     let head : head_of seen.service ≡ None = empty_head held v.drive.kind v.queue seen.service.waiting none is.queue in
     rw (is.stage, phase, head) refl
-rest_off (phases.Positioning taken) held v a seen phase is none = rw (is.stage, phase) refl
-rest_off phases.Queued held v a seen phase is none = rw (is.stage, phase) refl
-rest_off phases.Transferring held v a seen phase is none = rw (is.stage, phase) refl
 rest_off (phases.Due task) held v a seen phase is none = absurd none
+rest_off other held v a seen phase is none = rw (is.stage, phase) refl
 
 pub event_is_wished : EventIsWished
 event_is_wished u w s sound shows set work speaker =

@@ -74,8 +74,7 @@ same_by false b n = refl
 
 moment_done : (id : ℕ) (k : Known) (m : Moment) (n : ℕ) → lives_after done_by id k m n ≡ cond (moves_for id m) (plus n 1) n
 moment_done id k (Told line u i d) n = same_by (i == id) (moves_block d) n
-moment_done id k (Played line play) n = refl
-moment_done id k (Idle line) n = refl
+moment_done id k other n = refl
 
 all_done : (id : ℕ) (k : Known) (n : ℕ) (ms : List Moment) → n ≤ 2 ^ 64 - 1 → lives_from done_by id k n ms ≡ min (n + fold (one_if (moves_for id)) 0 ms) (2 ^ 64 - 1)
 all_done id k n [] small = none_more n small

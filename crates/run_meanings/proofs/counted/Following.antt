@@ -173,18 +173,16 @@ told_total true d answered u t ms = deed_total d answered u t ms
 told_total false d answered u t ms = refl
 
 moment_total : (m : Moment) (k : Known) (u : ℕ) (t : Track) (ms : List Moment) → total u (follows_after tracked u k m t) ms ≡ total u t (m ∷ ms)
-moment_total (Played line p) k u t ms = refl
 moment_total (Told line v id d) k u t ms = told_total (v == u) d (answers line v id k) u t ms
-moment_total (Idle line) k u t ms = refl
+moment_total other k u t ms = refl
 
 deed_small : (same : Bool) (d : Deed) (answered : Bool) (t : Track) → t.travel ≤ 2 ^ 64 - 1 → (cond same (tracked d answered t) t).travel ≤ 2 ^ 64 - 1
 deed_small true d answered t small = moved_small (stop_by t.kind d t.aim) t.aim.at t.travel small
 deed_small false d answered t small = small
 
 moment_small : (m : Moment) (k : Known) (u : ℕ) (t : Track) → t.travel ≤ 2 ^ 64 - 1 → (follows_after tracked u k m t).travel ≤ 2 ^ 64 - 1
-moment_small (Played line p) k u t small = small
 moment_small (Told line v id d) k u t small = deed_small (v == u) d (answers line v id k) t small
-moment_small (Idle line) k u t small = small
+moment_small other k u t small = small
 
 all_total : (k : Known) (u : ℕ) (t : Track) (ms : List Moment) → t.travel ≤ 2 ^ 64 - 1 → (follows_from tracked u k t ms).travel ≡ total u t ms
 all_total k u t [] small = none_more t.travel small

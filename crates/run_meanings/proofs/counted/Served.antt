@@ -61,8 +61,7 @@ told_share id line u i d k s sole = same_if (i == id) s
 
 moment_share : (id : ℕ) (m : Moment) (k : Known) (s : Share) → IsNoEnd id m → lives_after share_by id k m s ≡ s
 moment_share id (Told line u i d) k s sole = told_share id line u i d k s sole
-moment_share id (Played line play) k s sole = refl
-moment_share id (Idle line) k s sole = refl
+moment_share id other k s sole = refl
 
 rest_share : (id : ℕ) (ms : List Moment) (k : Known) (s : Share) → AllByRecursion (IsNoEnd id) ms → lives_from share_by id k s ms ≡ s
 rest_share id [] k s sole = refl

@@ -181,9 +181,8 @@ well_of known verb (says.Unit unit kind) time is = record {
   undeclared = is.1.1;
   first = not_later (known.later) (is_full known verbs.Unit) (subst (λ v. too_late known v ≡ None) is.0 time);
 }
-well_of known verb (says.Read a) time is = is
-well_of known verb (says.Write a fill) time is = is
 well_of known verb says.Sync time is = tt
+well_of known verb other time is = is
 
 said_in : (known : Known) (verb : Verb) (fields : List (List ℕ)) (s : Statement) → said known verb fields ≡ Ok s → IsWell known s
 said_in known verb fields s e =

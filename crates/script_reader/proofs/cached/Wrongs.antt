@@ -100,9 +100,8 @@ unit_only : (known : Known) (text : List ℕ) → Only (unit_field known text)
 unit_only known text = then_only (number_field 0 31 text) (λ u. old (known.kinds u) u) (number_only 0 31 text) (λ u. old_only (known.kinds u) u)
 
 count_kind_only : (fault : NumberFault) → IsCachedKind (count_kind fault)
-count_kind_only Empty = number
-count_kind_only (Digit at) = number
 count_kind_only Large = count
+count_kind_only other = number
 
 counted_only : (r : Result ℕ NumberFault) → Only (counted r)
 counted_only (Ok n) = if_only (n == 0) (Err kinds.Count) (Ok n) count tt

@@ -9,8 +9,7 @@ use Rattle.sector_format.proofs.header_of.Goals as goal
 -- a cylinder fits in ten bits
 ten_bits : (kind : DriveKind) (place : Place) → IsInside kind place → place.cylinder < 2 ^ 10
 ten_bits Rp06 place is = omega (arith, is.cylinder)
-ten_bits Rm03 place is = omega (arith, is.cylinder)
-ten_bits Rm05 place is = omega (arith, is.cylinder)
+ten_bits other place is = omega (arith, is.cylinder)
 
 pub returns-clause-shown : goal.returns-clause-shown
 returns-clause-shown c =

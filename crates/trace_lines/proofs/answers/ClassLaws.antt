@@ -46,9 +46,8 @@ right_hides (Burst at pattern) r judges h u = u.no_burst (places_of 11 (at - 1) 
 right_hides Uncorrectable r judges h u = both_ways false refl h
 
 wrong_shows : (v : Verdict) (r : ℕ) → Judges v r → looks_right v ≡ false → IsUncorrectable r
-wrong_shows Clean r judges h = absurd (both_ways true h refl)
-wrong_shows (Burst at pattern) r judges h = absurd (both_ways true h refl)
 wrong_shows Uncorrectable r judges h = judges
+wrong_shows other r judges h = absurd (both_ways true h refl)
 
 -- THE CLASS that is computed is one that the places have.
 class_of-has : (places : List ℕ) → IsNoise places → Classes (class_of places) places

@@ -9,8 +9,7 @@ use Rattle.contract_rows.proofs.tables.places_law.Goals as goal
 
 off_by_one : ReplacementOffByOne
 off_by_one Rp06 i few is = omega (arith, few, is)
-off_by_one Rm03 i few is = omega (arith, few, is)
-off_by_one Rm05 i few is = omega (arith, few, is)
+off_by_one other i few is = omega (arith, few, is)
 
 at_end : (here inside : Bool) (first : ℕ) → here ≡ true → (if here then Eof else if inside then Inside first else Outside) ≡ Outside → ⊥
 at_end true inside first e is = cc is

@@ -12,9 +12,8 @@ later_try : LaterTryWaitsForTheSector
 later_try kind here look cylinder sector target is = no_search (here == target.cylinder) target.cylinder cylinder sector is
 
 sector_of : Position → ℕ
-sector_of Ready = 0
 sector_of (Search cylinder sector) = sector
-sector_of (Seek cylinder) = 0
+sector_of other = 0
 
 four_ahead : Search4Ahead
 unfolding sector_of

@@ -36,10 +36,9 @@ not_played (Err faults.Sink) fault is sinks playing = sinks (sym is)
 
 leaves_unplayed : (fault : PlayFault) (script : Script) (first left : ℕ → Pack) (out trace : Took) → (fault ≡ faults.Sink → ⊥) → left ≡ first
     → out.after ≡ out.before → trace.after ≡ trace.before → Leaves fault script first left out trace
-leaves_unplayed faults.Memory script first left out trace sinks same unsaid untold = tt
-leaves_unplayed (faults.TooLong u n) script first left out trace sinks same unsaid untold = tt
 leaves_unplayed faults.Store script first left out trace sinks same unsaid untold = inl (record { packs = same; unsaid = unsaid; untold = untold })
 leaves_unplayed faults.Sink script first left out trace sinks same unsaid untold = absurd (sinks refl)
+leaves_unplayed other script first left out trace sinks same unsaid untold = tt
 
 stays : (n : ℕ) → n ≤ n
 stays n = omega arith

@@ -17,15 +17,12 @@ last_step failures reads is = subst (λ n. step_after n reads ≡ retry.GiveUp) 
 
 -- behind any other the transfer is there
 still_there : (step : Step) (done moved : ℕ) (t : TransferState) → step ≢ retry.GiveUp → Some (failed moved t) ≡ transfer_tried (task_for step done) moved t
-still_there retry.Again done moved t other = refl
-still_there (retry.Offset code) done moved t other = refl
-still_there (retry.Recalibrate code) done moved t other = refl
 still_there retry.GiveUp done moved t other = absurd (other refl)
+still_there it done moved t other = refl
 
 state_in : (transfer : Transfer) (t : TransferState) → state_of (with_state transfer t) ≡ t
 state_in (Direct u) t = refl
-state_in (Forwarded u) t = refl
-state_in (Continued u) t = refl
+state_in other t = refl
 
 pub returns-in-Ok-clause-next : goal.returns-in-Ok-clause-next
 returns-in-Ok-clause-next c =

@@ -33,8 +33,7 @@ both a b one other = ap (λ (x : Bool). x && not b) one ∙ ap not other
 first_copy : (kind : DriveKind) → is_copy kind 5 (copy_at kind 0) ≡ true
 unfolding is_copy
 first_copy Rp06 = refl
-first_copy Rm03 = refl
-first_copy Rm05 = refl
+first_copy other = refl
 
 copy_left : CopyLeftOut
 copy_left unit kind bytes old new unmarked differs fills =
@@ -75,13 +74,8 @@ other_unit faults n m after few is (inr stopped) = not_next faults few stopped.0
 named : (why : FormatFault) (faults m : ℕ) (after : List ℕ) → 7 ≡ status_code (format_status why) → faults < 2 ^ 64 - 1 → after ≡ too_long_text 31 m
     → Told [] after (format_text 0 why) faults faults → ⊥
 unfolding format_text
-named (TooMany number) faults m after status few is told = omega (arith, status)
-named (Spare index) faults m after status few is told = omega (arith, status)
-named NoCopy faults m after status few is told = omega (arith, status)
-named (Differs block at wrote read) faults m after status few is told = omega (arith, status)
 named (TooLong size) faults m after status few is told = other_unit faults size m after few is told
-named Store faults m after status few is told = omega (arith, status)
-named Memory faults m after status few is told = omega (arith, status)
+named other faults m after status few is told = omega (arith, status)
 
 unit_named : AnotherUnitNamedTooLong
 unit_named kind serial faults old new after few is runs =
