@@ -9,3 +9,4 @@ mod Texts
 mod Raw
 mod Cache
 mod Cached
+mod Shown

@@ -12,3 +12,4 @@ pub mod Formats
 pub mod Raw
 pub mod Cache
 pub mod Cached
+pub mod Caller

@@ -3,6 +3,7 @@
 //! each stands for a law.
 #![tactic(auto)]
 
+pub mod caller;
 pub mod packs;
 pub mod transfers;
 
