@@ -12,7 +12,6 @@ pub mod Known
 pub mod KnownLines
 pub mod KnownScript
 pub mod Answered
-pub mod Going
 pub mod Totals
 pub mod Lives
 pub mod Failing
