@@ -9,7 +9,7 @@ use Rattle.trace_replay.specs.Script as script
 use Rattle.trace_replay.specs.Script.{Input}
 use Rattle.driver_machine.specs.declared.Made.{Made}
 use Rattle.driver_machine.specs.World.{World, Held, no_held, held_in, unit_at, slot_in_hand}
-use Rattle.driver_machine.specs.Acts.{Act, Refuse, Submit, Of, Change, Nothing, Taken, Deed, Scene, scene_of, effect, freed, after, after_all}
+use Rattle.driver_machine.specs.Acts.{Act, Submit, Of, Change, Taken, Deed, Scene, scene_of, effect, freed, after, after_all}
 use Rattle.driver_machine.specs.Events.{submit_acts, event_acts}
 use Rattle.driver_machine.specs.Guards.{InHand, Allowed, MayChange}
 use Rattle.driver_machine.proofs.Frame.{effect_same}

@@ -13,7 +13,7 @@ use Rattle.trace_replay.specs.Script as script
 use Rattle.trace_replay.specs.Script.{Input}
 use Rattle.trace_replay.specs.declared.requests.answers.AnswerKind.{AnswerKind}
 use Rattle.driver_machine.specs.declared.Phase.{Phase}
-use Rattle.driver_machine.specs.declared.Phase.TheVariants.{Waiting, Positioning, Queued, Transferring, Due}
+use Rattle.driver_machine.specs.declared.Phase.TheVariants.{Waiting, Positioning, Transferring, Due}
 use Rattle.driver_machine.specs.World.{World, UnitView, AdapterView, Held, adapter_of, drive_of, unit_at, adapter_at, held_in, slot_in_hand, unit_on, unit_of, no_unit, new_adapter_view}
 use Rattle.driver_machine.specs.Acts as deed
 use Rattle.driver_machine.specs.Acts.{Act, Refuse, Submit, Change, Nothing, Taken, Deed, Tried, Scene, scene_of, with_scene, with_drive, with_unit_drive, joined, after, after_all}

@@ -11,7 +11,7 @@ use Rattle.main_memory.specs.Blocks.{IsLoan}
 use Rattle.pack_geometry.specs.Geometry.{limit_of}
 use Rattle.transfer_engine.specs.State.{segment_of}
 use Rattle.driver_machine.specs.declared.Phase.{Phase}
-use Rattle.driver_machine.specs.declared.Phase.TheVariants.{Waiting, Positioning, Queued, Transferring, Due}
+use Rattle.driver_machine.specs.declared.Phase.TheVariants.{Waiting, Queued, Transferring}
 use Rattle.driver_machine.specs.World.{World, UnitView, AdapterView, Held, no_held, no_unit, new_adapter_view, adapter_of, drive_of, unit_on, unit_at, adapter_at, slot_at, held_in, slot_in_hand, transfer_of}
 use Rattle.driver_machine.specs.Acts.{Deed, Scene, effect, scene_of, with_scene}
 use Rattle.driver_machine.specs.Guards.{InHand, May}

@@ -4,7 +4,7 @@ use Rattle.std.specs.Prelude.{◌*◌, ◌-◌, if◌then◌else◌, ◌==◌, m
 use Rattle.std.proofs.lemmas.Bool.{false≢true, eqb-true, eqb-false}
 use Rattle.std.specs.Int.{bit_at}
 use Rattle.pack_geometry.specs.declared.DriveKind.{DriveKind}
-use Rattle.pack_geometry.specs.declared.DriveKind.TheVariants.{Rp06, Rm03, Rm05}
+use Rattle.pack_geometry.specs.declared.DriveKind.TheVariants.{Rp06}
 use Rattle.pack_geometry.specs.Geometry.{block_count}
 use Rattle.fire_code.specs.Burst.{IsBurst}
 use Rattle.fire_code.specs.Remainder.{remainder}

@@ -12,7 +12,7 @@ use Rattle.trace_replay.specs.Moments.{Deed, Search, Seek, Recal, Offset, Centre
 use Rattle.trace_replay.specs.Packs.{surface_of}
 use Rattle.trace_replay.specs.Service.{ServiceMay, head_of, in_hand, request_or_none, ids}
 use Rattle.trace_replay.specs.Conditions.{online_behind, locked_behind}
-use Rattle.trace_replay.specs.Events.{Wish, NoLine, DueLine, Arrival, SectorLine, Interrupt, Attention, Refusal, IdleLine}
+use Rattle.trace_replay.specs.Events.{Wish, Refusal}
 use Rattle.trace_replay.specs.History.{is_refusal, lines_of, AreFailures}
 use Rattle.trace_replay.specs.Causes.{AskSome, IsExplained, IsCutOff, WasTriedOffline, IsLockedOut, AreAllTries}
 use Rattle.trace_replay.specs.Replay.{Replay, after_moments, next_wish, Follows, MayCome, ToldMay}

@@ -6,9 +6,9 @@ use Rattle.pack_geometry.specs.declared.DriveKind.{DriveKind}
 use Rattle.pack_geometry.specs.PackTable.{AreTablesOf}
 use Rattle.fire_code.specs.Noise.{IsAlias}
 use Rattle.hardware_table.specs.Noise.{LiveNoise}
-use Rattle.trace_replay.specs.requests.Requests.{Request, first_block, Answer, ReadOk, WriteOk, Failed, OutsidePartition, EndOfPartition, NoFrames}
-use Rattle.trace_replay.specs.Script.{Input, Submit, ArriveAt, MoveAt, AttendTo, Drain, Turn, Noise, Arm, SetOnline, SetLocked, Numbered, AreApart}
-use Rattle.trace_replay.specs.Moments.{Deed, Search, Seek, Recal, Offset, Centre, Clear, Pack, Transfer, Arrive, Sector, Intr, Try, Attn, End, Moment, Played, Told, Idle, Answered, played, answers_in}
+use Rattle.trace_replay.specs.requests.Requests.{Request, first_block, Answer, ReadOk}
+use Rattle.trace_replay.specs.Script.{Input, Submit, Noise, Numbered, AreApart}
+use Rattle.trace_replay.specs.Moments.{Deed, Search, Moment, Played, Told, Idle, Answered, played, answers_in}
 use Rattle.trace_replay.specs.Replay.{Replay, next_wish, Follows, after_moment, after_moments, Submission, Refused, Joined}
 use Rattle.trace_replay.specs.Events.{NoLine}
 use Rattle.driver_laws.specs.rules.Machine.{Blocks, Machine, MayAnswer, Steps, kind_of, after_input, answers_of_input, meets}

@@ -7,12 +7,12 @@ use Rattle.hardware_table.specs.Events.{turned}
 use Rattle.hardware_table.specs.Moves.{stop_of, IsVerdictBy, was_read, was_written}
 use Rattle.hardware_table.specs.Noise.{LiveNoise, strikes, after_strike}
 use Rattle.trace_replay.specs.requests.Requests.{Request, Answer, Rejection, AtEnd, Beyond, FramesShort, rejection_answer}
-use Rattle.trace_replay.specs.Script.{Input, Submit, ArriveAt, MoveAt, AttendTo, Drain, Turn, Noise, Arm, SetOnline, SetLocked}
-use Rattle.trace_replay.specs.Moments.{Deed, Search, Seek, Recal, Offset, Centre, Clear, Pack, Transfer, Arrive, Sector, Intr, Try, Attn, End, Played, Told, Idle}
+use Rattle.trace_replay.specs.Script.{Input, Submit, Turn, Noise, Arm, SetOnline, SetLocked}
+use Rattle.trace_replay.specs.Moments.{Deed, Sector, End, Played, Told, Idle}
 use Rattle.trace_replay.specs.Packs.{Surface, VerdictMay, flips_at, surface_read, surface_written}
 use Rattle.trace_replay.specs.Service.{head_of, in_hand, target_of}
-use Rattle.trace_replay.specs.Conversation.{Stage, Waiting, Steps, UnderWay, AtOnce, Moving, Saying, Ending}
-use Rattle.trace_replay.specs.Events.{Event, Wish, NoLine, DueLine, Arrival, SectorLine, Interrupt, Attention, Refusal, IdleLine}
+use Rattle.trace_replay.specs.Conversation.{Stage, Waiting}
+use Rattle.trace_replay.specs.Events.{Event, Wish, Refusal}
 use Rattle.trace_replay.specs.Replay.{Replay, UnitSeen, with_state, at_unit, hand_of, next_wish, ToldMay, unit_after, surface_after, replay_told, after_moment, Submission, Refused, Joined, submission, submitted, stage_joined, unit_joined, replay_played}
 use Rattle.trace_replay.proofs.Unchanged.{told_keeps}
 use Rattle.driver_laws.specs.rules.Calm.{IsGood, is_calm_verdict, is_calm_stage, IsCalm, is_calm_input, is_calm_moment, are_calm, IsCalmEnd, is_refused_at_once, StaysCalm, RunsStayCalm, EndsAreCalm}

@@ -11,14 +11,14 @@ use Rattle.pack_geometry.specs.PackTable.{AreTablesOf}
 use Rattle.hardware_table.specs.declared.Moved.{Moved}
 use Rattle.hardware_table.specs.declared.Moved.TheVariants as verdict
 use Rattle.hardware_table.specs.Drive.{DriveState, is_writing}
-use Rattle.trace_replay.specs.requests.Requests.{Request, first_block, Rejection, AtEnd, Beyond, FramesShort, rejection_answer, Answer, ReadOk, WriteOk, OutsidePartition, EndOfPartition, NoFrames, Failed}
+use Rattle.trace_replay.specs.requests.Requests.{Request, first_block, Rejection, AtEnd, rejection_answer, Answer, OutsidePartition, EndOfPartition, NoFrames}
 use Rattle.trace_replay.specs.Script.{Submit, Drain}
-use Rattle.trace_replay.specs.Moments.{Deed, Search, Seek, Recal, Offset, Centre, Clear, Pack, Transfer, Arrive, Sector, Intr, Try, Attn, End, Moment, Played, Told, Idle, Answered, played, answers_in}
+use Rattle.trace_replay.specs.Moments.{Deed, Sector, Intr, End, Moment, Played, Told, Idle, Answered, played, answers_in}
 use Rattle.trace_replay.specs.Packs.{VerdictMay, flips_at, bytes_read}
 use Rattle.hardware_table.specs.Moves.{stop_of, IsVerdictBy, has_bytes, was_read}
 use Rattle.hardware_table.specs.Noise.{LiveNoise, strikes}
 use Rattle.trace_replay.specs.Service.{in_hand, target_of}
-use Rattle.trace_replay.specs.Conversation.{Stage, Waiting, Steps as StepsLeft, UnderWay, AtOnce, Moving, Saying, Ending, Progress, not_begun, last_of, progress_tried, progress_interrupted}
+use Rattle.trace_replay.specs.Conversation.{Stage, Moving, Progress, not_begun, last_of, progress_tried, progress_interrupted}
 use Rattle.trace_replay.specs.Events.{Wish, NoLine, DueLine, Arrival, SectorLine, Interrupt, Attention, Refusal, IdleLine}
 use Rattle.trace_replay.specs.Replay.{Replay, UnitSeen, next_wish, hand_of, at_unit, LineMay, ToldMay, Follows, after_moment, after_moments, unit_after, Submission, Refused, Joined, submission, submitted, unit_joined}
 use Rattle.trace_replay.proofs.Kept.{after_kind}

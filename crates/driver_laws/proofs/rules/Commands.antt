@@ -5,8 +5,8 @@ use Rattle.trace_replay.specs.requests.ServiceOrder.{Waiting as Waiter}
 use Rattle.trace_replay.specs.requests.Requests.{Request, Answer, NoFrames}
 use Rattle.trace_replay.specs.Moments.{Deed, End, Told}
 use Rattle.trace_replay.specs.Service.{ServiceMay, first_waiting, head_of, in_hand, request_or_none, ids}
-use Rattle.trace_replay.specs.Conversation.{Hand, Stage, Waiting, Steps, UnderWay, AtOnce, Moving, Saying, Ending, is_waiting}
-use Rattle.trace_replay.specs.Events.{Wish, NoLine, DueLine, Arrival, SectorLine, Interrupt, Attention, Refusal, IdleLine}
+use Rattle.trace_replay.specs.Conversation.{Hand, Stage, Waiting, is_waiting}
+use Rattle.trace_replay.specs.Events.{Wish, Refusal}
 use Rattle.trace_replay.specs.Replay.{Replay, UnitSeen, new_replay, next_wish, hand_of, ToldMay, Follows, after_moments}
 use Rattle.trace_replay.specs.History.{is_refusal, lines_behind}
 use Rattle.trace_replay.proofs.Histories.{Fits}

@@ -8,13 +8,13 @@ use Rattle.hardware_table.specs.Drive.{DriveState, is_positioning, is_transferri
 use Rattle.hardware_table.specs.Adapter.{AdapterState, attention_lowered}
 use Rattle.trace_replay.specs.requests.ServiceOrder.{Waiting as Waiter, is_before, put, Service, sweep_for, service_order}
 use Rattle.trace_replay.specs.requests.Requests.{Request}
-use Rattle.trace_replay.specs.Script.{Input, Submit, ArriveAt, MoveAt, AttendTo, Drain, Turn, Noise, Arm, SetOnline, SetLocked}
+use Rattle.trace_replay.specs.Script.{Input, Submit, ArriveAt, MoveAt, AttendTo, Drain}
 use Rattle.trace_replay.specs.Drives.{drive_played}
 use Rattle.trace_replay.specs.Service.{first_waiting, head_of, cylinder_of, service_joined}
-use Rattle.trace_replay.specs.Moments.{Deed, Search, Seek, Recal, Offset, Centre, Clear, Pack, Transfer, Arrive, Sector, Intr, Try, Attn, End, Moment, Played, Told, Idle}
+use Rattle.trace_replay.specs.Moments.{Deed, Transfer, Arrive, Sector, Intr, Try, Attn, Moment, Played, Told, Idle}
 use Rattle.trace_replay.specs.Adapters.{AdapterSeen, adapter_of, drive_of, with_ready, can_move}
-use Rattle.trace_replay.specs.Conversation.{Stage, Waiting, Steps, UnderWay, AtOnce, Moving, Saying, Ending, waits, goes_on, is_under_way, is_waiting}
-use Rattle.trace_replay.specs.Events.{Act, Done, Refusing, Arriving, Trying, Serving, NothingToDo, Wish, NoLine, DueLine, Arrival, SectorLine, Interrupt, Attention, Refusal, IdleLine, wish_of, act_after, is_no_line, wish_in}
+use Rattle.trace_replay.specs.Conversation.{Stage, Waiting, waits, goes_on, is_under_way, is_waiting}
+use Rattle.trace_replay.specs.Events.{Act, Done, Refusing, Arriving, Trying, Serving, NothingToDo, Wish, Attention, Refusal, IdleLine, wish_of, act_after, is_no_line, wish_in}
 use Rattle.trace_replay.specs.Replay.{Replay, UnitSeen, at_unit, with_state, next_wish, LineMay, ToldMay, bytes_of, unit_after, adapter_told, replay_told, drained, act_drained, told_after, act_done, are_at_work, WorkMay, after_moment, after_moments, Follows, new_replay, unit_joined, stage_joined, adapter_joined, joined_by, Submission, Refused, Joined, submission, submitted, conditions_after, act_of, act_submitted}
 use Rattle.driver_laws.specs.rules.Consistent.{is_moving, may_have_errors, is_well_said, Agrees, IsInOrder, serves, IsAct, IsUnderControl, IsConsistent, StaysConsistent, StartsConsistent, IsAlwaysConsistent, Counts, CanServe, IsDue, has_interrupt}
 use Rattle.driver_laws.proofs.rules.Stages.{no, nor, under_way}

@@ -10,7 +10,7 @@ use Rattle.hardware_table.specs.declared.Work.TheVariants as work
 use Rattle.hardware_table.specs.Drive.{DriveState, is_ready, is_positioning, is_transferring, has_error}
 use Rattle.hardware_table.specs.Functions.{performed, refusals, effect, refused, needs_online}
 use Rattle.pack_geometry.specs.declared.DriveKind.{DriveKind}
-use Rattle.pack_geometry.specs.declared.DriveKind.TheVariants.{Rp06, Rm03, Rm05}
+use Rattle.pack_geometry.specs.declared.DriveKind.TheVariants.{Rp06}
 use Rattle.hardware_table.specs.declared.FaultKind.{FaultKind}
 use Rattle.hardware_table.specs.declared.FaultKind.TheVariants as fault
 use Rattle.hardware_table.specs.declared.Moved.{Moved}
@@ -18,7 +18,7 @@ use Rattle.hardware_table.specs.declared.Moved.TheVariants as verdict
 use Rattle.hardware_table.specs.Adapter.{AdapterState, drive_stepped, stepped, next_block}
 use Rattle.hardware_table.specs.Events.{arrived_from, transfer_ended, turned, fault_armed, online_set, locked_set}
 use Rattle.hardware_table.specs.Moves.{after_move, with_fault_bits, fault_used, with_mark_bits}
-use Rattle.trace_replay.specs.Script.{Input, Submit, ArriveAt, MoveAt, AttendTo, Drain, Turn, Noise, Arm, SetOnline, SetLocked}
+use Rattle.trace_replay.specs.Script.{Input, Turn, Arm, SetOnline, SetLocked}
 use Rattle.trace_replay.specs.Conversation.{is_clean}
 use Rattle.trace_replay.specs.Drives.{takes, transfer_function, drive_played}
 use Rattle.driver_laws.proofs.rules.Stages.{no, second_of}

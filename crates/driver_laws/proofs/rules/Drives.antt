@@ -18,7 +18,7 @@ use Rattle.hardware_table.specs.Adapter.{AdapterState, drive_stepped, stepped, n
 use Rattle.hardware_table.specs.Events.{arrived_from, transfer_ended}
 use Rattle.hardware_table.specs.Functions.{performed, refusals, effect, refused}
 use Rattle.hardware_table.specs.Moves.{after_move}
-use Rattle.trace_replay.specs.Moments.{Deed, Search, Seek, Recal, Offset, Centre, Clear, Pack, Transfer, Arrive, Sector, Intr, Try, Attn, End}
+use Rattle.trace_replay.specs.Moments.{Deed, Search, Seek, Recal, Offset, Centre, Clear, Pack, Transfer, Arrive, Sector}
 use Rattle.trace_replay.specs.Drives.{drive_after, addressed, search_place, offset_written}
 use Rattle.driver_laws.specs.rules.Calm.{IsGood, is_calm_verdict}
 

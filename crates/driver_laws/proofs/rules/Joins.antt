@@ -14,11 +14,11 @@ use Rattle.hardware_table.specs.Drive.{DriveState}
 use Rattle.hardware_table.specs.Events.{turned, fault_armed, online_set, locked_set}
 use Rattle.trace_replay.proofs.requests.ServiceOrderRuns.{after_join-waiting}
 use Rattle.trace_replay.specs.requests.Requests.{Request, first_block}
-use Rattle.trace_replay.specs.Script.{Input, Submit, ArriveAt, MoveAt, AttendTo, Drain, Turn, Noise, Arm, SetOnline, SetLocked, IsThere}
+use Rattle.trace_replay.specs.Script.{Input, Turn, Arm, SetOnline, SetLocked, IsThere}
 use Rattle.trace_replay.specs.Moments.{Deed}
 use Rattle.trace_replay.specs.Drives.{drive_played}
 use Rattle.trace_replay.specs.Service.{first_waiting, request_or_none, in_hand, cylinder_of, service_joined}
-use Rattle.trace_replay.specs.Conversation.{Stage, Waiting, Steps, UnderWay, AtOnce, Moving, Saying, Ending, Progress, not_begun, is_waiting}
+use Rattle.trace_replay.specs.Conversation.{Stage, Moving, Saying, Ending, Progress, not_begun, is_waiting}
 use Rattle.trace_replay.specs.Replay.{UnitSeen, Submission, Refused, Joined, submission_by, stage_joined, unit_joined}
 use Rattle.trace_replay.proofs.Kept.{UnitFits, head_stays}
 use Rattle.driver_laws.specs.rules.Machine.{Blocks, blocks_done}

@@ -8,14 +8,14 @@ use Rattle.drive_registers.specs.declared.Function.TheVariants as function
 use Rattle.hardware_table.specs.Drive.{is_positioning, new_drive}
 use Rattle.hardware_table.specs.Functions.{performed}
 use Rattle.trace_replay.specs.requests.Requests.{Request, IsRequest}
-use Rattle.trace_replay.specs.Script.{Input, Submit, ArriveAt, MoveAt, AttendTo, Drain, Turn, Noise, Arm, SetOnline, SetLocked, IsThere, IsInput}
+use Rattle.trace_replay.specs.Script.{Input, Submit, ArriveAt, MoveAt, AttendTo, Drain, IsThere, IsInput}
 use Rattle.trace_replay.specs.Moments.{Deed, Moment, Played, Told, Idle}
 use Rattle.trace_replay.specs.Adapters.{AdapterSeen, can_move}
 use Rattle.trace_replay.specs.Drives.{attached}
 use Rattle.trace_replay.specs.Packs.{surface_of}
 use Rattle.trace_replay.specs.Service.{in_hand, target_of}
 use Rattle.trace_replay.specs.Conversation.{goes_on}
-use Rattle.trace_replay.specs.Events.{Arriving, Trying, NothingToDo, Event, Wish, NoLine, DueLine, Arrival, SectorLine, Interrupt, Attention, Refusal, IdleLine, wanted, can_attend, serving}
+use Rattle.trace_replay.specs.Events.{Arriving, Trying, NothingToDo, Event, Wish, NoLine, DueLine, Refusal, wanted, can_attend, serving}
 use Rattle.trace_replay.specs.Replay.{Replay, UnitSeen, next_wish, at_unit, ToldMay, InputMay, MayCome, after_moment, unit_after, replay_told, told_after, act_drained, Submission, Refused, Joined, submission, submitted, unit_joined, replay_played, event_of, act_submitted}
 use Rattle.trace_replay.specs.History.{lines_after}
 use Rattle.trace_replay.specs.Causes.{AsksSome}

@@ -13,7 +13,7 @@ use Rattle.fire_code.specs.Burst.{IsUncorrectable}
 use Rattle.hardware_table.specs.Noise.{LiveNoise, is_at}
 use Rattle.trace_replay.specs.requests.Requests.{Answer}
 use Rattle.trace_replay.specs.Script.{Input, Submit, ArriveAt, MoveAt, AttendTo, Drain, Turn, Noise, Arm, SetOnline, SetLocked}
-use Rattle.trace_replay.specs.Moments.{Deed, Search, Seek, Recal, Offset, Centre, Clear, Pack, Transfer, Arrive, Sector, Intr, Try, Attn, End, Moment, Told}
+use Rattle.trace_replay.specs.Moments.{Deed, Sector, End, Moment, Told}
 use Rattle.trace_replay.specs.Packs.{flips_at}
 use Rattle.trace_replay.specs.Service.{in_hand, service_after, target_of}
 use Rattle.trace_replay.specs.Conditions.{online_behind}

@@ -18,7 +18,7 @@ use Rattle.trace_replay.specs.Script.{Input, Submit, ArriveAt, MoveAt, AttendTo,
 use Rattle.trace_replay.specs.Moments.{Deed, End, Moment, Played, Told, Idle}
 use Rattle.trace_replay.specs.Drives.{drive_played}
 use Rattle.trace_replay.specs.Packs.{Surface, surface_of, surface_played}
-use Rattle.trace_replay.specs.Events.{Wish, NoLine, DueLine, Arrival, SectorLine, Interrupt, Attention, Refusal, IdleLine}
+use Rattle.trace_replay.specs.Events.{Wish, Refusal}
 use Rattle.trace_replay.specs.Causes.{AskSome}
 use Rattle.trace_replay.proofs.Unchanged.{drained_keeps}
 use Rattle.trace_replay.proofs.Following.{follow_on}
@@ -30,7 +30,7 @@ use Rattle.pack_geometry.specs.declared.DriveKind.TheVariants.{Rp06}
 use Rattle.drive_registers.specs.declared.Function.TheVariants as function
 use Rattle.hardware_table.specs.Functions.{performed}
 use Rattle.trace_replay.specs.Service.{first_waiting, in_hand, request_or_none, cylinder_of}
-use Rattle.trace_replay.specs.Conversation.{Hand, Stage, Waiting, Steps, UnderWay, AtOnce, Moving, Saying, Ending, is_waiting}
+use Rattle.trace_replay.specs.Conversation.{Hand, Stage, Waiting, is_waiting}
 use Rattle.trace_replay.specs.Conditions.{online_behind}
 use Rattle.trace_replay.specs.History.{with_deed, lines_after, lines_of, last_tried}
 use Rattle.trace_replay.specs.Replay.{Replay, UnitSeen, hand_of, with_state, LineMay, ToldMay, MayCome, Follows, unit_after, unit_joined, conditions_after, Submission, Refused, Joined, submission, submitted, replay_played, drained, replay_told, told_after, after_moment, after_moments, new_replay, next_wish}

@@ -10,7 +10,7 @@ use Rattle.pack_geometry.specs.Pack as model
 use Rattle.pack_geometry.specs.TableSpelling.{Table}
 use Rattle.pack_geometry.specs.Homes.{contents_of}
 use Rattle.trace_replay.specs.requests.Requests.{Request, first_block, Answer, ReadOk, WriteOk, Failed, OutsidePartition, EndOfPartition, NoFrames, Rejection, AtEnd, Beyond, FramesShort, rejection_answer}
-use Rattle.trace_replay.specs.Script.{Input, Submit, ArriveAt, MoveAt, AttendTo, Drain, Turn, Noise, Arm, SetOnline, SetLocked, Numbered, AreApart, Script, drives_of, inputs_of}
+use Rattle.trace_replay.specs.Script.{Input, Submit, Numbered, AreApart, Script, drives_of, inputs_of}
 use Rattle.trace_replay.specs.Moments.{Moment, Answered, answers_in}
 use Rattle.trace_replay.specs.Replay.{Submission, Refused, Joined}
 use Rattle.trace_replay.specs.Runs.{IsLegalRun}

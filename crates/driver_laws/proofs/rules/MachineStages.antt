@@ -14,7 +14,7 @@ use Rattle.pack_geometry.specs.Geometry.{place_at}
 use Rattle.trace_replay.specs.requests.Requests.{Request, ReadOk, WriteOk}
 use Rattle.trace_replay.specs.Moments.{Deed, Centre, Clear, Transfer, Try, End}
 use Rattle.trace_replay.specs.Packs.{repaired_from}
-use Rattle.trace_replay.specs.Conversation.{Hand, Stage, Waiting, Steps, UnderWay, AtOnce, Moving, Saying, Ending, Segment, OwnBlocks, Replacement, Positioning, SearchFor, Recalibrate, SeekTo, OffsetBy, Progress, due, guarded, transfer_of, command_of, needs_unlocked, is_write, step_taken, step_ended, said, saying, sector_may, is_under_way, progress_interrupted, outcome, interrupted_by, continued, ok_answer, retried, marked, forwarded, entry_of, start_of, clear_lines, centre_lines, try_lines, last_of}
+use Rattle.trace_replay.specs.Conversation.{Hand, Stage, Waiting, Steps, UnderWay, AtOnce, Moving, Saying, Ending, Segment, OwnBlocks, Replacement, Positioning, SearchFor, Progress, due, guarded, transfer_of, command_of, needs_unlocked, is_write, step_taken, step_ended, said, saying, sector_may, is_under_way, progress_interrupted, outcome, interrupted_by, continued, ok_answer, retried, marked, forwarded, entry_of, start_of, clear_lines, centre_lines, try_lines, last_of}
 use Rattle.trace_replay.proofs.Histories.{Fits, Open, AreSaid, guard_holds}
 use Rattle.driver_laws.specs.rules.Machine.{Blocks}
 use Rattle.driver_laws.specs.rules.Stands.{HandStands, LastStands, AnswerStands, RestStands, StageStands}

@@ -3,7 +3,7 @@ use Rattle.std.proofs.Common.{◌≡◌, ◌≢◌, inl, inr, ℕ, ◌<◌, ◌=
 use Rattle.std.specs.Int.{bit_at}
 use Rattle.std.proofs.lemmas.Bool.Decides.{eqb_tells}
 use Rattle.hardware_table.specs.Adapter.{AdapterState, stepped}
-use Rattle.trace_replay.specs.Moments.{Deed, Search, Seek, Recal, Offset, Centre, Clear, Pack, Transfer, Arrive, Sector, Intr, Try, Attn, End}
+use Rattle.trace_replay.specs.Moments.{Deed, Transfer, Arrive, Sector, Intr, Attn}
 use Rattle.trace_replay.specs.Adapters.{AdapterSeen, AdapterMay, adapter_after, ready_after, with_ready, is_busy_for, can_move, adapter_of, drive_of}
 use Rattle.trace_replay.specs.Conversation.{Stage}
 use Rattle.trace_replay.specs.Replay.{UnitSeen}

@@ -8,10 +8,10 @@ use Rattle.pack_geometry.specs.declared.DriveKind.{DriveKind}
 use Rattle.pack_geometry.specs.TableSpelling.{Table}
 use Rattle.hardware_table.specs.Drive.{DriveState}
 use Rattle.trace_replay.specs.requests.Requests.{Failed, Offline, Locked, Rejection, rejection_answer}
-use Rattle.trace_replay.specs.Moments.{Deed, Search, Seek, Recal, Offset, Centre, Clear, Pack, Transfer, Arrive, Sector, Intr, Try, Attn, End, Moment, Played, Told, Idle}
+use Rattle.trace_replay.specs.Moments.{Deed, Search, Seek, Recal, Offset, Pack, Transfer, Arrive, Sector, Intr, Attn, End, Moment, Played, Told, Idle}
 use Rattle.trace_replay.specs.Adapters.{AdapterSeen, adapter_of, with_ready}
 use Rattle.trace_replay.specs.Packs.{Surface}
-use Rattle.trace_replay.specs.Conversation.{Positioning, SearchFor, Recalibrate, SeekTo, OffsetBy, Segment, Hand, is_write, transfer_of, command_of, needs_unlocked, guarded, due, Stage, Waiting, Steps, UnderWay, AtOnce, Moving, Saying, Ending, TalkMay, goes_on}
+use Rattle.trace_replay.specs.Conversation.{Positioning, SearchFor, Segment, Hand, is_write, transfer_of, command_of, needs_unlocked, guarded, due, Stage, Waiting, Steps, UnderWay, AtOnce, Moving, Saying, Ending, TalkMay, goes_on}
 use Rattle.trace_replay.specs.Events.{Act, Done, Refusing, Arriving, Trying, Serving, NothingToDo, Event, Wish, NoLine, DueLine, Arrival, SectorLine, Interrupt, Attention, Refusal, IdleLine, wish_of, wish_in, wanted, first_ready, is_no_line}
 use Rattle.trace_replay.specs.Replay.{Replay, new_replay, with_state, next_wish, hand_of, act_drained, drained, LineMay, ToldMay, Follows, after_moment, after_moments, unit_after, adapter_told, told_after, replay_told}
 use Rattle.trace_replay.specs.History.{with_deed, lines_after, lines_behind}

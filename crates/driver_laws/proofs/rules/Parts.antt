@@ -4,7 +4,7 @@ use Rattle.std.proofs.lemmas.Bool.Decides.{nat_tests}
 use Rattle.pack_geometry.specs.PackTable.{AreTablesOf}
 use Rattle.hardware_table.specs.Noise.{LiveNoise}
 use Rattle.trace_replay.specs.requests.Requests.{Request}
-use Rattle.trace_replay.specs.Script.{Input, Submit, ArriveAt, MoveAt, AttendTo, Drain, Turn, Noise, Arm, SetOnline, SetLocked, IsInput, AreApart}
+use Rattle.trace_replay.specs.Script.{Input, Submit, IsInput, AreApart}
 use Rattle.trace_replay.specs.Moments.{Moment, Played, Told, Idle, played, answers_in, Answered}
 use Rattle.trace_replay.specs.Events.{Event}
 use Rattle.trace_replay.specs.Replay.{Replay, Submission, Refused, Joined, submission, submitted, event_of, InputMay, Follows, after_moment, after_moments}

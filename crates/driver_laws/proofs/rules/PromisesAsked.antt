@@ -6,7 +6,7 @@ use Rattle.std.proofs.lemmas.Bool.Decides.{eqb_tells}
 use Rattle.std.proofs.lemmas.Bool.{eq-eqb}
 use Rattle.trace_replay.specs.requests.Requests.{Request}
 use Rattle.trace_replay.specs.Service.{no_request}
-use Rattle.trace_replay.specs.Script.{Input, Submit, ArriveAt, MoveAt, AttendTo, Drain, Turn, Noise, Arm, SetOnline, SetLocked, AreApart}
+use Rattle.trace_replay.specs.Script.{Input, Submit, AreApart}
 use Rattle.trace_replay.specs.Moments.{Moment, Played, Told, Idle, played}
 use Rattle.driver_laws.specs.rules.Grounds.{WasPlayed, Submits}
 use Rattle.driver_laws.specs.rules.LegalAnswers.{with_asked, ids_asked}

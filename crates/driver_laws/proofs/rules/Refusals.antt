@@ -2,11 +2,11 @@
 use Rattle.std.proofs.Common.{◌≡◌, inl, inr, ◌⊎◌, ℕ, ◌==◌, true, false, List, [], ◌∷◌, ◌++◌, length, refl, sym, ap, ◌∙◌, subst, arith}
 use Rattle.hardware_table.specs.Drive.{is_positioning}
 use Rattle.trace_replay.specs.requests.Requests.{Request, Answer, OutsidePartition, Rejection, AtEnd, rejection_answer}
-use Rattle.trace_replay.specs.Script.{Input, Submit, ArriveAt, MoveAt, AttendTo, Drain, Turn, Noise, Arm, SetOnline, SetLocked, drives_of}
+use Rattle.trace_replay.specs.Script.{Input, Submit, ArriveAt, MoveAt, AttendTo, Drain, drives_of}
 use Rattle.trace_replay.specs.Moments.{Deed, End, Moment, Played, Told, Idle, Answered}
 use Rattle.trace_replay.specs.Adapters.{adapter_of, can_move}
 use Rattle.trace_replay.specs.Conversation.{goes_on}
-use Rattle.trace_replay.specs.Events.{Arriving, Trying, Serving, NothingToDo, Wish, NoLine, DueLine, Arrival, SectorLine, Interrupt, Attention, Refusal, IdleLine, can_attend, serving}
+use Rattle.trace_replay.specs.Events.{Arriving, Trying, Serving, NothingToDo, Wish, Refusal, can_attend, serving}
 use Rattle.trace_replay.specs.History.{is_refusal}
 use Rattle.trace_replay.specs.Replay.{Replay, next_wish, hand_of, LineMay, ToldMay, InputMay, MayCome, Follows, Submission, Refused, Joined, submission, submitted, act_submitted, act_drained, act_done, after_moment, after_moments, told_after}
 use Rattle.trace_replay.specs.Runs.{start_of}

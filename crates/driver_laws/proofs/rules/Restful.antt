@@ -14,7 +14,7 @@ use Rattle.trace_replay.specs.requests.Requests.{Request, first_block}
 use Rattle.trace_replay.specs.Service.{no_request}
 use Rattle.trace_replay.specs.Packs.{surface_of}
 use Rattle.trace_replay.specs.Conversation.{Waiting, not_begun, goes_on}
-use Rattle.trace_replay.specs.Events.{Act, Done, Refusing, Arriving, Trying, Serving, NothingToDo}
+use Rattle.trace_replay.specs.Events.{Act, Refusing}
 use Rattle.trace_replay.specs.Replay.{Replay}
 use Rattle.driver_laws.proofs.rules.Idle.{unit_is, idle_fits, starts_idle}
 use Rattle.driver_laws.specs.rules.Machine.{Blocks, idle}

@@ -8,7 +8,7 @@ use Rattle.pack_geometry.specs.declared.DriveKind.{DriveKind}
 use Rattle.pack_geometry.specs.Pack as model
 use Rattle.pack_geometry.specs.TableSpelling.{Table}
 use Rattle.trace_replay.specs.requests.Requests.{Request, IsRequest}
-use Rattle.trace_replay.specs.Script.{Input, Submit, ArriveAt, MoveAt, AttendTo, Drain, Turn, Noise, Arm, SetOnline, SetLocked, Statement, Declares, Plays, Line, Numbered, Script, with_input, inputs_before, drives_in, drives_of, IsThere, IsInput, IsStatement, IsFirst, AreUnitsFirst, declared_by}
+use Rattle.trace_replay.specs.Script.{Input, Submit, Drain, Statement, Declares, Plays, Line, Numbered, Script, with_input, inputs_before, drives_in, drives_of, IsThere, IsInput, IsStatement, IsFirst, AreUnitsFirst, declared_by}
 use Rattle.trace_replay.specs.Moments.{End, Moment, Played, Told, Idle, played}
 use Rattle.trace_replay.specs.Packs.{surface_of}
 use Rattle.trace_replay.specs.Replay.{all_units, Follows, after_moments}

@@ -12,7 +12,7 @@ use Rattle.retry_offsets.specs.Schedule.{step_after}
 use Rattle.pack_geometry.specs.Geometry.{place_at}
 use Rattle.trace_replay.specs.requests.Requests.{Request}
 use Rattle.trace_replay.specs.Moments.{Deed, Search, Seek, Recal, Offset, Centre, Clear, Pack, Transfer, Arrive, Sector, Intr, Try, Attn, End}
-use Rattle.trace_replay.specs.Conversation.{Hand, Stage, Waiting, Steps, UnderWay, AtOnce, Moving, Saying, Ending, Segment, OwnBlocks, Replacement, due, guarded, transfer_of, command_of, needs_unlocked, is_write, is_waiting, waits, goes_on, is_under_way, step_taken, step_ended, said, saying, begun, interrupted_by, outcome, continued, ok_answer, failed, retried, marked, forwarded, entry_of, start_of, clear_lines, centre_lines, try_lines, is_clean, last_of, left_of, sector_may, intr_may, Positioning, SearchFor, Recalibrate, SeekTo, OffsetBy}
+use Rattle.trace_replay.specs.Conversation.{Hand, Stage, Waiting, Steps, UnderWay, AtOnce, Moving, Saying, Ending, Segment, OwnBlocks, Replacement, due, guarded, transfer_of, command_of, needs_unlocked, is_write, is_waiting, waits, goes_on, is_under_way, step_taken, step_ended, said, saying, begun, interrupted_by, outcome, continued, ok_answer, failed, retried, marked, forwarded, entry_of, start_of, clear_lines, centre_lines, try_lines, is_clean, last_of, left_of, sector_may, intr_may, Positioning, SearchFor}
 use Rattle.trace_replay.proofs.Histories.{guard_holds}
 use Rattle.driver_laws.specs.rules.Consistent.{is_moving, may_have_errors, is_behind_interrupt, are_behind_interrupt, follows_lines, is_well_said, is_cleared_next}
 

@@ -6,7 +6,7 @@ use Rattle.hardware_table.specs.Drive.{DriveState, is_writing}
 use Rattle.hardware_table.specs.Moves.{has_bytes, was_read, was_written}
 use Rattle.hardware_table.specs.Noise.{LiveNoise}
 use Rattle.trace_replay.specs.requests.Requests.{Request}
-use Rattle.trace_replay.specs.Moments.{Deed, Search, Seek, Recal, Offset, Centre, Clear, Pack, Transfer, Arrive, Sector, Intr, Try, Attn, End}
+use Rattle.trace_replay.specs.Moments.{Deed, Sector}
 use Rattle.trace_replay.specs.Packs.{Surface, surface_read, surface_written, surface_tried, sector_of_block, this_sector_or}
 use Rattle.trace_replay.specs.Service.{in_hand}
 use Rattle.trace_replay.specs.Replay.{Replay, surface_after}

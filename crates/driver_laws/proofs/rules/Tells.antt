@@ -9,7 +9,7 @@ use Rattle.trace_replay.specs.Script.{Input, Submit, Drain}
 use Rattle.trace_replay.specs.Moments.{Deed, Arrive, Sector, Intr, Attn, Moment, Played, Told, Idle}
 use Rattle.trace_replay.specs.Adapters.{AdapterSeen, can_move, attentive}
 use Rattle.trace_replay.specs.Conversation.{goes_on}
-use Rattle.trace_replay.specs.Events.{Event, Wish, NoLine, DueLine, Arrival, SectorLine, Interrupt, Attention, Refusal, IdleLine, wish_of, wish_in, wish_in_serving, wanted, is_no_line, can_attend, is_some_drive, adapters_there, act_of_attend, act_of_move, act_of_arrival}
+use Rattle.trace_replay.specs.Events.{Event, Wish, NoLine, DueLine, Arrival, SectorLine, Interrupt, Attention, Refusal, wish_of, wish_in, wish_in_serving, wanted, is_no_line, can_attend, is_some_drive, adapters_there, act_of_attend, act_of_move, act_of_arrival}
 use Rattle.trace_replay.specs.Replay.{Replay, with_state, next_wish, act_drained, drained, LineMay, ToldMay, MayCome, Follows, after_moment, after_moments, unit_after, told_after, replay_told, Submission, Refused, Joined, submission, submitted, replay_played, speaker_of}
 use Rattle.trace_replay.proofs.Kept.{no}
 use Rattle.driver_laws.specs.rules.Drains.{event_by, events_in, EventsTell, DrainsTell}

@@ -4,7 +4,7 @@ use Rattle.std.specs.Prelude.{if◌then◌else◌}
 use Rattle.std.proofs.lemmas.Option.{same_Some, none-some}
 use Rattle.std.proofs.lemmas.Bool.Decides.{nat_tests}
 use Rattle.pack_geometry.specs.declared.DriveKind.{DriveKind}
-use Rattle.pack_geometry.specs.declared.DriveKind.TheVariants.{Rp06, Rm03, Rm05}
+use Rattle.pack_geometry.specs.declared.DriveKind.TheVariants.{Rp06}
 use Rattle.pack_geometry.specs.declared.Place.{Place}
 use Rattle.pack_geometry.specs.Geometry.{place_at}
 use Rattle.drive_registers.specs.declared.Function.TheVariants as function
@@ -22,7 +22,7 @@ use Rattle.hardware_table.specs.Adapter.{AdapterState, stepped, next_block}
 use Rattle.hardware_table.specs.Events.{arrived_from, transfer_ended, times_armed, with_times}
 use Rattle.hardware_table.specs.Functions.{performed}
 use Rattle.hardware_table.specs.Moves.{after_move, with_fault_bits, fault_used, with_mark_bits, first_armed, fault_order, stop_of, IsVerdictBy}
-use Rattle.trace_replay.specs.Moments.{Deed, Search, Seek, Recal, Offset, Centre, Clear, Pack, Transfer, Arrive, Sector, Intr, Try, Attn, End}
+use Rattle.trace_replay.specs.Moments.{Deed, Search, Seek, Recal, Offset, Centre, Clear, Pack, Transfer, Arrive, Sector}
 use Rattle.trace_replay.specs.Drives.{drive_after, addressed, search_place, offset_written, transfer_function}
 use Rattle.driver_laws.proofs.rules.Armed.{performed_armed, find_first, tags_apart}
 

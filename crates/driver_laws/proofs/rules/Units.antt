@@ -9,7 +9,7 @@ use Rattle.seek_engine.specs.Seek.{sector_before}
 use Rattle.trace_replay.specs.requests.ServiceOrder.{Waiting as Waiter, put, Service, after_leave}
 use Rattle.trace_replay.proofs.requests.ServiceOrderRuns.{newcomer, after_join-waiting}
 use Rattle.trace_replay.specs.requests.Requests.{Request}
-use Rattle.trace_replay.specs.Moments.{Deed, Search, Seek, Recal, Offset, Centre, Clear, Pack, Transfer, Arrive, Sector, Intr, Try, Attn, End}
+use Rattle.trace_replay.specs.Moments.{Deed, Arrive, Sector, Intr, Attn, End}
 use Rattle.trace_replay.specs.Service.{cylinder_of, first_waiting, in_hand, head_of, request_or_none, service_after, target_of}
 use Rattle.trace_replay.specs.Conversation.{SearchFor, Stage, Waiting, Steps, UnderWay, AtOnce, Moving, Saying, Ending, Progress, not_begun, TalkMay, begun, starts_at_once, is_waiting, progress_after, stage_after}
 use Rattle.trace_replay.specs.Replay.{UnitSeen, hand_of, stage_joined, unit_joined}

@@ -5,7 +5,7 @@ use Rattle.std.proofs.lemmas.Option.{none-some, same_Some}
 use Rattle.std.proofs.lemmas.Bool.{eq-eqb, le-leb}
 use Rattle.std.proofs.lemmas.Bool.Decides.{eqb_tells}
 use Rattle.pack_geometry.specs.declared.DriveKind.{DriveKind}
-use Rattle.pack_geometry.specs.declared.DriveKind.TheVariants.{Rp06, Rm03, Rm05}
+use Rattle.pack_geometry.specs.declared.DriveKind.TheVariants.{Rp06}
 use Rattle.pack_geometry.specs.Geometry.{block_count, copy_at}
 use Rattle.pack_geometry.specs.Pack as model
 use Rattle.pack_geometry.specs.TableSpelling.{Table}
@@ -18,9 +18,9 @@ use Rattle.partitions.specs.declared.Admission.{Admission}
 use Rattle.partitions.specs.declared.Admission.TheVariants.{Inside, Eof, Outside}
 use Rattle.trace_replay.specs.requests.Requests.{Request, IsRequest, first_block, Rejection, AtEnd, Beyond, rejection_answer, Answer, ReadOk, WriteOk, OutsidePartition, EndOfPartition, NoFrames, Failed, Offline, Locked, Unforwarded, Fault}
 use Rattle.trace_replay.specs.Script.{Submit, Drain, Input, IsThere}
-use Rattle.trace_replay.specs.Moments.{Deed, Search, Seek, Recal, Offset, Centre, Clear, Pack, Transfer, Arrive, Sector, Intr, Try, Attn, End, Moment, Played, Told, Idle, Answered, played, answers_in}
+use Rattle.trace_replay.specs.Moments.{Deed, End, Moment, Played, Told, Idle, Answered, played, answers_in}
 use Rattle.trace_replay.specs.Service.{in_hand, first_waiting, request_or_none, frames_needed}
-use Rattle.trace_replay.specs.Conversation.{Stage, Waiting, Steps as StepsLeft, UnderWay, AtOnce, Moving, Saying, Ending, not_begun, is_waiting}
+use Rattle.trace_replay.specs.Conversation.{Stage, Waiting, not_begun, is_waiting}
 use Rattle.trace_replay.specs.Replay.{Replay, UnitSeen, next_wish, MayCome, Submission, Refused, Joined, submission_by, Follows, after_moment, replay_played}
 use Rattle.trace_replay.proofs.Kept.{IsHeld}
 use Rattle.driver_laws.specs.rules.Drains.{IsIdle}

@@ -7,8 +7,8 @@ use Rattle.hardware_table.specs.declared.Moved.{Moved}
 use Rattle.hardware_table.specs.declared.Moved.TheVariants as verdict
 use Rattle.hardware_table.specs.Drive.{DriveState}
 use Rattle.trace_replay.specs.requests.Requests.{Request, Answer, ReadOk, WriteOk, Failed, Offline, Locked}
-use Rattle.trace_replay.specs.Moments.{Deed, Search, Seek, Recal, Offset, Centre, Clear, Pack, Transfer, Arrive, Sector, Intr, Try, Attn, End}
-use Rattle.trace_replay.specs.Conversation.{Stage, Waiting, Steps, UnderWay, AtOnce, Moving, Saying, Ending, Segment, OwnBlocks, Replacement, Hand, Positioning, SearchFor, Recalibrate, SeekTo, OffsetBy, due, guarded, needs_unlocked, is_write, command_of, transfer_of, saying, clear_lines, centre_lines, try_lines, start_of, outcome, ok_answer, marked, forwarded, entry_of, interrupted_by, last_of, segment_of, step_taken, step_ended, said, begun, stage_after}
+use Rattle.trace_replay.specs.Moments.{Deed, Centre, Clear, Pack, Transfer, Arrive, Sector, Intr, Try, Attn, End}
+use Rattle.trace_replay.specs.Conversation.{Stage, Waiting, Steps, UnderWay, AtOnce, Moving, Saying, Ending, Segment, OwnBlocks, Replacement, Hand, Positioning, SearchFor, due, guarded, needs_unlocked, is_write, command_of, transfer_of, saying, clear_lines, centre_lines, try_lines, start_of, outcome, ok_answer, marked, forwarded, entry_of, interrupted_by, last_of, segment_of, step_taken, step_ended, said, begun, stage_after}
 use Rattle.driver_laws.specs.rules.Calm.{IsGood, is_calm_verdict, is_calm_answer, is_no_end, are_no_ends, is_calm_stage}
 use Rattle.driver_laws.proofs.rules.Drives.{no, IsCalmDeed}
 

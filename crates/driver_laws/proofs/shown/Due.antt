@@ -20,7 +20,7 @@ use Rattle.trace_replay.specs.Replay.{UnitSeen, hand_of}
 use Rattle.driver_machine.specs.declared.RetryStep.{RetryStep}
 use Rattle.driver_machine.specs.declared.RetryStep.TheVariants as step
 use Rattle.driver_machine.specs.declared.Task.{Task}
-use Rattle.driver_machine.specs.declared.Task.TheVariants.{Clear, Judge, Steps, Command, GiveUp}
+use Rattle.driver_machine.specs.declared.Task.TheVariants.{Judge, Steps}
 use Rattle.driver_machine.specs.declared.Phase.{Phase}
 use Rattle.driver_machine.specs.declared.Phase.TheVariants.{Waiting, Positioning, Queued, Transferring, Due}
 use Rattle.driver_machine.specs.World.{UnitView, Held, slot_in_hand, transfer_of}

@@ -4,7 +4,7 @@ use Rattle.trace_replay.specs.Script.{Numbered}
 use Rattle.trace_replay.specs.Moments as moment
 use Rattle.trace_replay.specs.Moments.{Moment, Played, Told, Idle, Answered, played, answers_in}
 use Rattle.driver_machine.specs.World.{World, held_in, slot_in_hand, unit_at}
-use Rattle.driver_machine.specs.Acts.{Act, Refuse, Submit, Of, Change, Nothing, Taken, after}
+use Rattle.driver_machine.specs.Acts.{Act, Of, after}
 use Rattle.driver_machine.specs.Lines.{deed_told, lines_with, lines_of, lines_of_all}
 use Rattle.driver_laws.specs.shown.Runs.{CallsArePlayed, LinesPlayNothing, CallsAreAnswered}
 

@@ -14,7 +14,7 @@ use Rattle.driver_laws.specs.rules.Consistent.{Agrees, IsConsistent}
 use Rattle.driver_laws.specs.rules.Calm.{IsGood, IsCalm}
 use Rattle.driver_laws.specs.rules.Rest.{IsAtRest}
 use Rattle.driver_machine.specs.declared.Phase.{Phase}
-use Rattle.driver_machine.specs.declared.Phase.TheVariants.{Waiting, Positioning, Queued, Transferring, Due}
+use Rattle.driver_machine.specs.declared.Phase.TheVariants.{Waiting, Due}
 use Rattle.driver_machine.specs.World.{World, UnitView, AdapterView, Held, unit_at, adapter_at, held_in, slot_in_hand, adapter_of, drive_of, unit_on, no_unit, new_adapter_view}
 use Rattle.driver_machine.specs.Guards.{IsSetUp}
 use Rattle.driver_machine.specs.Sound.{Sound, AtWork, WorkOf, IsStill, IsPhase, is_waiting, frames_by, frames_used}

@@ -21,7 +21,7 @@ use Rattle.trace_replay.specs.Events.{Wish, Refusal, wanted, Done, Refusing, Ser
 use Rattle.trace_replay.specs.Replay.{Replay, Submission, Refused, Joined, ToldMay, next_wish, act_done, told_after, drained, after_moment, after_moments, act_of, act_submitted, event_of, is_drain, replay_played, submitted, submission, submission_by, has_frames, unit_joined}
 use Rattle.trace_replay.specs.declared.requests.answers.AnswerKind.{AnswerKind}
 use Rattle.driver_machine.specs.declared.Phase.{Phase}
-use Rattle.driver_machine.specs.declared.Phase.TheVariants.{Waiting, Positioning, Queued, Transferring, Due}
+use Rattle.driver_machine.specs.declared.Phase.TheVariants.{Waiting, Due}
 use Rattle.driver_machine.specs.World.{World, UnitView, Held, adapter_of, unit_at, adapter_at, held_in, no_unit}
 use Rattle.driver_machine.specs.Acts as deed
 use Rattle.driver_machine.specs.Acts.{Act as MachineAct, Refuse, Submit, Change, joined, after, after_all}
