@@ -15,7 +15,7 @@ AllAsk : List Numbered → Type 0
 AllAsk [] = Unit {0}
 AllAsk (n ∷ ns) = AsksSome n.input × AllAsk ns
 
-there_asks : (drive : Option DriveKind) (r : Request) → IsThere drive (λ kind. IsRequest r) → AsksSome (Submit r)
+pub there_asks : (drive : Option DriveKind) (r : Request) → IsThere drive (λ kind. IsRequest r) → AsksSome (Submit r)
 there_asks None r is = absurd is
 there_asks (Some kind) r is = is.some
 

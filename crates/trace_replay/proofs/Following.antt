@@ -71,7 +71,7 @@ moment_all s (Idle line) keeps = record { number = keeps Number; nothing = keeps
 pub keeps_each : KeepsEach
 keeps_each s m = (moment_kept s m, moment_all s m)
 
-joined : (s : Replay) (ms ns : List Moment) → Follows s ms → Follows (after_moments s ms) ns → Follows s (ms ++ ns)
+pub joined : (s : Replay) (ms ns : List Moment) → Follows s ms → Follows (after_moments s ms) ns → Follows s (ms ++ ns)
 joined s [] ns first more = more
 joined s (m ∷ ms) ns first more = (first.0, joined (after_moment s m) ms ns first.1 more)
 

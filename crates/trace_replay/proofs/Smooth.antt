@@ -22,7 +22,7 @@ use Rattle.trace_replay.specs.Service.{cylinder_of, first_waiting, head_of, in_h
 use Rattle.trace_replay.specs.Events.{Wish, NoLine, DueLine, Arrival, SectorLine, Interrupt, Attention, Refusal, IdleLine}
 use Rattle.trace_replay.specs.Replay.{Replay, UnitSeen, new_replay, next_wish, hand_of, at_unit, LineMay, ToldMay, Follows, after_moment, after_moments, unit_after, bytes_of, told_after, replay_told, Submission, Refused, Joined, submission, submitted, stage_joined, unit_joined, replay_played}
 use Rattle.trace_replay.specs.Causes.{AskSome}
-use Rattle.trace_replay.proofs.Histories.{Fits, AreSaid, guard_holds}
+use Rattle.trace_replay.proofs.Histories.{Fits, AreSaid, guard_holds, or_zero}
 use Rattle.trace_replay.proofs.Unchanged.{drained_keeps}
 use Rattle.trace_replay.specs.Bounds.{transfer_by, transfers_in, search_by, searches_in, IsCleanLine, AreClean, OneTransfer}
 use Rattle.trace_replay.proofs.Histories.{AreSaid, said_onto, Fits, MoveFits, Open, guard_holds, interrupted}
@@ -198,9 +198,6 @@ clean_ended false h lines whole o =
 none_left : (a c : ℕ) → a + 0 ≡ c → a ≡ c
 none_left a c h = omega arith
 
-zero_or : (n : ℕ) → (n == 0) || false ≡ true → n ≡ 0
-zero_or n h = grind (arith, nat_tests)
-
 unclean : (start : ℕ) (v : Moved) (before lines : List Deed) → lines ≡ Sector start v ∷ before → (IsCleanLine (Sector start v) → ⊥) → AreClean lines → ⊥
 unclean start v before lines is never clean = never (subst AreClean is clean).0
 
@@ -208,7 +205,7 @@ intr_smooth : (d : DriveState) (h : Hand) (segment : Segment) (left : ℕ) (v : 
     → (AreClean lines → MovesOnce h segment left lines) → AreClean (Intr ∷ lines) → Smooth (interrupted h v) (interrupted_by v d (interrupted h v) segment) (Intr ∷ lines)
 intr_smooth d h segment zero verdict.Clean lines is f b clean =
     clean_ended (offset_field d.offset == 0) h lines (none_left h.progress.done h.request.count (b clean.1).whole) (b clean.1).once
-intr_smooth d h segment (suc n) verdict.Clean lines is f b clean = absurd (omega (arith, zero_or (suc n) is))
+intr_smooth d h segment (suc n) verdict.Clean lines is f b clean = absurd (omega (arith, or_zero (suc n) is))
 intr_smooth d h segment left (verdict.Burst at q) lines is f b clean = absurd (unclean (start_of segment h) (verdict.Burst at q) f.before lines f.is (λ c. c) clean.1)
 intr_smooth d h segment left verdict.Hard lines is f b clean = absurd (unclean (start_of segment h) verdict.Hard f.before lines f.is (λ c. c) clean.1)
 intr_smooth d h segment left verdict.Marked lines is f b clean = absurd (unclean (start_of segment h) verdict.Marked f.before lines f.is (λ c. c) clean.1)

@@ -63,7 +63,7 @@ stop_is_none true None stop is three = none-some stop is
 stop_is_none true (Some k) stop is three = omega (arith, three, ap moved_sort (same_Some (verdict.Faulted k) stop is))
 stop_is_none false armed stop is three = omega (arith, three, ap moved_sort (same_Some verdict.Offline stop is))
 
-read_is_none : (places : Option (List ℕ)) → IsReadVerdict places verdict.Marked → ⊥
+pub read_is_none : (places : Option (List ℕ)) → IsReadVerdict places verdict.Marked → ⊥
 unfolding moved_sort
 read_is_none None is = omega (arith, ap moved_sort is)
 read_is_none (Some places) is = is
@@ -76,7 +76,7 @@ marked_by None true write places never is = refl
 marked_by None false true places never is = absurd (omega (arith, ap moved_sort is))
 marked_by None false false places never is = absurd (read_is_none places is)
 
-marked_only : (d : DriveState) (marked : Bool) (places : Option (List ℕ)) → IsVerdict d marked places verdict.Marked → marked ≡ true
+pub marked_only : (d : DriveState) (marked : Bool) (places : Option (List ℕ)) → IsVerdict d marked places verdict.Marked → marked ≡ true
 marked_only d marked places is = marked_by (stop_of d) marked (is_writing d.work) places (λ v stop three. stop_is_none d.online (first_armed d.armed) v stop three) is
 
 -- ---- what stays through a run: kinds, tables and marks; and that lines tell of marked sectors alone
@@ -88,7 +88,7 @@ record Steady (kinds : ℕ → DriveKind) (tables : ℕ → Option Table) (marke
 abbrev AreTrue : (ℕ → ℕ → Bool) → (ℕ → List Deed) → Type 0
 AreTrue marked lines = (x b : ℕ) → WasMarked b (lines x) → marked x b ≡ true
 
-was_told : (deed : Deed) (lines : List Deed) (b : ℕ) → WasMarked b (with_deed deed lines) → (deed ≡ Sector b verdict.Marked) ⊎ WasMarked b lines
+pub was_told : (deed : Deed) (lines : List Deed) (b : ℕ) → WasMarked b (with_deed deed lines) → (deed ≡ Sector b verdict.Marked) ⊎ WasMarked b lines
 was_told (Search c y) lines b w = w
 was_told (Seek c) lines b w = w
 was_told Recal lines b w = w
@@ -208,7 +208,7 @@ no_home h done pack lines true_marks e =
     below true (inr none) = rw (ap (λ z. model.is_marked pack z) (sym none.1) ∙ true_marks e.by.0 e.by.4) (rw none.0 refl)
     below false helpless = refl
 
-attached_kind : (kind : DriveKind) (unit : ℕ) → (attached kind unit).kind ≡ kind
+pub attached_kind : (kind : DriveKind) (unit : ℕ) → (attached kind unit).kind ≡ kind
 attached_kind kind unit = performed_kind function.Pack (performed function.Preset (new_drive kind unit)) ∙ performed_kind function.Preset (new_drive kind unit)
 
 pub are_unusable : AreUnusable
