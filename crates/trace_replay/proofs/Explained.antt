@@ -8,10 +8,10 @@ use Rattle.hardware_table.specs.declared.Moved.{Moved}
 use Rattle.hardware_table.specs.declared.Moved.TheVariants as verdict
 use Rattle.hardware_table.specs.Drive.{DriveState}
 use Rattle.trace_replay.specs.requests.ServiceOrder.{Service}
-use Rattle.trace_replay.specs.requests.Requests.{Request, Answer, ReadOk, WriteOk, OutsidePartition, EndOfPartition, NoFrames, Failed, Cause, Offline, Locked, Unforwarded, Fault}
+use Rattle.trace_replay.specs.requests.Requests.{Request, Answer, ReadOk, WriteOk, Failed, Cause, Offline, Locked, Unforwarded, Fault}
 use Rattle.trace_replay.specs.Moments.{Deed, Centre, Clear, Pack, Try, End, Told}
-use Rattle.trace_replay.specs.Conversation.{Hand, Segment, OwnBlocks, Stage, Waiting, Steps, UnderWay, AtOnce, Moving, Saying, Ending, Progress, due, guarded, transfer_of, command_of, needs_unlocked, is_write, Positioning, SearchFor, Recalibrate, SeekTo, OffsetBy, entry_of, start_of}
-use Rattle.trace_replay.specs.Events.{Wish, NoLine, DueLine, Arrival, SectorLine, Interrupt, Attention, Refusal, IdleLine}
+use Rattle.trace_replay.specs.Conversation.{Hand, Segment, OwnBlocks, Stage, Waiting, Steps, UnderWay, AtOnce, Moving, Saying, Ending, Progress, due, guarded, transfer_of, command_of, needs_unlocked, is_write, Positioning, SearchFor, entry_of, start_of}
+use Rattle.trace_replay.specs.Events.{Wish, Refusal}
 use Rattle.trace_replay.specs.Replay.{Replay, UnitSeen, new_replay, next_wish, hand_of, ToldMay, Follows, after_moments}
 use Rattle.trace_replay.specs.History.{is_refusal, lines_behind, done_in, Tried, Untried, TriedAt, last_tried, marks_in, fails}
 use Rattle.trace_replay.specs.Causes.{wants_command, IsLockedOut, WasTriedOffline, IsBeyondHelp, Because, IsOk, AreAllTries, IsExplained, AreExplained}

@@ -2,7 +2,7 @@
 use Rattle.std.proofs.Common.{ℕ, List, [], ◌∷◌, ◌++◌}
 use Rattle.trace_replay.specs.requests.Requests.{Rejection}
 use Rattle.trace_replay.specs.Moments.{Deed, Moment, Told, Played, Idle}
-use Rattle.trace_replay.specs.Events.{Wish, NoLine, DueLine, Arrival, SectorLine, Interrupt, Attention, Refusal, IdleLine}
+use Rattle.trace_replay.specs.Events.{Wish, Refusal}
 use Rattle.trace_replay.specs.Replay.{Replay, next_wish, LineMay, RefusalMay, ToldMay, InputMay, IdleMay, MayCome, after_moment, after_moments, Follows}
 use Rattle.trace_replay.specs.Rules.{RuleName, Number, Events, Service, Conversation, Drives, Adapters, Packs, Work, LineKeeps, RefusalKeeps, ToldKeeps, InputKeeps, IdleKeeps, Keeps, KeepsEach, FollowOn}
 

@@ -24,7 +24,7 @@ use Rattle.hardware_table.specs.Functions.{performed, refusals, effect, refused}
 use Rattle.hardware_table.specs.Moves.{after_move}
 use Rattle.trace_replay.specs.requests.ServiceOrder.{Waiting as Waiter, is_before, put, Service, after_leave}
 use Rattle.trace_replay.proofs.requests.ServiceOrderRuns.{IsService, IsPlaced, empty-is, newcomer, after_join-waiting, after_join-is, after_leave-is, each-put}
-use Rattle.trace_replay.specs.requests.Requests.{Request, Answer, ReadOk, WriteOk, OutsidePartition, EndOfPartition, NoFrames, Failed, Rejection, AtEnd, Beyond, FramesShort, rejection_answer}
+use Rattle.trace_replay.specs.requests.Requests.{Request, Answer, OutsidePartition, EndOfPartition, NoFrames, Rejection, AtEnd, rejection_answer}
 use Rattle.trace_replay.specs.Script.{Input, Submit, ArriveAt, MoveAt, AttendTo, Drain, Turn, Noise, Arm, SetOnline, SetLocked}
 use Rattle.trace_replay.specs.Moments.{Deed, Search, Seek, Recal, Offset, Centre, Clear, Pack, Transfer, Arrive, Sector, Intr, Try, Attn, End, Moment, Played, Told, Idle}
 use Rattle.hardware_table.specs.declared.Register.TheVariants as register
@@ -34,8 +34,8 @@ use Rattle.trace_replay.specs.Drives.{drive_after, drive_played, addressed, sear
 use Rattle.trace_replay.specs.Packs.{Surface}
 use Rattle.pack_geometry.specs.declared.Place.{Place}
 use Rattle.trace_replay.specs.Service.{cylinder_of, first_waiting, head_of, in_hand, request_or_none, ids, service_after, service_joined, target_of}
-use Rattle.trace_replay.specs.Conversation.{Hand, Stage, Waiting, Steps, UnderWay, AtOnce, Moving, Saying, Ending, Progress, not_begun, TalkMay, begun, due, guarded, transfer_of, command_of, needs_unlocked, is_write, is_waiting, progress_after, stage_after, Positioning, SearchFor, Recalibrate, SeekTo, OffsetBy}
-use Rattle.trace_replay.specs.Events.{Wish, NoLine, DueLine, Arrival, SectorLine, Interrupt, Attention, Refusal, IdleLine}
+use Rattle.trace_replay.specs.Conversation.{Hand, Stage, Waiting, Steps, UnderWay, AtOnce, Moving, Saying, Ending, Progress, not_begun, TalkMay, begun, due, guarded, transfer_of, command_of, needs_unlocked, is_write, is_waiting, progress_after, stage_after, Positioning, SearchFor}
+use Rattle.trace_replay.specs.Events.{Wish, Refusal}
 use Rattle.trace_replay.specs.Replay.{Replay, UnitSeen, new_replay, with_state, next_wish, hand_of, at_unit, LineMay, ToldMay, Follows, after_moment, after_moments, unit_after, bytes_of, told_after, replay_told, Submission, Refused, Joined, submission, submitted, stage_joined, unit_joined, replay_played}
 use Rattle.trace_replay.specs.History.{is_refusal, with_deed, lines_after, lines_behind}
 use Rattle.trace_replay.specs.Causes.{AsksSome, AskSome}

@@ -5,11 +5,11 @@ use Rattle.std.specs.Prelude.{if◌then◌else◌}
 use Rattle.hardware_table.specs.Drive.{DriveState}
 use Rattle.hardware_table.specs.Moves.{was_read, was_written}
 use Rattle.trace_replay.specs.requests.Requests.{Request}
-use Rattle.trace_replay.specs.Moments.{Deed, Search, Seek, Recal, Offset, Centre, Clear, Pack, Transfer, Arrive, Sector, Intr, Try, Attn, End}
+use Rattle.trace_replay.specs.Moments.{Deed, Pack, Sector}
 use Rattle.trace_replay.specs.Adapters.{adapter_of}
 use Rattle.trace_replay.specs.Packs.{Surface, with_sector, surface_written, surface_read, sector_of_block}
 use Rattle.trace_replay.specs.Service.{in_hand}
-use Rattle.trace_replay.specs.Events.{Event, Wish, NoLine, DueLine, Arrival, SectorLine, Interrupt, Attention, Refusal, IdleLine, is_no_line, Done}
+use Rattle.trace_replay.specs.Events.{Event, Wish, Refusal, is_no_line, Done}
 use Rattle.trace_replay.specs.Replay.{Replay, with_state, next_wish, act_drained, drained, told_after, replay_told, unit_after, surface_after, at_unit, adapter_told}
 use Rattle.trace_replay.specs.Frames.{ChangesOneUnit, ChangesOneAdapter, ChangesOnePack, ChangesNoMark}
 

@@ -1,14 +1,13 @@
 -- Laws of the service order: the sort, the two runs, and how a queue with one more looks.
-use Rattle.std.proofs.Common.{◌≡◌, ℕ, ◌+◌, ◌<◌, ◌≤◌, nat_lt, Bool, true, false, not, ◌&&◌, ◌||◌, cond, List, [], ◌∷◌, ◌++◌, map, filter, length, zero, suc, slice_index_or, refl, sym, ◌∙◌, ap, subst, add-one, arith}
+use Rattle.std.proofs.Common.{◌≡◌, ℕ, ◌+◌, ◌<◌, ◌≤◌, nat_lt, Bool, true, false, not, ◌&&◌, ◌||◌, cond, List, [], ◌∷◌, ◌++◌, map, filter, length, zero, suc, slice_index_or, refl, sym, ◌∙◌, ap, subst, arith}
 use Rattle.std.proofs.lemmas.Bool.{cond_both, cond-true, cond-false}
 use Rattle.std.proofs.lemmas.Bool.Decides.{nat_tests}
-use Rattle.std.proofs.lemmas.List.{length-map}
 use Rattle.std.proofs.lemmas.List.Sorted.{IsPermutation-refl, IsPermutation-cons, IsPermutation-trans, IsPermutation-middle, IsPermutation-map, length_permutation, All-permutation}
 use Rattle.std.proofs.lemmas.List.Elements.{All-cons}
 use Rattle.std.specs.List.{All, AllByRecursion}
-use Rattle.std.specs.List.Sorted.{IsPermutation, IsSortedBy, IsNonDecreasingBy}
-use Rattle.trace_replay.specs.requests.ServiceOrder.{Waiting, is_before, put, service_order, Service, sweep_for, after_join, queue_of, waiting_from, service_of, queue_with, IsInOrder, IsTwoRuns, first_run, second_run, put_behind, put_in_run, in_runs, empty_service, Joins, Leaves, service_after}
-use Rattle.trace_replay.proofs.requests.ServiceOrderRuns.{Ascends, service_order-ascends, goes_before, put_in, inserted, AreRuns, are_runs, newcomer, counted, queue_with-inserted, queue_of-service_of}
+use Rattle.std.specs.List.Sorted.{IsPermutation, IsNonDecreasingBy}
+use Rattle.trace_replay.specs.requests.ServiceOrder.{Waiting, is_before, put, service_order, after_join, queue_of, service_of, queue_with, IsInOrder, IsTwoRuns, first_run, second_run, put_behind, put_in_run, in_runs, empty_service, Joins, Leaves, service_after}
+use Rattle.trace_replay.proofs.requests.ServiceOrderRuns.{goes_before, put_in, inserted, AreRuns, are_runs, newcomer, queue_with-inserted, queue_of-service_of}
 
 -- the sort: the same elements, and in order
 put-permutation : {A : Type 0} (x : Waiting A) (ys : List (Waiting A)) → IsPermutation (x ∷ ys) (put x ys)
