@@ -52,7 +52,7 @@ mod PromisesAsked
 mod Begun
 pub mod Few
 mod Complete
-mod Fronts
+pub mod Fronts
 pub mod Quiet
 pub mod Drives
 pub mod WaitedStages

@@ -58,7 +58,7 @@ freed_was (made ∷ rest) slots q g e = by made.slot e
     by (Some p) e = set_none slots p q g e
 
 -- THE START
-replicate_at : {A : Type 0} (n i : ℕ) (x : A) → slice_index_or (replicate n x) i x ≡ x
+pub replicate_at : {A : Type 0} (n i : ℕ) (x : A) → slice_index_or (replicate n x) i x ≡ x
 replicate_at zero i x = refl
 replicate_at (suc n) zero x = refl
 replicate_at (suc n) (suc i) x = replicate_at n i x

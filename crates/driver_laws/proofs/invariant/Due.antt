@@ -56,7 +56,7 @@ pub record Rests (E : Type 0) (a n : ℕ) (w : World) : Type 0 where
   pub few : outstanding w ≤ n
 
 -- a unit at which nothing is due is at work
-none_due : (queue : List Waiter) (line u : ℕ) (d : Deed) (w : World) → in_hand_by queue line u d w ≡ [] → queue ≡ []
+pub none_due : (queue : List Waiter) (line u : ℕ) (d : Deed) (w : World) → in_hand_by queue line u d w ≡ [] → queue ≡ []
 none_due [] line u d w none = refl
 none_due (x ∷ rest) line u d w none = absurd (grind (arith, none))
 

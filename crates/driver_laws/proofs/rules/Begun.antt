@@ -39,10 +39,10 @@ use Rattle.driver_laws.proofs.rules.Steps.{beginning_kept}
 use Rattle.driver_laws.proofs.rules.Once.{times_out, times_among, answers_count, answered_append, once_among, listed_out, nothing_out}
 use Rattle.driver_laws.proofs.rules.LastWrites.{Left, answers_left, each_asked, refusal_left, left_join, found_asked}
 use Rattle.driver_laws.proofs.rules.MachineRuns.{home_marks, left_at, room_at, below_count, script_given, script_ids}
-use Rattle.std.proofs.lemmas.Bool.{eq-eqb, ne_eqb}
+use Rattle.std.proofs.lemmas.Bool.{eq-eqb, ne_eqb, true≢false as no}
 use Rattle.std.proofs.lemmas.Bool.Decides.{eqb_tells}
 use Rattle.driver_laws.specs.rules.Beginnings.{IsBegun, IsUnanswered, HoldsButOne, PromisesSoFar, BeginningsKeep, IsNextSector, with_next, NextBlocksKeep}
-use Rattle.driver_laws.proofs.rules.Few.{done_few, no}
+use Rattle.driver_laws.proofs.rules.Few.{done_few}
 
 -- ---- the front of a script's inputs
 given_ask : (drives : ℕ → Option DriveKind) (ms : List Moment) → AreGiven drives ms → AskSome ms

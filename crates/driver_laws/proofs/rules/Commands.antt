@@ -45,7 +45,7 @@ commands_are_bounded drives tables surface ms unit some follows =
     ((moments_packs (new_replay drives tables surface) ms (λ x. []) some follows (starts drives tables surface) (starts_packs drives tables surface)).counted unit)
 
 -- ---- the end
-id_of : (r : Option Request) (id : ℕ) → ids r ≡ Some id → (request_or_none r).id ≡ id
+pub id_of : (r : Option Request) (id : ℕ) → ids r ≡ Some id → (request_or_none r).id ≡ id
 id_of None id is = absurd (none-some id is)
 id_of (Some r) id is = same_Some r.id id is
 

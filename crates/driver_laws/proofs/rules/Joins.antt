@@ -2,6 +2,7 @@
 use Rattle.std.proofs.Common.{◌≡◌, ◌⊎◌, inl, inr, ℕ, ◌≤◌, ◌+◌, ◌==◌, nat_le, Bool, true, false, List, Option, None, Some, refl, sym, ap, ◌∙◌, subst, arith}
 use Rattle.std.specs.Prelude.{if◌then◌else◌, unwrap_or}
 use Rattle.std.proofs.lemmas.Bool.Decides.{nat_tests}
+use Rattle.std.proofs.lemmas.Bool.{false≢true}
 use Rattle.pack_geometry.specs.declared.DriveKind.{DriveKind}
 use Rattle.pack_geometry.specs.declared.DriveKind.TheVariants.{Rp06}
 use Rattle.pack_geometry.specs.Geometry.{limit_of}
@@ -26,7 +27,6 @@ use Rattle.driver_laws.specs.rules.Stands.{HandStands, LastStands, StageStands, 
 use Rattle.driver_laws.proofs.rules.Blocks.{begun_blocks}
 use Rattle.partitions.proofs.Ends.{part_ends}
 use Rattle.driver_laws.proofs.rules.Hands.{begins, fewer_sure}
-use Rattle.driver_laws.proofs.rules.Tried.{no}
 
 -- ---- a request that joins lies inside its partition, so among the data blocks
 joined_number : Submission → ℕ
@@ -81,7 +81,7 @@ joined_stands sure homes u sectors blocks r lines f s = record {
       where
         at : (u.progress ≡ not_begun) ⊎ (is_waiting u.stage ≡ false) → u.progress ≡ not_begun
         at (inl is) = is
-        at (inr held) = absurd (no (sym held ∙ waits))
+        at (inr held) = absurd (false≢true (sym held ∙ waits))
 
     hand : (b : Bool) → is_waiting u.stage ≡ b → HandStands sure homes (first_block u.drive.kind (in_hand (service_joined u.drive.kind r u.service))) (in_hand (service_joined u.drive.kind r u.service)) u.progress sectors blocks
     hand true waits =

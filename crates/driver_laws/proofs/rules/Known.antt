@@ -136,7 +136,7 @@ alike live ms n all a =
 pub all_alike : (live new : List LiveNoise) (ms : List Moment) → LiveKnown live ms → All (IsAmong live) new → LiveKnown new ms
 all_alike live new ms all are = All-weaker (IsAmong live) (λ (n : LiveNoise). WasPlayed (ArmsLike n) ms) (λ n a. alike live ms n all a) new are
 
-written_live : (b : Bool) (s : Surface) (unit block : ℕ) (r : Request) (k : ℕ) → (surface_written b s unit block r k).live ≡ s.live
+pub written_live : (b : Bool) (s : Surface) (unit block : ℕ) (r : Request) (k : ℕ) → (surface_written b s unit block r k).live ≡ s.live
 written_live true s unit block r k = refl
 written_live false s unit block r k = refl
 

@@ -157,14 +157,14 @@ run_goes claims script tables old new ms run covered =
     (subst AreApart (sym (ap ids_asked run.inputs ∙ script_ids script)) run.good.ids) run.trace.follows (subst (AreCovered (SetupOf script tables old) claims) (sym run.inputs) covered)
 
 -- at the end nothing is outstanding
-no_length : {A : Type 0} (xs : List A) → 0 ≡ length xs → xs ≡ []
+pub no_length : {A : Type 0} (xs : List A) → 0 ≡ length xs → xs ≡ []
 no_length [] is = refl
 no_length (x ∷ xs) is = absurd (omega (arith, is))
 
 none_out : (setup : Setup) (armed : List LiveNoise) (s : Replay) (m : Machine) → StandsFor setup armed s m → s.outstanding ≡ 0 → m.outstanding ≡ []
 none_out setup armed s m h over = no_length m.outstanding (sym over ∙ h.counted)
 
-no_one_waits : (drives : ℕ → Option DriveKind) (unit : ℕ) (outstanding : List Request) (waiting : List (Waiter Request)) → outstanding ≡ [] → QueueStands drives unit outstanding waiting → waiting ≡ []
+pub no_one_waits : (drives : ℕ → Option DriveKind) (unit : ℕ) (outstanding : List Request) (waiting : List (Waiter Request)) → outstanding ≡ [] → QueueStands drives unit outstanding waiting → waiting ≡ []
 no_one_waits drives unit outstanding [] none q = refl
 no_one_waits drives unit outstanding (w ∷ ws) none q = absurd (none-some w.request (ap (request_of w.request.id) (sym none) ∙ q.each.0.listed))
 

@@ -1,5 +1,5 @@
 -- A replay at rest keeps what every state keeps that a legal beginning reaches, and stands for what its packs hold.
-use Rattle.std.proofs.Common.{◌≡◌, ℕ, true, false, List, [], Option, None, Some, refl, sym, ap, ◌∙◌, subst, arith}
+use Rattle.std.proofs.Common.{◌≡◌, ℕ, false, List, [], Option, None, Some, refl, sym, ap, ◌∙◌, subst}
 use Rattle.std.specs.Prelude.{All, length}
 use Rattle.std.proofs.lemmas.List.Elements.{All-nil}
 use Rattle.pack_geometry.specs.declared.DriveKind.{DriveKind}
@@ -23,9 +23,6 @@ use Rattle.driver_laws.proofs.rules.Hands.{begins}
 use Rattle.driver_laws.proofs.rules.MachineUnits.{Keeps, IsFirst}
 use Rattle.driver_laws.proofs.rules.Kept.{start_kept}
 use Rattle.driver_laws.specs.rules.Rest.{IsAtRest, StartRests}
-
-pub no : false ≡ true → ⊥
-no e = grind (arith, e)
 
 first_by : (act : Act) (goes : _) → goes ≡ false → IsFirst act goes
 first_by (Refusing u i why) goes is = is

@@ -88,7 +88,7 @@ pub data IsPackAt (v : UnitView) (h : Held) : Type 0 where
       → IsPackAt v h
   Transfers : IsAtCommand v.phase → h.write && v.drive.locked ≡ false → IsPackAt v h
 
-some_same : {x y : Deed} → Some x ≡ Some y → x ≡ y
+pub some_same : {x y : Deed} → Some x ≡ Some y → x ≡ y
 some_same e = grind arith
 
 starts_search : (b : Bool) (c s : ℕ) (v : UnitView) (h : Held) → start_by (if b then position.Ready else position.Search c s) v h ≡ deed.Pack → b ≡ false
