@@ -10,23 +10,12 @@ use Rattle.pack_geometry.specs.declared.Place.{Place}
 use Rattle.pack_geometry.specs.Geometry.{block_number}
 use Rattle.pack_geometry.specs.TableSpelling.{Table, IsTable}
 use Rattle.pack_geometry.specs.Homes.{is_place, index_in}
+use Rattle.pack_geometry.proofs.HomeLaws.{same_place}
+use Rattle.pack_geometry.proofs.TableEditLaws.{is_itself, other_place}
 
 -- a proof by the two values of a test
 at : {P : Type 0} → (b : Bool) → (b ≡ true → P) → (b ≡ false → P) → P
 at {P} b one other = (elim b as (λ v. (v ≡ true → P) → (v ≡ false → P) → P) [ true ↦ λ t f. t refl | false ↦ λ t f. f refl ]) one other
-
-same_place : (p q : Place) → is_place p q ≡ true → p ≡ q
-same_place p q e =
-    let c : p.cylinder ≡ q.cylinder = grind (arith, nat_tests) in
-    let t : p.track ≡ q.track = grind (arith, nat_tests) in
-    let s : p.sector ≡ q.sector = grind (arith, nat_tests) in
-    λ i. record { cylinder = c i; track = t i; sector = s i }
-
-is_itself : (p : Place) → is_place p p ≡ true
-is_itself p = grind (arith, nat_tests)
-
-other_place : (p q : Place) → (p ≡ q → ⊥) → is_place p q ≡ false
-other_place p q ne = at (is_place p q) (λ e. absurd (ne (same_place p q e))) (λ e. e)
 
 position_by : (place : Place) (places : List Place) (i : ℕ) → position_or_len (is_place place) places ≡ i → (listed : Bool) → nat_lt i (length places) ≡ listed
     → (if nat_lt (position_or_len (is_place place) places) (length places) then Some (position_or_len (is_place place) places) else None) ≡ (if listed then Some i else None)

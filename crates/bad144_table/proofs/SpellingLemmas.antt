@@ -16,7 +16,7 @@ use Rattle.pack_geometry.specs.declared.Place.{Place}
 use Rattle.pack_geometry.specs.Geometry.{IsInside, block_number}
 use Rattle.pack_geometry.specs.TableFields.{long_at, place_in, IsEnd}
 use Rattle.pack_geometry.specs.TableSpelling.{Table, Spells, head_text, pair_text, pairs_text, table_text}
-use Rattle.pack_geometry.proofs.TableLaws.{spelled_end, spelled_flag, spelled_no_end, spelled_place, spelled_zero, spells_once, table_text-read}
+use Rattle.pack_geometry.proofs.TableLaws.{spelled_end, spelled_flag, spelled_no_end, spelled_place, spelled_zero, spells_once, table_text-read, length-pairs}
 use Rattle.bad144_table.specs.Faults.{IsFirstFault, IsReadUpTo, IsSoundUpTo, Stops}
 use Rattle.bad144_table.specs.Last.{IsAtOrBelowLast}
 use Rattle.bad144_table.specs.declared.spelling.TableFault.{TableFault}
@@ -42,10 +42,6 @@ split_text front rest pair a k la lk = grind (arith, common_steps)
 
 pub four_long : (xs : List ℕ) → 8 ≤ length xs → length (take 4 (drop 4 xs)) ≡ 4
 four_long xs long = grind (arith, common_steps)
-
-length-pairs : (places : List Place) → length (flat_map pair_text places) ≡ 4 * length places
-length-pairs [] = refl
-length-pairs (p ∷ ps) = omega (arith, length-pairs ps)
 
 -- what is written already, and pairs of all ones
 text_parts : (serial n : ℕ) (places : List Place) → 4 * length places + n ≡ 504

@@ -1,6 +1,5 @@
 -- One bit of a row of words.
 use Rattle.std.proofs.Common.{◌≡◌, ◌≢◌, ℕ, ◌+◌, ◌*◌, ◌/◌, ◌%◌, ◌<◌, ◌≤◌, nat_lt, Bool, true, false, List, length, set, get_or, refl, sym, ◌∙◌, ap, arith, get_or-set_same, get_or-set_other}
-use Rattle.std.proofs.lemmas.List.{get_or_past}
 use Rattle.std.specs.Prelude.{◌==◌, if◌then◌else◌}
 use Rattle.std.specs.Int.{bit_at}
 use Rattle.std.proofs.lemmas.Bool.Decides.{nat_tests}
@@ -55,10 +54,3 @@ row-below words i word place e zeros below k lt small = at (nat_lt (k / 64) i) r
         let same : k / 64 ≡ i = omega arith in
         let l : k % 64 < place = omega arith in
         ap (λ w. bit_at (get_or words w 0) (k % 64) == 1) same ∙ ap (λ n. bit_at n (k % 64) == 1) (sym e) ∙ ap (λ b. b == 1) (below (k % 64) l)
-
-pub row-none : (words : List ℕ) → ((j : ℕ) → j < length words → get_or words j 0 ≡ 0) → (k : ℕ) → has_bit words k ≡ false
-row-none words zeros k = at (nat_lt (k / 64) (length words)) refl
-  where
-    at : (b : Bool) → nat_lt (k / 64) (length words) ≡ b → has_bit words k ≡ false
-    at true t = let l : k / 64 < length words = grind (arith, nat_tests) in row-zero words k (zeros (k / 64) l)
-    at false f = let le : length words ≤ k / 64 = grind (arith, nat_tests) in row-zero words k (get_or_past words (k / 64) 0 le)

@@ -1,21 +1,14 @@
 -- A bucket's numbers, linked one behind another: what a chain that is walked gives, and what a new last number changes.
 use Rattle.std.proofs.Common.{◌≡◌, ◌≢◌, ℕ, ◌<◌, ◌≤◌, true, false, List, [], ◌∷◌, ◌++◌, length, set, zero, suc, refl, sym, ◌∙◌, ap, subst, arith, get_or-set_same, get_or-set_other}
-use Rattle.std.specs.Prelude.{◌==◌, if◌then◌else◌, slice_index}
+use Rattle.std.specs.Prelude.{if◌then◌else◌, slice_index}
 use Rattle.std.specs.List.{AllByRecursion}
-use Rattle.std.proofs.lemmas.Bool.{cond-true, cond-false}
-use Rattle.std.proofs.lemmas.Bool.Decides.{nat_tests}
+use Rattle.std.proofs.lemmas.Bool.{cond-true, cond-false, eq-eqb, ne_eqb}
 use Rattle.disksort.specs.Buckets.{chain, bucket, Leads, IsLinked, RunView}
 
 -- no number twice
 abbrev pub Distinct : List ℕ → Type 0
 Distinct [] = Unit {0}
 Distinct (x ∷ xs) = AllByRecursion (λ y. x ≢ y) xs × Distinct xs
-
-pub eq_same : (x y : ℕ) → x ≡ y → (x == y) ≡ true
-eq_same x y e = grind (arith, nat_tests)
-
-pub eq_other : (x y : ℕ) → x ≢ y → (x == y) ≡ false
-eq_other x y e = grind (arith, nat_tests)
 
 -- what holds of each holds of the last one
 pub of_last : (P : ℕ → Type 0) (behind : List ℕ) (x : ℕ) (ys : List ℕ) (last : ℕ) → AllByRecursion P (x ∷ ys) → Leads behind x ys last → P last
@@ -27,10 +20,10 @@ pub chain-is : (behind : List ℕ) (x : ℕ) (ys : List ℕ) (last fuel : ℕ) �
     → chain behind fuel x last ≡ x ∷ ys
 unfolding chain
 chain-is behind x ys last zero leads once le = absurd (omega arith)
-chain-is behind x [] last (suc fuel) leads once le = ap (λ l. x ∷ l) (cond-true _ _ _ (eq_same x last leads))
+chain-is behind x [] last (suc fuel) leads once le = ap (λ l. x ∷ l) (cond-true _ _ _ (eq-eqb x last leads))
 chain-is behind x (y ∷ ys) last (suc fuel) leads once le =
     ap (λ l. x ∷ l)
-    (cond-false _ _ _ (eq_other x last (of_last (λ z. x ≢ z) behind y ys last once.0 leads.1)) ∙
+    (cond-false _ _ _ (ne_eqb x last (of_last (λ z. x ≢ z) behind y ys last once.0 leads.1)) ∙
     ap (λ z. chain behind fuel z last) (sym leads.0) ∙ chain-is behind y ys last fuel leads.1 once.1 (omega arith))
 
 -- a number behind one that is not in the chain

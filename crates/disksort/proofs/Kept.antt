@@ -10,7 +10,7 @@ use Rattle.disksort.specs.SortQueue.{IsKept, cylinder_of, waiting_in}
 use Rattle.disksort.proofs.Chains.{bucket-none, linked-first}
 use Rattle.disksort.proofs.Spells.{Each, each-front, each-back, above, spell-split, spell-empty, spell-at, of_numbers, length-at_cylinder, spell-take}
 use Rattle.disksort.proofs.Onces.{alone}
-use Rattle.disksort.proofs.Takes.{taken}
+use Rattle.disksort.proofs.Takes.{taken, not-both}
 use Rattle.disksort.proofs.Walks.{get-front}
 use Rattle.trace_replay.specs.requests.ServiceOrder.{IsInOrder}
 use Rattle.trace_replay.proofs.requests.ServiceOrderRuns.{drop-in_order}
@@ -18,13 +18,6 @@ use Rattle.trace_replay.proofs.requests.ServiceOrderRuns.{drop-in_order}
 pub from_all : (P : Waiter → Type 0) (ws : List Waiter) → All P ws → Each P ws
 from_all P [] h = tt
 from_all P (w ∷ ws) h = (h 0 w (omega arith), from_all P ws (λ k d lt. h (suc k) d (omega arith)))
-
-pub not-both : (b : Bool) → b ≡ true → b ≡ false → ⊥
-not-both b t f = cc
-
-pub none-or : (b : Bool) → (b ≡ true → ⊥) → b ≡ false
-none-or true h = absurd (h refl)
-none-or false h = refl
 
 pub side : (A : Type 0) (i c : ℕ) → i ≢ c → (i < c → A) → (c < i → A) → A
 side A i c ne f g = at (nat_lt i c) refl

@@ -4,6 +4,7 @@ use Rattle.std.specs.Prelude.{◌⊎◌, slice_index, if◌then◌else◌}
 use Rattle.std.proofs.lemmas.Bool.Decides.{nat_tests}
 use Rattle.std.specs.List.{AllByRecursion}
 use Rattle.std.proofs.lemmas.List.{length-append}
+use Rattle.std.proofs.lemmas.Bool.{false_from_ne_true}
 use Rattle.disksort.specs.declared.Waiter.{Waiter}
 use Rattle.disksort.specs.Buckets.{RunView, IsRun, IsLowest, Once, bucket, at_cylinder, spell, spelled, appended, behind_appended}
 use Rattle.disksort.specs.SortQueue.{IsKept, cylinder_of, waiting_in}
@@ -12,10 +13,11 @@ use Rattle.disksort.proofs.Spells.{Each, each-front, each-back, above, spell-sam
 use Rattle.disksort.proofs.Onces.{Apart, alone, once-swapped, once-queue_with, each-queue_with}
 use Rattle.disksort.proofs.Appends.{IsAppended, IsFramed, IsFree, append-both}
 use Rattle.disksort.proofs.Joins.{join-first, join-second, join-empty}
-use Rattle.disksort.proofs.Kept.{leaving, kept-of, size-at, side, not-both, none-or, spelled-none}
+use Rattle.disksort.proofs.Kept.{leaving, kept-of, size-at, side, spelled-none}
 use Rattle.trace_replay.specs.requests.ServiceOrder.{queue_with, put_behind}
 use Rattle.trace_replay.proofs.requests.ServiceOrderRuns.{queue_with-in_order}
 use Rattle.trace_replay.proofs.requests.ServiceOrderLaws.{length-queue_with}
+use Rattle.disksort.proofs.Takes.{not-both}
 
 -- a run into which a number may go at a cylinder, beside the other run
 pub record IsReady (capacity : ℕ) (run other : RunView) (behind : List ℕ) (c cylinders n : ℕ) : Type 0 where
@@ -103,7 +105,7 @@ second-until : (first second : RunView) (behind : List ℕ) (count capacity cyli
     → Each (λ w. w.cylinder < h) (spelled capacity second behind cylinders)
 second-until first second behind count capacity cylinders h kept lowest =
     spell-until (bucket capacity second behind) h cylinders
-    (λ i le. bucket-none capacity second behind i (none-or (second.marked i) (λ on. let lt : i < h = kept.swept i h on lowest.on in absurd (omega arith))))
+    (λ i le. bucket-none capacity second behind i (false_from_ne_true (second.marked i) (λ on. let lt : i < h = kept.swept i h on lowest.on in absurd (omega arith))))
 
 -- into the second run
 pub ready-second : (first second : RunView) (behind : List ℕ) (count capacity cylinders n c : ℕ) → IsKept first second behind count capacity cylinders → c < cylinders

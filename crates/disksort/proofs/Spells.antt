@@ -2,8 +2,7 @@
 use Rattle.std.proofs.Common.{◌≡◌, ◌≢◌, ℕ, ◌<◌, ◌≤◌, nat_lt, Bool, true, false, List, [], ◌∷◌, ◌++◌, length, zero, suc, refl, sym, ◌∙◌, ap, subst, arith, append_assoc, append-nil}
 use Rattle.std.specs.Prelude.{if◌then◌else◌}
 use Rattle.std.specs.List.{AllByRecursion}
-use Rattle.std.proofs.lemmas.Bool.{cond_both, cond-true, cond-false}
-use Rattle.std.proofs.lemmas.Bool.Decides.{nat_tests}
+use Rattle.std.proofs.lemmas.Bool.{cond_both, cond-true, cond-false, lt-ltb, le-ltb, ltb-true, ltb-false}
 use Rattle.disksort.specs.declared.Waiter.{Waiter}
 use Rattle.disksort.specs.SortQueue.{cylinder_of}
 use Rattle.disksort.specs.Buckets.{at_cylinder, spell}
@@ -45,18 +44,6 @@ unfoldable pub above : (ℕ → List ℕ) → ℕ → ℕ → List Waiter
 above buckets c zero = []
 above buckets c (suc k) = if nat_lt c k then above buckets c k ++ at_cylinder k (buckets k) else []
 
-lt_of : (x y : ℕ) → nat_lt x y ≡ true → x < y
-lt_of x y e = grind (arith, nat_tests)
-
-le_of : (x y : ℕ) → nat_lt x y ≡ false → y ≤ x
-le_of x y e = grind (arith, nat_tests)
-
-to_true : (x y : ℕ) → x < y → nat_lt x y ≡ true
-to_true x y lt = grind (arith, nat_tests)
-
-to_false : (x y : ℕ) → y ≤ x → nat_lt x y ≡ false
-to_false x y le = grind (arith, nat_tests)
-
 pub spell-split : (buckets : ℕ → List ℕ) (c k : ℕ) → c < k
     → spell buckets k ≡ spell buckets c ++ (at_cylinder c (buckets c) ++ above buckets c k)
 unfolding spell above
@@ -65,10 +52,10 @@ spell-split buckets c (suc k) lt =
     let here : List Waiter = at_cylinder k (buckets k) in
     cond_both (nat_lt c k) (above buckets c k ++ here) []
     (λ a. spell buckets k ++ here ≡ spell buckets c ++ (at_cylinder c (buckets c) ++ a))
-    (λ e. ap (λ l. l ++ here) (spell-split buckets c k (lt_of c k e))
+    (λ e. ap (λ l. l ++ here) (spell-split buckets c k (ltb-true c k e))
     ∙ append_assoc (spell buckets c) (at_cylinder c (buckets c) ++ above buckets c k) here
     ∙ ap (λ l. spell buckets c ++ l) (append_assoc (at_cylinder c (buckets c)) (above buckets c k) here))
-    (λ e. let le : k ≤ c = le_of c k e in
+    (λ e. let le : k ≤ c = ltb-false c k e in
     let same : k ≡ c = omega arith in
     subst (λ j. spell buckets k ++ here ≡ spell buckets j ++ (at_cylinder j (buckets j) ++ [])) same (ap (λ l. spell buckets k ++ l) (sym (append-nil here))))
 
@@ -89,7 +76,7 @@ above-same A B c zero h = refl
 above-same A B c (suc k) h =
     if-same (nat_lt c k) _ _ _
     (λ e. ap (λ l. l ++ at_cylinder k (A k)) (above-same A B c k (λ i lo lt. h i lo (omega arith))) ∙
-    ap (λ ns. above B c k ++ at_cylinder k ns) (h k (lt_of c k e) (omega arith)))
+    ap (λ ns. above B c k ++ at_cylinder k ns) (h k (ltb-true c k e) (omega arith)))
 
 pub spell-below : (B : ℕ → List ℕ) (k : ℕ) → Each (λ w. w.cylinder < k) (spell B k)
 unfolding spell
@@ -105,7 +92,7 @@ above-above B c zero = tt
 above-above B c (suc k) =
     cond_both (nat_lt c k) (above B c k ++ at_cylinder k (B k)) [] (Each (λ w. c < w.cylinder))
     (λ e. each-append (λ w. c < w.cylinder) (above B c k) (at_cylinder k (B k)) (above-above B c k)
-    (each-cylinder (λ w. c < w.cylinder) k (B k) (λ n. lt_of c k e)))
+    (each-cylinder (λ w. c < w.cylinder) k (B k) (λ n. ltb-true c k e)))
     (λ e. tt)
 
 none-each : (P : Waiter → Type 0) (c : ℕ) (ns : List ℕ) → ns ≡ [] → Each P (at_cylinder c ns)
@@ -118,8 +105,8 @@ spell-from B h (suc k) none =
     each-append (λ w. h ≤ w.cylinder) (spell B k) (at_cylinder k (B k)) (spell-from B h k none) (here (nat_lt k h) refl)
   where
     here : (b : Bool) → nat_lt k h ≡ b → Each (λ w. h ≤ w.cylinder) (at_cylinder k (B k))
-    here true e = none-each _ k (B k) (none k (lt_of k h e))
-    here false e = each-cylinder _ k (B k) (λ n. le_of k h e)
+    here true e = none-each _ k (B k) (none k (ltb-true k h e))
+    here false e = each-cylinder _ k (B k) (λ n. ltb-false k h e)
 
 pub spell-until : (B : ℕ → List ℕ) (h k : ℕ) → ((i : ℕ) → h ≤ i → B i ≡ []) → Each (λ w. w.cylinder < h) (spell B k)
 unfolding spell
@@ -128,8 +115,8 @@ spell-until B h (suc k) none =
     each-append (λ w. w.cylinder < h) (spell B k) (at_cylinder k (B k)) (spell-until B h k none) (here (nat_lt k h) refl)
   where
     here : (b : Bool) → nat_lt k h ≡ b → Each (λ w. w.cylinder < h) (at_cylinder k (B k))
-    here true e = each-cylinder _ k (B k) (λ n. lt_of k h e)
-    here false e = none-each _ k (B k) (none k (le_of k h e))
+    here true e = each-cylinder _ k (B k) (λ n. ltb-true k h e)
+    here false e = none-each _ k (B k) (none k (ltb-false k h e))
 
 pub spell-empty : (B : ℕ → List ℕ) (k : ℕ) → ((i : ℕ) → i < k → B i ≡ []) → spell B k ≡ []
 unfolding spell
@@ -148,12 +135,12 @@ unfolding above
 above-at P B c zero i lo lt h = absurd (omega arith)
 above-at P B c (suc k) i lo lt h =
     let both : Each P (above B c k ++ at_cylinder k (B k)) =
-    subst (Each P) (cond-true (nat_lt c k) (above B c k ++ at_cylinder k (B k)) [] (to_true c k (omega arith))) h in
-    at (nat_lt i k) refl (λ e. above-at P B c k i lo (lt_of i k e) (each-front P (above B c k) _ both)) (each-back P (above B c k) _ both)
+    subst (Each P) (cond-true (nat_lt c k) (above B c k ++ at_cylinder k (B k)) [] (lt-ltb c k (omega arith))) h in
+    at (nat_lt i k) refl (λ e. above-at P B c k i lo (ltb-true i k e) (each-front P (above B c k) _ both)) (each-back P (above B c k) _ both)
   where
     at : (b : Bool) → nat_lt i k ≡ b → (nat_lt i k ≡ true → Each P (at_cylinder i (B i))) → Each P (at_cylinder k (B k)) → Each P (at_cylinder i (B i))
     at true e f last = f e
-    at false e f last = let le : k ≤ i = le_of i k e in let same : k ≡ i = omega arith in subst (λ j. Each P (at_cylinder j (B j))) same last
+    at false e f last = let le : k ≤ i = ltb-false i k e in let same : k ≡ i = omega arith in subst (λ j. Each P (at_cylinder j (B j))) same last
 
 pub of_numbers : (Q : ℕ → Type 0) (c : ℕ) (ns : List ℕ) → Each (λ w. Q w.number) (at_cylinder c ns) → AllByRecursion Q ns
 of_numbers Q c [] h = tt
@@ -163,8 +150,8 @@ of_numbers Q c (n ∷ ns) h = (h.0, of_numbers Q c ns h.1)
 pub put_behind-at : (x : Waiter) (P Q : List Waiter) → Each (λ w. w.cylinder ≤ x.cylinder) P → Each (λ w. x.cylinder < w.cylinder) Q
     → put_behind cylinder_of x (P ++ Q) ≡ P ++ x ∷ Q
 put_behind-at x [] [] h k = refl
-put_behind-at x [] (q ∷ qs) h k = cond-true _ _ _ (to_true x.cylinder q.cylinder k.0)
-put_behind-at x (p ∷ ps) Q h k = cond-false _ _ _ (to_false x.cylinder p.cylinder h.0) ∙ ap (λ l. p ∷ l) (put_behind-at x ps Q h.1 k)
+put_behind-at x [] (q ∷ qs) h k = cond-true _ _ _ (lt-ltb x.cylinder q.cylinder k.0)
+put_behind-at x (p ∷ ps) Q h k = cond-false _ _ _ (le-ltb x.cylinder p.cylinder h.0) ∙ ap (λ l. p ∷ l) (put_behind-at x ps Q h.1 k)
 
 -- one more number in one bucket
 pub spell-put : (A B : ℕ → List ℕ) (c k n : ℕ) → c < k → ((i : ℕ) → i ≢ c → i < k → B i ≡ A i) → B c ≡ A c ++ n ∷ []

@@ -1,10 +1,10 @@
 -- What the first number of a bucket leaves behind.
 use Rattle.std.proofs.Common.{◌≡◌, ◌≢◌, ℕ, ◌<◌, ◌≤◌, Bool, true, false, List, [], ◌∷◌, length, set, refl, sym, ◌∙◌, ap, subst, arith, get_or-set_same, get_or-set_other, length-set}
 use Rattle.std.specs.Prelude.{◌==◌, slice_index}
-use Rattle.std.proofs.lemmas.Bool.{cond-true, cond-false}
+use Rattle.std.proofs.lemmas.Bool.{cond-true, cond-false, eq-eqb, ne_eqb}
 use Rattle.std.proofs.lemmas.Bool.Decides.{nat_tests}
 use Rattle.disksort.specs.Buckets.{RunView, IsRun, IsLinked, Leads, bucket, with_bit, without_first}
-use Rattle.disksort.proofs.Chains.{Distinct, eq_same, eq_other, of_last, bucket-none, bucket-same, bucket-is}
+use Rattle.disksort.proofs.Chains.{Distinct, of_last, bucket-none, bucket-same, bucket-is}
 
 pub record IsTaken (capacity : ℕ) (run new : RunView) (behind : List ℕ) (c cylinders : ℕ) (ns : List ℕ) : Type 0 where
   pub own : bucket capacity run behind c ≡ slice_index run.firsts c ∷ ns
@@ -14,10 +14,10 @@ pub record IsTaken (capacity : ℕ) (run new : RunView) (behind : List ℕ) (c c
   pub marks : (i : ℕ) → new.marked i ≡ true → run.marked i ≡ true
 
 pub with_bit-here : (marked : ℕ → Bool) (c : ℕ) (on : Bool) → with_bit marked c on c ≡ on
-with_bit-here marked c on = cond-true _ _ _ (eq_same c c refl)
+with_bit-here marked c on = cond-true _ _ _ (eq-eqb c c refl)
 
 pub with_bit-other : (marked : ℕ → Bool) (c i : ℕ) (on : Bool) → i ≢ c → with_bit marked c on i ≡ marked i
-with_bit-other marked c i on ne = cond-false _ _ _ (eq_other i c ne)
+with_bit-other marked c i on ne = cond-false _ _ _ (ne_eqb i c ne)
 
 -- this cylinder, or another
 pub here-or : (A : Type 0) (i c : ℕ) → (i ≡ c → A) → (i ≢ c → A) → A
@@ -27,7 +27,7 @@ here-or A i c f g = at (i == c) refl
     at true e = f (grind (arith, nat_tests))
     at false e = g (grind (arith, nat_tests))
 
-not-both : (b : Bool) → b ≡ true → b ≡ false → ⊥
+pub not-both : (b : Bool) → b ≡ true → b ≡ false → ⊥
 not-both b t f = cc
 
 -- the only one of its bucket
@@ -92,14 +92,14 @@ by_list : (capacity : ℕ) (run : RunView) (behind : List ℕ) (c cylinders : �
 by_list capacity run behind c cylinders [] is on own linked once le = absurd linked
 by_list capacity run behind c cylinders (x ∷ []) is on own linked once le = (
   [],
-  subst (λ r. IsTaken capacity run r behind c cylinders []) (sym (cond-true _ _ _ (eq_same _ _ (sym linked.0 ∙ linked.1))))
+  subst (λ r. IsTaken capacity run r behind c cylinders []) (sym (cond-true _ _ _ (eq-eqb _ _ (sym linked.0 ∙ linked.1))))
       (taken-one capacity run behind c cylinders is on (own ∙ ap (λ n. n ∷ []) linked.0)),
 )
 by_list capacity run behind c cylinders (x ∷ y ∷ ys) is on own linked once le =
     let other : slice_index run.firsts c ≢ slice_index run.lasts c =
     λ e. of_last (λ z. x ≢ z) behind y ys (slice_index run.lasts c) once.0 linked.1.1 (linked.0 ∙ e) in (
       y ∷ ys,
-      subst (λ r. IsTaken capacity run r behind c cylinders (y ∷ ys)) (sym (cond-false _ _ _ (eq_other _ _ other)))
+      subst (λ r. IsTaken capacity run r behind c cylinders (y ∷ ys)) (sym (cond-false _ _ _ (ne_eqb _ _ other)))
           (taken-more capacity run behind c cylinders y ys is on (own ∙ ap (λ n. n ∷ y ∷ ys) linked.0) (linked.1.0 ∙ ap (slice_index behind) linked.0) linked.1.1 once.1
           (omega arith)),
     )

@@ -2,11 +2,11 @@
 use Rattle.std.proofs.Common.{◌≡◌, ◌≢◌, ℕ, ◌+◌, ◌-◌, ◌<◌, ◌≤◌, true, List, [], ◌∷◌, ◌++◌, length, zero, suc, refl, sym, ◌∙◌, ap, subst, arith}
 use Rattle.std.specs.Prelude.{slice_index, slice_get, Some, None, Option}
 use Rattle.std.specs.List.{AllByRecursion}
-use Rattle.std.proofs.lemmas.Bool.{cond-true, cond-false}
+use Rattle.std.proofs.lemmas.Bool.{cond-true, cond-false, eq-eqb, ne_eqb}
 use Rattle.std.proofs.lemmas.List.{length-append}
 use Rattle.disksort.specs.declared.Waiter.{Waiter}
 use Rattle.disksort.specs.Buckets.{chain, bucket, at_cylinder, spell, IsLinked, IsRun, RunView}
-use Rattle.disksort.proofs.Chains.{eq_same, eq_other, bucket-marked}
+use Rattle.disksort.proofs.Chains.{bucket-marked}
 use Rattle.disksort.proofs.Spells.{Each, above, spell-split, spell-at, of_numbers, length-at_cylinder}
 
 -- what is left of a bucket at one of its numbers, where so many are behind the walk
@@ -16,27 +16,18 @@ pub record IsWalk (behind whole : List ℕ) (number last fuel done : ℕ) : Type
   pub size : length whole ≡ done + length (chain behind fuel number last)
   pub get : (i : ℕ) → done ≤ i → slice_get whole i ≡ slice_get (chain behind fuel number last) (i - done)
 
-pub walk-begins : (behind : List ℕ) (first last fuel : ℕ) → IsLinked behind (chain behind fuel first last) first last
-    → AllByRecursion (λ n. n < length behind) (chain behind fuel first last) → IsWalk behind (chain behind fuel first last) first last fuel 0
-walk-begins behind first last fuel linked inside = record {
-  linked = linked;
-  inside = inside;
-  size = omega arith;
-  get = λ i le. let e : i ≡ i - 0 = omega arith in ap (slice_get (chain behind fuel first last)) e;
-}
-
 -- at its last number
 chain-one : (behind : List ℕ) (number last fuel : ℕ) → number ≡ last → IsLinked behind (chain behind fuel number last) number last
     → chain behind fuel number last ≡ number ∷ []
 unfolding chain
 chain-one behind number last zero e linked = absurd linked
-chain-one behind number last (suc fuel) e linked = ap (λ l. number ∷ l) (cond-true _ _ _ (eq_same number last e))
+chain-one behind number last (suc fuel) e linked = ap (λ l. number ∷ l) (cond-true _ _ _ (eq-eqb number last e))
 
 -- at another
 chain-more : (behind : List ℕ) (number last fuel : ℕ) → number ≢ last → IsLinked behind (chain behind (suc fuel) number last) number last
     → chain behind (suc fuel) number last ≡ number ∷ chain behind fuel (slice_index behind number) last
 unfolding chain
-chain-more behind number last fuel ne linked = ap (λ l. number ∷ l) (cond-false _ _ _ (eq_other number last ne))
+chain-more behind number last fuel ne linked = ap (λ l. number ∷ l) (cond-false _ _ _ (ne_eqb number last ne))
 
 chain-some : (behind : List ℕ) (number last : ℕ) → IsLinked behind (chain behind zero number last) number last → ⊥
 unfolding chain
@@ -66,21 +57,6 @@ walk-goes behind whole number last (suc fuel) done walk ne =
   where
     next : (rest : List ℕ) (j k : ℕ) → j ≡ suc k → slice_get (number ∷ rest) j ≡ slice_get rest k
     next rest j k e = ap (slice_get (number ∷ rest)) e
-
-pub walk-here : (behind whole : List ℕ) (number last fuel done : ℕ) → IsWalk behind whole number last fuel done → number < length behind
-walk-here behind whole number last fuel done walk = at (chain behind fuel number last) walk.linked walk.inside
-  where
-    at : (l : List ℕ) → IsLinked behind l number last → AllByRecursion (λ n. n < length behind) l → number < length behind
-    at [] linked inside = absurd linked
-    at (x ∷ xs) linked inside = subst (λ n. n < length behind) linked.0 inside.0
-
-pub walk-gives : (behind whole : List ℕ) (number last fuel done : ℕ) → IsWalk behind whole number last fuel done → slice_get whole done ≡ Some number
-walk-gives behind whole number last fuel done walk =
-    walk.get done (omega arith) ∙ at (chain behind fuel number last) walk.linked (done - done) (omega arith)
-  where
-    at : (l : List ℕ) → IsLinked behind l number last → (k : ℕ) → k ≡ 0 → slice_get l k ≡ Some number
-    at [] linked k e = absurd linked
-    at (x ∷ xs) linked k e = ap (slice_get (x ∷ xs)) e ∙ ap Some linked.0
 
 -- along the buckets
 pub get-behind : (xs ys : List Waiter) (k : ℕ) → slice_get (xs ++ ys) (length xs + k) ≡ slice_get ys k

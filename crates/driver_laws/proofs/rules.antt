@@ -12,7 +12,6 @@ pub mod Known
 pub mod KnownLines
 pub mod KnownScript
 pub mod Answered
-pub mod Going
 pub mod Totals
 pub mod Lives
 pub mod Failing
@@ -53,7 +52,7 @@ mod PromisesAsked
 mod Begun
 pub mod Few
 mod Complete
-mod Fronts
+pub mod Fronts
 pub mod Quiet
 pub mod Drives
 pub mod WaitedStages

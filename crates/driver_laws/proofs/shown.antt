@@ -32,12 +32,6 @@ pub mod Changes
 pub mod Joins
 pub mod Rest
 pub mod Writes
-pub mod Wishes
-pub mod Coming
-pub mod Working
-pub mod Brought
-pub mod Speech
-pub mod Begun
 pub mod Told
 pub mod Passes
 pub mod Joined

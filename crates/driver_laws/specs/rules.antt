@@ -1,5 +1,4 @@
 pub mod Consistent
-pub mod Working
 pub mod Grounds
 pub mod Strikes
 pub mod Commands

@@ -1,6 +1,8 @@
 -- What is known where a deed is due: the phase that calls for it, and for a command that the drive may be given it.
 use Rattle.std.proofs.Common.{◌≡◌, inl, inr, ℕ, ◌+◌, Bool, true, false, List, [], ◌∷◌, drop, Option, Some, None, refl, sym, ap, subst, arith}
 use Rattle.std.specs.Prelude.{if◌then◌else◌, not, ◌&&◌, ◌==◌, ◌/◌}
+use Rattle.std.proofs.lemmas.Bool.{not-true, not-false}
+pub use Rattle.std.proofs.lemmas.Bool.{false≢true as false_true}
 use Rattle.drive_registers.specs.Codes.{offset_field}
 use Rattle.hardware_table.specs.declared.Moved.{Moved}
 use Rattle.hardware_table.specs.declared.Moved.TheVariants as verdict
@@ -16,15 +18,12 @@ use Rattle.driver_machine.specs.declared.RetryStep.{RetryStep}
 use Rattle.driver_machine.specs.declared.Task.{Task}
 use Rattle.driver_machine.specs.declared.Task.TheVariants.{Clear, Judge, Steps, Command, GiveUp}
 use Rattle.driver_machine.specs.declared.Phase.{Phase}
-use Rattle.driver_machine.specs.declared.Phase.TheVariants.{Waiting, Positioning, Queued, Transferring, Due}
+use Rattle.driver_machine.specs.declared.Phase.TheVariants.{Waiting, Queued, Due}
 use Rattle.driver_machine.specs.World.{UnitView, Held, transfer_of}
 use Rattle.driver_machine.specs.Acts as deed
 use Rattle.driver_machine.specs.Acts.{Deed}
 use Rattle.driver_machine.specs.Due.{target_of, position_of, done_with, steps_of, sensed, failed, start_by, forward_by, finished, judged, step_of, command_of, deed_for, next_by, next_of}
 use Rattle.driver_machine.specs.DueFacts.{MayGo, IsJudged, Ends, Offline, Locked, Left, Unforwarded, Tried, Finished, IsDue, Calls, AtStart, AtStep, AtTransfer, AtChoice, IsAtCommand}
-
-pub false_true : false ≡ true → ⊥
-false_true e = grind arith
 
 pub none_some : {A : Type 0} {x : A} → None ≡ Some x → ⊥
 none_some e = grind arith
@@ -37,14 +36,6 @@ ready_search e = grind arith
 
 sector_same : {c s cylinder sector : ℕ} → position.Search c s ≡ position.Search cylinder sector → s ≡ sector
 sector_same e = grind arith
-
-was_off : (b : Bool) → not b ≡ true → b ≡ false
-was_off true e = absurd (false_true e)
-was_off false e = refl
-
-pub was_on : (b : Bool) → not b ≡ false → b ≡ true
-was_on true e = refl
-was_on false e = absurd (false_true (sym e))
 
 search_same : (b : Bool) (c s cylinder sector : ℕ) → (if b then position.Ready else position.Search c s) ≡ position.Search cylinder sector
     → (if b then position.Ready else position.Search c s) ≡ position.Search c sector
@@ -68,12 +59,12 @@ sensed_due : (writes : Bool) (v : UnitView) (h : Held) (command : Deed) → Call
 sensed_due writes v h command called go locked =
     either (IsDue v h) (not v.drive.online) (failed cause.Offline 0 v)
     (if writes && v.drive.locked then failed cause.Locked 0 v else if v.drive.valid then command else deed.Pack)
-    (λ off. Offline (was_off v.drive.online off) called)
+    (λ off. Offline (not-true v.drive.online off) called)
     (λ on. either (IsDue v h) (writes && v.drive.locked) (failed cause.Locked 0 v) (if v.drive.valid then command else deed.Pack)
-    (λ is. locked (was_on v.drive.online on) is)
+    (λ is. locked (not-false v.drive.online on) is)
     (λ free. either (IsDue v h) v.drive.valid command deed.Pack
-    (λ valid. go (record { online = was_on v.drive.online on; valid = valid; unlocked = free }))
-    (λ invalid. (was_on v.drive.online on, invalid, called))))
+    (λ valid. go (record { online = not-false v.drive.online on; valid = valid; unlocked = free }))
+    (λ invalid. (not-false v.drive.online on, invalid, called))))
 
 -- what is judged
 forward_due : (found : Option ℕ) (moved : ℕ) (v : UnitView) (h : Held) → IsJudged v moved verdict.Marked

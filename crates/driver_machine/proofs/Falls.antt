@@ -1,5 +1,5 @@
 -- Each deed that is due leaves fewer to come, or a unit that waits for an event; so the fuel of an event is never short.
-use Rattle.std.proofs.Common.{◌≡◌, inl, inr, ◌⊎◌, ℕ, ◌+◌, ◌*◌, ◌<◌, ◌≤◌, Bool, true, List, [], ◌∷◌, length, drop, Some, refl, sym, ap, subst, arith, ◌∙◌}
+use Rattle.std.proofs.Common.{◌≡◌, inl, inr, ◌⊎◌, ℕ, ◌+◌, ◌<◌, ◌≤◌, Bool, true, List, [], ◌∷◌, length, drop, Some, refl, sym, ap, subst, arith, ◌∙◌}
 use Rattle.std.specs.Prelude.{if◌then◌else◌, ◌==◌}
 use Rattle.drive_registers.specs.Codes.{offset_field}
 use Rattle.hardware_table.specs.declared.Moved.{Moved}
@@ -23,13 +23,6 @@ use Rattle.driver_machine.proofs.DueFacts.{due_facts}
 -- a unit after a deed waits for an event, or fewer deeds are to come
 abbrev pub Falls : UnitView → UnitView → Type 0
 Falls old new = (is_resting new.phase ≡ true) ⊎ (deeds_left new < deeds_left old)
-
--- the parts of the number
-abbrev pub total : (q p b o : ℕ) → ℕ
-total q p b o = 3 * q + p + b + o
-
-less : (q p q' p' b o : ℕ) → 3 * q' + p' < 3 * q + p → total q' p' b o < total q p b o
-less q p q' p' b o fewer = omega (arith, fewer)
 
 abbrev invalid : UnitView → ℕ
 invalid v = if v.drive.valid then 0 else 1

@@ -9,7 +9,8 @@ use Rattle.driver_machine.specs.World.{World, UnitView, AdapterView, unit_at, ad
 use Rattle.driver_machine.specs.Acts as deed
 use Rattle.driver_machine.specs.Acts.{Deed, Scene, with_scene}
 use Rattle.driver_machine.specs.Frame.{IsSame}
-use Rattle.driver_machine.proofs.KindStays.{performed_kind, arrived_kind, stepped_kind, stepping_kind, searching_kind, transferring_kind, centred_kind}
+use Rattle.driver_machine.proofs.KindStays.{arrived_kind, stepping_kind, searching_kind, transferring_kind, centred_kind}
+use Rattle.trace_replay.proofs.Kept.{performed_kind, stepped_kind}
 
 -- OTHERS are as they were, whatever the deed.
 pub other_unit : (w : World) (u p x : ℕ) (s : Scene) → x ≢ u → unit_at (with_scene w u p s) x ≡ unit_at w x

@@ -1,46 +1,31 @@
 -- THE KIND of a drive never changes, whatever it is made to do.
 use Rattle.std.proofs.Common.{◌≡◌, ℕ, Bool, true, false, refl}
-use Rattle.std.specs.Prelude.{if◌then◌else◌, ◌==◌}
+use Rattle.std.specs.Prelude.{if◌then◌else◌}
 use Rattle.pack_geometry.specs.declared.DriveKind.{DriveKind}
-use Rattle.pack_geometry.specs.declared.DriveKind.TheVariants.{Rp06, Rm03, Rm05}
+use Rattle.pack_geometry.specs.declared.DriveKind.TheVariants.{Rp06}
 use Rattle.pack_geometry.specs.declared.Place.{Place}
 use Rattle.pack_geometry.specs.Geometry.{place_at}
-use Rattle.drive_registers.specs.declared.Function.{Function}
 use Rattle.drive_registers.specs.declared.Function.TheVariants as function
-use Rattle.drive_registers.specs.Codes.{function_code, offset_code}
+use Rattle.drive_registers.specs.Codes.{offset_code}
 use Rattle.hardware_table.specs.declared.FaultKind.{FaultKind}
 use Rattle.hardware_table.specs.declared.FaultKind.TheVariants as fault
 use Rattle.hardware_table.specs.declared.Moved.{Moved}
 use Rattle.hardware_table.specs.declared.Moved.TheVariants as verdict
 use Rattle.hardware_table.specs.declared.Register.TheVariants as register
-use Rattle.hardware_table.specs.declared.Work.{Work}
 use Rattle.hardware_table.specs.declared.Work.TheVariants as work
 use Rattle.hardware_table.specs.Drive.{DriveState, with_register}
-use Rattle.hardware_table.specs.Functions.{effect, refusals, refused, performed}
-use Rattle.hardware_table.specs.Events.{arrived, arrived_from, transfer_ended, online_set}
+use Rattle.hardware_table.specs.Functions.{performed}
+use Rattle.hardware_table.specs.Events.{arrived}
 use Rattle.hardware_table.specs.Moves.{after_move, with_mark_bits, with_fault_bits, fault_used}
-use Rattle.hardware_table.specs.Adapter.{AdapterState, drive_stepped, stepped, next_block}
 use Rattle.driver_machine.specs.Passes.{addressed, search_place, offset_written, transfer_function}
 use Rattle.driver_machine.specs.declared.RetryStep.{RetryStep}
 use Rattle.driver_machine.specs.declared.RetryStep.TheVariants.{Recalibrate, Seek, Offset}
 use Rattle.driver_machine.specs.Acts.{stepping, searching, transferring, centred}
-
-effect_kind : (f : Function) (d : DriveState) → (effect f d).kind ≡ d.kind
-effect_kind function.Nop d = refl
-effect_kind other d = refl
+use Rattle.trace_replay.proofs.Kept.{performed_kind, arrived_kind as arrived_by}
 
 either : {A : Type 0} (P : A → Type 0) (b : Bool) (x y : A) → P x → P y → P (if b then x else y)
 either P true x y holds fails = holds
 either P false x y holds fails = fails
-
-pub performed_kind : (f : Function) (d : DriveState) → (performed f d).kind ≡ d.kind
-performed_kind f d =
-    either (λ (e : DriveState). e.kind ≡ d.kind) (refusals f d == 0) (effect f (record d { cs1 = function_code f }))
-    (refused (refusals f d) (record d { cs1 = function_code f })) (effect_kind f (record d { cs1 = function_code f })) refl
-
-pub arrived_by : (w : Work) (d : DriveState) → (arrived_from w d).kind ≡ d.kind
-arrived_by work.Ready d = refl
-arrived_by other d = refl
 
 pub arrived_kind : (d : DriveState) → (arrived d).kind ≡ d.kind
 arrived_kind d = arrived_by d.work d
@@ -58,11 +43,6 @@ moved_kind verdict.Marked block d = marked_kind d.kind d
 moved_kind (verdict.Faulted kind) block d = fault_kind kind (fault_used kind d)
 moved_kind other block d = refl
 
-pub stepped_kind : (v : Moved) (a : AdapterState) (d : DriveState) → (drive_stepped v a d).kind ≡ d.kind
-stepped_kind v a d =
-    either (λ (e : DriveState). e.kind ≡ d.kind) (stepped v a).completion (transfer_ended (after_move v (next_block a) d))
-    (after_move v (next_block a) d) (moved_kind v (next_block a) d) (moved_kind v (next_block a) d)
-
 pub stepping_kind : (step : RetryStep) (d : DriveState) → (stepping step d).kind ≡ d.kind
 stepping_kind Recalibrate d = performed_kind function.Recal d
 stepping_kind (Seek cylinder) d = performed_kind function.Seek (with_register register.Dc cylinder d)
@@ -76,7 +56,3 @@ transferring_kind write block d = performed_kind (transfer_function write) (addr
 
 pub centred_kind : (d : DriveState) → (centred d).kind ≡ d.kind
 centred_kind d = performed_kind function.Centre d
-
-pub online_kind : (on : Bool) (d : DriveState) → (online_set on d).kind ≡ d.kind
-online_kind true d = refl
-online_kind false d = refl

@@ -4,9 +4,9 @@ use Rattle.std.specs.Prelude.{slice_index_or, if◌then◌else◌, ◌==◌}
 use Rattle.drive_registers.specs.Codes.{offset_field}
 use Rattle.driver_machine.specs.Passes.{Waiter}
 use Rattle.driver_machine.specs.declared.Task.{Task}
-use Rattle.driver_machine.specs.declared.Task.TheVariants.{Clear, Judge, Steps, Command, GiveUp}
+use Rattle.driver_machine.specs.declared.Task.TheVariants.{Judge}
 use Rattle.driver_machine.specs.declared.Phase.{Phase}
-use Rattle.driver_machine.specs.declared.Phase.TheVariants.{Waiting, Positioning, Queued, Transferring, Due}
+use Rattle.driver_machine.specs.declared.Phase.TheVariants.{Waiting, Due}
 use Rattle.driver_machine.specs.World.{World, UnitView, Held, unit_at, no_unit, held_in, slot_in_hand}
 use Rattle.driver_machine.specs.Acts.{Deed, Act, Of, Scene, effect, scene_of, with_scene, after, after_all}
 use Rattle.driver_machine.specs.Due.{next_of, next_by}

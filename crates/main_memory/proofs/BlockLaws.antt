@@ -1,5 +1,5 @@
 -- Laws of the blocks of buffers.
-use Rattle.std.proofs.Common.{◌≡◌, ◌≢◌, ◌⊎◌, inl, inr, ℕ, zero, suc, ◌+◌, ◌-◌, ◌*◌, ◌<◌, ◌≤◌, ◌==◌, nat_lt, Bool, if◌then◌else◌, List, [], ◌∷◌, take, drop, length, get_or, refl, sym, ap, ◌∙◌, subst, arith}
+use Rattle.std.proofs.Common.{◌≡◌, ◌≢◌, ◌⊎◌, inl, inr, ℕ, zero, suc, ◌+◌, ◌-◌, ◌*◌, ◌<◌, ◌≤◌, ◌==◌, nat_lt, Bool, if◌then◌else◌, List, [], take, drop, length, get_or, refl, sym, ap, ◌∙◌, subst, arith}
 use Rattle.std.proofs.Math.ListN.{set, drop_of_length-le}
 use Rattle.std.proofs.lemmas.Bool.{ltb-true, ltb-false, eqb-true, eqb-false}
 use Rattle.std.proofs.lemmas.List.{get_or_past, take_all}
@@ -12,7 +12,8 @@ use Rattle.main_memory.specs.Frames.{frames_needed}
 use Rattle.main_memory.specs.Blocks.{Loan, IsLoan, IsSpan, in_frame, in_next, size_at, place_in, span_of, bytes_in, with_bytes_in, blocks_from}
 use Rattle.main_memory.specs.Memory.{Memory, IsLent, AreApart, with_block, blocks_of}
 use Rattle.main_memory.proofs.FrameLaws.{by_test}
-use Rattle.main_memory.proofs.ByteLaws.{Fits, with_part-none, length-front, Outside, length-joined, length-spread, joined-spread, spread-spread, spread-joined, joined-spread_other, joined_first, joined_second, set_first, set_second}
+use Rattle.main_memory.proofs.ByteLaws.{Fits, with_part-none, length-front, Outside, length-joined, length-spread, joined-spread, joined-spread_other, joined_first, joined_second, set_first, set_second}
+use Rattle.main_memory.proofs.LendLaws.{contains_at}
 
 -- two spans that share no byte of memory: their frames differ, but that one may end in a frame where the other begins
 pub record AreSeparate (span other : Span) : Type 0 where
@@ -53,18 +54,6 @@ pub bytes_in-with_bytes_in : (span : Span) (block bytes : List ℕ) → IsSpan s
 unfolding bytes_in with_bytes_in
 bytes_in-with_bytes_in span block bytes is whole size =
     joined-spread (512 * span.frame + span.offset) (in_frame span) (512 * span.next) (in_next span) block bytes (whole_block span block is whole) (fits_span span _ is size)
-
--- the last write counts
-pub with_bytes_in-twice : (span : Span) (block old bytes : List ℕ) → IsSpan span → length block ≡ span.len → length old ≡ span.len → length bytes ≡ 8388608
-    → with_bytes_in span block (with_bytes_in span old bytes) ≡ with_bytes_in span block bytes
-unfolding with_bytes_in
-with_bytes_in-twice span block old bytes is whole old_whole size =
-    spread-spread (512 * span.frame + span.offset) (in_frame span) (512 * span.next) (in_next span) block bytes (whole_block span block is whole) (fits_span span _ is size) old (whole_block span old is old_whole)
-
--- a block written over itself
-pub with_bytes_in-same : (span : Span) (bytes : List ℕ) → IsSpan span → length bytes ≡ 8388608 → with_bytes_in span (bytes_in span bytes) bytes ≡ bytes
-unfolding bytes_in with_bytes_in
-with_bytes_in-same span bytes is size = spread-joined (512 * span.frame + span.offset) (in_frame span) (512 * span.next) (in_next span) bytes (fits_span span _ is size)
 
 -- a block in a span that is one whole frame
 pub with_bytes_in-whole : (span : Span) (block bytes : List ℕ) → span.offset ≡ 0 → span.len ≡ 512 → length block ≡ 512 → with_bytes_in span block bytes ≡ with_part (512 * span.frame) block bytes
@@ -122,14 +111,6 @@ bytes_in-with_bytes_in_other span other block bytes is other_is separate whole s
     (512 * other.frame + other.offset) (in_frame other) (512 * other.next) (in_next other) (fits_span other _ other_is size)
     (first_outside span other is other_is separate)
     (second_outside span other is other_is separate)
-
-contains_at : (xs : List ℕ) (i : ℕ) → i < length xs → Contains xs (get_or xs i 0)
-contains_at xs i inside = (i, inside, get_or_default xs i inside)
-  where
-    get_or_default : (xs : List ℕ) (i : ℕ) → i < length xs → get_or xs i (get_or xs i 0) ≡ get_or xs i 0
-    get_or_default [] i inside = absurd (omega arith)
-    get_or_default (x ∷ xs) zero inside = refl
-    get_or_default (x ∷ xs) (suc i) inside = get_or_default xs i (omega arith)
 
 -- the last block has what the buffer has of it, each other one 512 bytes
 pub by_size : (loan : Loan) (k : ℕ) {X : Type 0} → (k + 1 ≡ loan.count → size_at loan k ≡ loan.last → X) → (k + 1 ≢ loan.count → size_at loan k ≡ 512 → X) → X

@@ -197,21 +197,6 @@ module _ (a s c o : ℕ) (block bytes : List ℕ) (whole : length block ≡ s + 
       same_number_lists _ _ (len ∙ sym whole) (λ k h.
       by_test (nat_lt k s) (λ lt. read_first k (ltb-true _ _ lt)) (λ ge. read_second k (ltb-false _ _ ge) (omega (arith, len))))
 
-  -- and can be spread over what was spread before
-  pub spread-spread : (old : List ℕ) → length old ≡ s + o → spread a s c o block (spread a s c o old bytes) ≡ spread a s c o block bytes
-  spread-spread old old_whole =
-      let before : Fits a s c o (length (spread a s c o old bytes)) = fits_after old old_whole in
-      let len : length (spread a s c o block (spread a s c o old bytes)) ≡ length (spread a s c o block bytes) =
-      length-spread a s c o block (spread a s c o old bytes) whole before ∙ length-spread a s c o old bytes old_whole fits ∙ sym (length-spread a s c o block bytes whole fits) in
-      same_number_lists _ _ len (λ i h. by_place i a s c o
-      (λ low high. spread_second a s c o block (spread a s c o old bytes) whole before i low high ∙ sym (spread_second a s c o block bytes whole fits i low high))
-      (λ out low high. spread_first a s c o block (spread a s c o old bytes) whole before i out low high ∙ sym (spread_first a s c o block bytes whole fits i out low high))
-      (λ out_c out_a. spread_outside a s c o block (spread a s c o old bytes) whole before i out_c out_a ∙ spread_outside a s c o old bytes old_whole fits i out_c out_a
-      ∙ sym (spread_outside a s c o block bytes whole fits i out_c out_a)))
-    where
-      fits_after : (old : List ℕ) → length old ≡ s + o → Fits a s c o (length (spread a s c o old bytes))
-      fits_after old old_whole = record { first = omega (arith, fits.first, length-spread a s c o old bytes old_whole fits); second = omega (arith, fits.second, length-spread a s c o old bytes old_whole fits); apart = fits.apart }
-
   -- parts apart from it stay
   pub joined-spread_other : (a' s' c' o' : ℕ) → Fits a' s' c' o' (length bytes)
       → ((k : ℕ) → k < s' → Outside (a' + k) a s × Outside (a' + k) c o) → ((k : ℕ) → k < o' → Outside (c' + k) a s × Outside (c' + k) c o)
@@ -233,22 +218,6 @@ module _ (a s c o : ℕ) (block bytes : List ℕ) (whole : length block ≡ s + 
       joined_second a' s' c' o' all there k low high
       ∙ spread_outside a s c o block bytes whole fits (c' + (k - s')) (second (k - s') inside).1 (second (k - s') inside).0
       ∙ sym (joined_second a' s' c' o' bytes others k low high)))
-
-module _ (a s c o : ℕ) (bytes : List ℕ) (fits : Fits a s c o (length bytes)) where
-  -- what was read can be spread again
-  pub spread-joined : spread a s c o (joined a s c o bytes) bytes ≡ bytes
-  spread-joined =
-      let whole : length (joined a s c o bytes) ≡ s + o = length-joined a s c o bytes fits in
-      same_number_lists _ _ (length-spread a s c o (joined a s c o bytes) bytes whole fits) (λ i h. by_place i a s c o
-      (λ low high.
-      let back : c + ((s + (i - c)) - s) ≡ i = omega arith in
-      spread_second a s c o (joined a s c o bytes) bytes whole fits i low high
-      ∙ joined_second a s c o bytes fits (s + (i - c)) (omega arith) (omega arith) ∙ ap (λ (j : ℕ). get_or bytes j 0) back)
-      (λ out low high.
-      let back : a + (i - a) ≡ i = omega arith in
-      spread_first a s c o (joined a s c o bytes) bytes whole fits i out low high
-      ∙ joined_first a s c o bytes fits (i - a) (omega arith) ∙ ap (λ (j : ℕ). get_or bytes j 0) back)
-      (λ out_c out_a. spread_outside a s c o (joined a s c o bytes) bytes whole fits i out_c out_a))
 
 module _ (a s c o : ℕ) (bytes : List ℕ) (fits : Fits a s c o (length bytes)) (at byte : ℕ) where
   changed_whole : length (set (joined a s c o bytes) at byte) ≡ s + o

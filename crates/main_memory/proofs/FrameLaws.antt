@@ -2,7 +2,7 @@
 use Rattle.std.proofs.Common.{◌≡◌, ◌≢◌, ℕ, zero, suc, ◌+◌, ◌<◌, ◌≤◌, ◌==◌, nat_lt, Bool, true, false, List, [], ◌∷◌, length, drop, get_or, refl, sym, ap, ◌∙◌, arith}
 use Rattle.std.proofs.Common.{subst, drop-cons, add-one}
 use Rattle.std.proofs.Math.ListN.{drop_of_length-le}
-use Rattle.std.proofs.lemmas.Bool.{ltb-true, ltb-false, eqb-true, eqb-false, lt-ltb}
+use Rattle.std.proofs.lemmas.Bool.{ltb-true, ltb-false, eqb-true, eqb-false, lt-ltb, true≢false}
 use Rattle.std.proofs.lemmas.Bool.Decides.{nat_tests}
 use Rattle.std.specs.List.Sorted.{IsStrictlyIncreasing}
 use Rattle.main_memory.specs.Frames.{kept, with_frame, with_frames}
@@ -11,9 +11,6 @@ use Rattle.main_memory.specs.Frames.{kept, with_frame, with_frames}
 pub by_test : {X : Type 0} → (b : Bool) → (b ≡ true → X) → (b ≡ false → X) → X
 by_test true on off = on refl
 by_test false on off = off refl
-
-true_false : true ≡ false → ⊥
-true_false e = cc
 
 -- tests that agree keep the same numbers
 pub kept-agree : (p q : ℕ → Bool) (from n : ℕ) → ((k : ℕ) → from ≤ k → k < from + n → p k ≡ q k) → kept p from n ≡ kept q from n
@@ -43,7 +40,7 @@ unfolding kept
 kept-off p from n off = rw off refl
 
 first_is : (p : ℕ → Bool) (from f : ℕ) → from ≤ f → ((k : ℕ) → k < f → p k ≡ false) → p from ≡ true → f ≡ from
-first_is p from f above low on = by_test (nat_lt from f) (λ lt. absurd (true_false (sym on ∙ low from (ltb-true from f lt)))) (λ ge. omega (arith, ltb-false from f ge))
+first_is p from f above low on = by_test (nat_lt from f) (λ lt. absurd (true≢false (sym on ∙ low from (ltb-true from f lt)))) (λ ge. omega (arith, ltb-false from f ge))
 
 -- the lowest number that passes comes first, and the others are those that pass a test that it fails
 pub kept-lowest : (p q : ℕ → Bool) (from n f : ℕ) → from ≤ f → f < from + n → ((k : ℕ) → k < f → p k ≡ false) → p f ≡ true
@@ -57,7 +54,7 @@ kept-lowest p q from (suc n) f above below low hit others out =
     let rest : kept q (suc from) n ≡ kept p (suc from) n = kept-agree q p (suc from) n (λ k low_k high. others k (omega arith) (omega arith)) in
     kept-on p from n on ∙ ap (λ xs. from ∷ xs) (sym rest ∙ sym (kept-off q from n out_here)) ∙ ap (λ x. x ∷ kept q from (suc n)) (sym same))
     (λ off.
-    let ne : f ≢ from = λ e. true_false (sym hit ∙ ap p e ∙ off) in
+    let ne : f ≢ from = λ e. true≢false (sym hit ∙ ap p e ∙ off) in
     let q_off : q from ≡ false = others from (λ e. ne (sym e)) (omega arith) ∙ off in
     kept-off p from n off
     ∙ kept-lowest p q (suc from) n f (omega arith) (omega arith) low hit (λ k k_ne high. others k k_ne (omega arith)) out

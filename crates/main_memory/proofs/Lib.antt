@@ -5,4 +5,3 @@ pub mod FillLaws
 pub mod FrameLaws
 pub mod HeldLaws
 pub mod LendLaws
-pub mod TextLaws

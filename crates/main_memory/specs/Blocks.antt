@@ -76,8 +76,3 @@ with_bytes_in span block bytes =
 unfoldable pub blocks_from : Loan → List ℕ → ℕ → ℕ → List (List ℕ)
 blocks_from loan bytes k zero = []
 blocks_from loan bytes k (suc n) = bytes_in (span_of loan k) bytes ∷ blocks_from loan bytes (suc k) n
-
--- the bytes of frames, one after another
-unfoldable pub frames_text : List ℕ → List ℕ → List ℕ
-frames_text [] bytes = []
-frames_text (frame ∷ frames) bytes = part 512 (512 * frame) bytes ++ frames_text frames bytes

@@ -2,8 +2,7 @@
 use Rattle.std.specs.Prelude.{ℕ, ◌≡◌, ◌≢◌, ◌<◌, List, length, slice_index, Contains}
 use Rattle.std.specs.List.Sorted.{IsStrictlyIncreasing}
 use Rattle.main_memory.specs.Frames.{free_frames}
-use Rattle.main_memory.specs.Bytes.{part}
-use Rattle.main_memory.specs.Blocks.{Loan, span_of, size_of, with_bytes_in, blocks_from, frames_text}
+use Rattle.main_memory.specs.Blocks.{Loan, span_of, with_bytes_in, blocks_from}
 use Rattle.main_memory.specs.declared.span.Span.{Span}
 
 -- its bytes, and its free frames in ascending order
@@ -34,10 +33,6 @@ AreApart loan other = (frame : ℕ) → Contains loan.frames frame → Contains 
 -- what a buffer holds: its blocks in order
 abbrev pub blocks_of : Loan → Memory → List (List ℕ)
 blocks_of loan memory = blocks_from loan memory.bytes 0 loan.count
-
--- and as bytes, one after another over its frames, from its place in the first one on
-abbrev pub text_of : Loan → Memory → List ℕ
-text_of loan memory = part (size_of loan) loan.offset (frames_text loan.frames memory.bytes)
 
 -- the memory with other bytes in one span
 abbrev pub with_span : Span → List ℕ → Memory → Memory

@@ -2,11 +2,12 @@
 ghost use Rattle.std.specs.Prelude.{ℕ, ◌≡◌, ◌≤◌, ◌<◌, ◌+◌, ◌^◌, length, IfOk, slice_index, slice_set, vec_len, vec_capacity};
 ghost use Rattle.main_memory.specs.Bytes.{part, with_part, filled};
 
+use crate::size::FRAMES;
 use std::alloc::{AllocError, Global};
 use std::marker::Model;
 
 // How many bytes there are.
-const SIZE: usize = 16384 * 512;
+const SIZE: usize = FRAMES as usize * 512;
 
 // The bytes of all frames. They are zeros until they are written: those up to the last one that was written are held, in
 // room that is reserved at the beginning for all.

@@ -3,11 +3,9 @@ ghost use Rattle.std.specs.Prelude.{◌≡◌, ◌≤◌, ◌<◌, ◌+◌, ◌*
 ghost use Rattle.main_memory.specs.Bytes.{part, with_part, IsFill};
 
 use crate::bytes::Bytes;
+use crate::size::FRAMES;
 use std::alloc::{AllocError, Global};
 use std::marker::Model;
-
-// How many frames there are.
-const FRAMES: usize = 16384;
 
 // The bytes, and what is known of frames: the byte that one is all through, where it was last written so. Bytes that a frame is
 // known to have are not written again, so a frame that stays as it is need not come near the processor.
@@ -53,7 +51,7 @@ fn all_zeros(alloc: Global) -> Result<Vec<Option<u8>>, AllocError>
     ensures frames { IfOk result (λ fills. length fills.items ≡ 16384) }
     ensures zeros { IfOk result (λ fills. (frame : ℕ) → frame < 16384 → slice_index_or fills.items frame None ≡ Some 0) }
 {
-    let mut fills = Vec::with_capacity(alloc, FRAMES)?;
+    let mut fills = Vec::with_capacity(alloc, FRAMES as usize)?;
     for _ in 0..FRAMES {
         fills.push(Some(0))?;
     }

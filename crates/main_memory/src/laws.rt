@@ -1,11 +1,9 @@
 // What follows of writes to blocks, for the contracts of the crates above.
-ghost use Rattle.std.specs.Prelude.{◌≡◌, ◌<◌, ◌≤◌, ◌+◌, ◌*◌, ◌==◌, ℕ, List, Some, length, slice_get, slice_set, if◌then◌else◌};
-ghost use Rattle.main_memory.specs.Bytes.{part, front, filled};
+ghost use Rattle.std.specs.Prelude.{◌≡◌, ◌<◌, ◌≤◌, ◌+◌, ◌==◌, ℕ, List, Some, length, slice_get, slice_set, if◌then◌else◌};
+ghost use Rattle.main_memory.specs.Bytes.{front, filled};
 ghost use Rattle.main_memory.specs.Frames.{frames_needed};
-ghost use Rattle.main_memory.specs.Blocks.{Loan, IsLoan, size_at, size_of, span_of, bytes_in};
-ghost use Rattle.main_memory.specs.Memory.{Memory, IsMemory, IsLent, AreApart, with_block, blocks_of, text_of};
-ghost use Rattle.main_memory.specs.Windows.{Writes, window_len, window_bytes, memory_of};
-ghost use Rattle.main_memory.specs.declared.window.Window.{Window};
+ghost use Rattle.main_memory.specs.Blocks.{Loan, IsLoan, size_at, span_of, bytes_in};
+ghost use Rattle.main_memory.specs.Memory.{Memory, IsMemory, IsLent, AreApart, with_block, blocks_of};
 
 /// The laws of buffers: a buffer holds its blocks in order; a write to one block changes just that block of
 /// the buffer, and leaves every other buffer's bytes and what is lent.
@@ -25,30 +23,6 @@ pub fn buffer_laws()
     ensures sound { (memory : Memory) → (loan : Loan) → (k : ℕ) → (block : List ℕ)
         → IsMemory memory → IsLoan loan → IsLent memory loan → k < loan.count → length block ≡ size_at loan k
         → IsMemory (with_block loan k block memory) }
-{}
-
-/// The laws of a buffer's bytes: it holds `512 * (count - 1) + last` of them, one after another over its frames, and
-/// its blocks are these bytes cut at 512.
-pub fn text_laws()
-    ensures size { (memory : Memory) → (loan : Loan) → IsMemory memory → IsLoan loan → IsLent memory loan
-        → length (text_of loan memory) ≡ size_of loan }
-    ensures cut { (memory : Memory) → (loan : Loan) → (k : ℕ)
-        → IsMemory memory → IsLoan loan → IsLent memory loan → k < loan.count
-        → slice_get (blocks_of loan memory) k ≡ Some (part (size_at loan k) (512 * k) (text_of loan memory)) }
-{}
-
-/// The laws of windows: what a window shows has its length; of two writes through it the last one counts; a window
-/// through which nothing was written is as after a write of what it shows.
-pub fn window_laws()
-    ensures size { (window : Window) → length (memory_of window).bytes ≡ 8388608
-        → length (window_bytes window) ≡ window_len window }
-    ensures shown { (old new : Window) → (block : List ℕ) → length block ≡ window_len old
-        → Writes old new block → window_bytes new ≡ block }
-    ensures last { (old middle new : Window) → (first block : List ℕ)
-        → length first ≡ window_len old → length block ≡ window_len old
-        → Writes old middle first → Writes middle new block → Writes old new block }
-    ensures unchanged { (window : Window) → length (memory_of window).bytes ≡ 8388608
-        → Writes window window (window_bytes window) }
 {}
 
 /// The laws of whole blocks: where a buffer's last block has all its 512 bytes, each block has, it is written and

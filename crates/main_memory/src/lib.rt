@@ -5,8 +5,8 @@
 //! count and how many bytes its last block has. `lend` gives the lowest free frames, as many as the bytes reach, and is refused
 //! exactly where too few are free; no frame is lent twice; `give_back` frees just these. `store`, `fetch` and a window read and
 //! write one block of a buffer, in one frame or two, and leave every other byte; `fill` gives a byte only where a block is that
-//! byte all through. `text_laws`: a buffer's blocks are its bytes cut at 512; `buffer_laws`: a write to one buffer leaves what
-//! every other lent buffer holds.
+//! byte all through. `buffer_laws`: a write to one buffer leaves what every other lent buffer
+//! holds.
 //!
 //! Only tested, in `drive_rows`: worked values, beside their proofs.
 #![tactic(auto)]
@@ -17,10 +17,12 @@ mod bytes;
 mod frames;
 mod laws;
 mod memory;
+mod size;
 mod span;
 mod window;
 
 pub use buffer::{Buffer, Bus, Cpu, frames_of, to_bus, to_cpu};
-pub use laws::{buffer_laws, text_laws, whole_laws, window_laws};
+pub use laws::{buffer_laws, whole_laws};
 pub use memory::{MainMemory, NoFrames};
+pub use size::FRAMES;
 pub use window::Window;

@@ -8,14 +8,12 @@ ghost use Rattle.main_memory.specs.Memory.{IsMemory, IsLent, AreApart, with_bloc
 use crate::bits::{give_frames, take_frames};
 use crate::buffer::{Buffer, Cpu, frames_of};
 use crate::frames::Frames;
+use crate::size::FRAMES;
 use crate::span::{Span, fill_span, read_filled, write_front};
 use no_memory::NoMemory;
 use std::alloc::Global;
 use std::marker::Model;
 use thiserror::Error;
-
-// How many frames there are.
-const FRAMES: u32 = 16384;
 
 /// Fewer frames are free than a buffer needs.
 #[derive(Debug, Drop, Error)]

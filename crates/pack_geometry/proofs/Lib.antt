@@ -6,4 +6,3 @@ pub mod TableEditBlocks
 pub mod TableEditLaws
 pub mod TableExists
 pub mod TableLaws
-pub mod TwoEdits

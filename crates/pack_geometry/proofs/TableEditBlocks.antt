@@ -3,7 +3,7 @@ use Rattle.std.proofs.Common.{◌≡◌, ◌≢◌, inl, inr, ℕ, zero, suc, �
 use Rattle.std.proofs.lemmas.Bool.{cases_lt}
 use Rattle.std.proofs.lemmas.List.{length-replicate}
 use Rattle.pack_geometry.specs.declared.DriveKind.{DriveKind}
-use Rattle.pack_geometry.specs.declared.DriveKind.TheVariants.{Rp06, Rm03, Rm05}
+use Rattle.pack_geometry.specs.declared.DriveKind.TheVariants.{Rp06}
 use Rattle.pack_geometry.specs.Geometry.{copy_at, replacement_at}
 use Rattle.pack_geometry.specs.Pack.{Pack, block_at, is_marked, written, with_window}
 use Rattle.pack_geometry.specs.TableEdit.{Edit, zero_block, replacement_bytes, moved_up, with_copies, with_mark_at}
@@ -31,7 +31,7 @@ moved_apart kind pack i (suc m) b apart =
     moved_apart kind (written pack (replacement_at kind (i + m + 1)) (block_at pack.image (replacement_at kind (i + m)))) i m b (λ k lt. apart k (omega (arith, lt)))
     ∙ other_block pack (replacement_at kind (i + m + 1)) b (block_at pack.image (replacement_at kind (i + m))) (length-block_at pack.image (replacement_at kind (i + m))) (apart m (omega arith))
 
-differ : (kind : DriveKind) (i j : ℕ) → i < 126 → j < 126 → (i ≡ j → ⊥) → replacement_at kind i ≢ replacement_at kind j
+pub differ : (kind : DriveKind) (i j : ℕ) → i < 126 → j < 126 → (i ≡ j → ⊥) → replacement_at kind i ≢ replacement_at kind j
 differ kind i j li lj ne e = ne (replacement_once kind i j li lj e)
 
 pub moved_here : (kind : DriveKind) (pack : Pack) (i m k : ℕ) → i + m < 126 → k < m

@@ -3,7 +3,7 @@ use Rattle.std.proofs.Common.{◌≡◌, ◌≢◌, ◌⊎◌, inl, inr, ℕ, ze
 use Rattle.std.specs.Prelude.{insert}
 use Rattle.std.specs.List.{position, position_or_len}
 use Rattle.std.proofs.Math.Path.{fun_ext}
-use Rattle.std.proofs.lemmas.Bool.{cases_lt}
+use Rattle.std.proofs.lemmas.Bool.{cases_lt, false≢true, true≢false}
 use Rattle.std.proofs.lemmas.Bool.Decides.{Decides-eqb, Decides-ltb, nat_tests}
 use Rattle.std.proofs.lemmas.List.Edits.{get_or-insert_above, get_or-insert_at, get_or-insert_below, length-insert}
 use Rattle.std.proofs.lemmas.List.Quantifiers.{position-Some}
@@ -18,17 +18,14 @@ use Rattle.pack_geometry.specs.TableSpelling.{Table, table_text}
 use Rattle.pack_geometry.specs.PackTable.{IsTableOf}
 use Rattle.pack_geometry.specs.Homes.{is_place, index_in, if_unmarked, replacement_home, content_of}
 use Rattle.pack_geometry.specs.TableEdit.{Edit, IsAddedAt, edited_table, replacement_bytes, edited_content, IsApart, IsEdited, moved_up, with_copies, with_mark_at, edited}
-use Rattle.pack_geometry.proofs.HomeLaws.{same_place, same_block, below_copies, replacement_above, replacement_below, replacement_once}
+use Rattle.pack_geometry.proofs.HomeLaws.{same_place, same_block, below_copies, replacement_above, replacement_below}
 use Rattle.pack_geometry.proofs.PackLaws.{block_at-with_block_same}
 use Rattle.pack_geometry.proofs.TableLaws.{length-table_text}
-use Rattle.pack_geometry.proofs.TableEditBlocks.{other_block, moved_marks, moved_apart, moved_here, copied_marks, copied_apart, copied_here, length-replacement_bytes, mark_image, marked_other, marked_itself}
+use Rattle.pack_geometry.proofs.TableEditBlocks.{other_block, moved_marks, moved_apart, moved_here, copied_marks, copied_apart, copied_here, length-replacement_bytes, mark_image, marked_other, marked_itself, differ}
 
 -- a proof by the two values of a test
 at : {P : Type 0} → (b : Bool) → (b ≡ true → P) → (b ≡ false → P) → P
 at {P} b one other = (elim b as (λ v. (v ≡ true → P) → (v ≡ false → P) → P) [ true ↦ λ t f. t refl | false ↦ λ t f. f refl ]) one other
-
-true-false : true ≡ false → ⊥
-true-false e = cc
 
 -- ---- positions in a list of places, and in one with a place more
 
@@ -103,10 +100,10 @@ insert_nowhere test xs i y d le no_new e =
     position_none test (insert xs i y) d
     (λ k lt. passed_over test xs i (length xs) y d le (omega arith) le no_new (λ l small. none_passes test xs l d e small) k (omega (arith, lt, length-insert xs i y)))
 
-other_place : (p q : Place) → (p ≡ q → ⊥) → is_place p q ≡ false
+pub other_place : (p q : Place) → (p ≡ q → ⊥) → is_place p q ≡ false
 other_place p q ne = at (is_place p q) (λ e. absurd (ne (same_place p q e))) (λ e. e)
 
-is_itself : (p : Place) → is_place p p ≡ true
+pub is_itself : (p : Place) → is_place p p ≡ true
 is_itself p = grind (arith, nat_tests)
 
 insert_itself : (xs : List Place) (i : ℕ) (y : Place) → i ≤ length xs → (Contains xs y → ⊥) → position (is_place y) (insert xs i y) ≡ Some i
@@ -135,9 +132,6 @@ not_copy kind block k lt e = let below = below_copies kind block k lt in absurd 
 
 no_replacement_is_copy : (kind : DriveKind) (j k : ℕ) → j < 126 → replacement_at kind j ≢ copy_at kind k
 no_replacement_is_copy kind j k small e = let below = replacement_below kind j k small in absurd (omega (arith, below, e))
-
-differ : (kind : DriveKind) (i j : ℕ) → i < 126 → j < 126 → (i ≡ j → ⊥) → replacement_at kind i ≢ replacement_at kind j
-differ kind i j li lj ne e = ne (replacement_once kind i j li lj e)
 
 pub after_writes : (kind : DriveKind) (pack : Pack) (table : Table) (edit : Edit) (i : ℕ) → IsAddedAt kind pack table edit i
     → IsAfter kind pack (edited kind pack table edit i) table edit i
@@ -320,12 +314,12 @@ table_after kind old new table edit i added is =
           unmarked = found.unmarked;
           spelled = record { text = is.copies found.copy found.small; valid = added.valid };
         };
-        first = λ k other lt told. true-false (sym (found.first k lt) ∙ told.unmarked);
+        first = λ k other lt told. true≢false (sym (found.first k lt) ∙ told.unmarked);
       }
       | inr all ↦
           let c : ℕ = added.table_is.copy in
           let same = is.marks_other (copy_at kind c) (λ e. not_copy kind edit.block c added.data_block (sym e)) in
-          absurd (true-false (sym (all c added.table_is.is_copy) ∙ same ∙ added.table_is.told.unmarked))
+          absurd (true≢false (sym (all c added.table_is.is_copy) ∙ same ∙ added.table_is.told.unmarked))
     ]
 
 marks_after : (new old mark same : Bool) → (same ≡ false → new ≡ old) → (same ≡ true → new ≡ (old || mark)) → new ≡ (old || (mark && same))
@@ -335,9 +329,6 @@ marks_after new true mark false other itself = other refl
 marks_after new false true false other itself = other refl
 marks_after new false false false other itself = other refl
 
-false-true : false ≡ true → ⊥
-false-true e = cc
-
 pub edit_made : (kind : DriveKind) (pack : Pack) (table : Table) (edit : Edit) (i : ℕ) → IsAddedAt kind pack table edit i
     → IsEdited kind pack (edited kind pack table edit i) table edit i
 edit_made kind pack table edit i added = record {
@@ -346,7 +337,7 @@ edit_made kind pack table edit i added = record {
   others = λ b ne. others_by kind pack (edited kind pack table edit i) table edit i b added is ne;
   content = new_content kind pack (edited kind pack table edit i) table edit i added is;
   marks = λ b. marks_after _ _ edit.mark (b == edit.block)
-      (λ f. is.marks_other b (λ e. false-true (sym f ∙ (Decides-eqb b edit.block).1 e)))
+      (λ f. is.marks_other b (λ e. false≢true (sym f ∙ (Decides-eqb b edit.block).1 e)))
       (λ t. let one : b ≡ edit.block = (Decides-eqb b edit.block).0 t in rw one is.mark_itself);
   rest = is.apart;
 }
@@ -371,7 +362,7 @@ pub contents_kept : (kind : DriveKind) (pack new : Pack) (table : Table) (edit :
 contents_kept kind pack new table edit i added made copied unmarked =
     fun_ext (λ b. at (b == edit.block)
     (λ t. let one : b ≡ edit.block = (Decides-eqb b edit.block).0 t in rw one same)
-    (λ f. made.others b (λ e. false-true (sym f ∙ (Decides-eqb b edit.block).1 e))))
+    (λ f. made.others b (λ e. false≢true (sym f ∙ (Decides-eqb b edit.block).1 e))))
   where
     same : content_of kind (Some (edited_table kind table edit i)) new edit.block ≡ content_of kind (Some table) pack edit.block
     same = made.content ∙ ap Some (copied_content pack edit (edit.mark || is_marked pack edit.block) copied)

@@ -1,7 +1,7 @@
 -- Each pack has a table, or has none.
 use Rattle.std.proofs.Common.{◌≡◌, ◌⊎◌, inl, inr, ℕ, zero, suc, ◌+◌, ◌*◌, ◌^◌, ◌<◌, ◌≤◌, ◌==◌, ◌&&◌, Bool, true, false, if◌then◌else◌, List, [], ◌∷◌, length, get_or, Option, None, Some, refl, sym, ap, ◌∙◌, subst, arith}
 use Rattle.std.specs.Prelude.{All, AllPairs}
-use Rattle.std.proofs.lemmas.Bool.{and_parts, cases_lt}
+use Rattle.std.proofs.lemmas.Bool.{and_parts, cases_lt, true≢false, and_from}
 use Rattle.std.proofs.lemmas.Bool.Decides.{Decides-eqb}
 use Rattle.std.proofs.lemmas.Slice.Eq.{bytes_eq-Decides}
 use Rattle.pack_geometry.specs.declared.DriveKind.{DriveKind}
@@ -16,9 +16,6 @@ use Rattle.pack_geometry.proofs.TableLaws.{spelled_end, spelled_no_end, spelled_
 -- a proof by the two values of a test
 at : {P : Type 0} → (b : Bool) → (b ≡ true → P) → (b ≡ false → P) → P
 at {P} b one other = (elim b as (λ v. (v ≡ true → P) → (v ≡ false → P) → P) [ true ↦ λ t f. t refl | false ↦ λ t f. f refl ]) one other
-
-true-false : true ≡ false → ⊥
-true-false e = cc
 
 both : {P Q : Type 0} → P ⊎ (P → ⊥) → Q ⊎ (Q → ⊥) → (P × Q) ⊎ (P × Q → ⊥)
 both p q = elim p [
@@ -44,12 +41,9 @@ end_is bytes i e =
     let parts = and_parts (word_at bytes (8 + 4 * i) == 65535) (word_at bytes (10 + 4 * i) == 65535) e in
     ((Decides-eqb _ _).0 parts.0, (Decides-eqb _ _).0 parts.1)
 
-is_end_by : (a b : Bool) → a ≡ true → b ≡ true → (a && b) ≡ true
-is_end_by a b p q = rw (p, q) refl
-
 end_shown : (bytes : List ℕ) (i : ℕ) → IsEnd bytes i → is_end bytes i ≡ true
 unfolding is_end
-end_shown bytes i e = is_end_by _ _ ((Decides-eqb (word_at bytes (8 + 4 * i)) 65535).1 e.0) ((Decides-eqb (word_at bytes (10 + 4 * i)) 65535).1 e.1)
+end_shown bytes i e = and_from _ _ ((Decides-eqb (word_at bytes (8 + 4 * i)) 65535).1 e.0) ((Decides-eqb (word_at bytes (10 + 4 * i)) 65535).1 e.1)
 
 -- the pairs from number i on name these places, and then there are all ones
 pub record AreNamed (bytes : List ℕ) (i n : ℕ) (places : List Place) : Type 0 where
@@ -142,14 +136,14 @@ spelled_is kind bytes t k spelled = same_table t (candidate kind bytes) k (sym (
 })))
 
 text_or_not : (xs ys : List ℕ) → (xs ≡ ys) ⊎ (xs ≡ ys → ⊥)
-text_or_not xs ys = at _ (λ t. inl ((bytes_eq-Decides xs ys).0 t)) (λ f. inr (λ e. true-false (sym ((bytes_eq-Decides xs ys).1 e) ∙ f)))
+text_or_not xs ys = at _ (λ t. inl ((bytes_eq-Decides xs ys).0 t)) (λ f. inr (λ e. true≢false (sym ((bytes_eq-Decides xs ys).1 e) ∙ f)))
 
 -- what a copy tells, if anything
 told_or_not : (kind : DriveKind) (pack : Pack) (k : ℕ) → Tells kind pack k (candidate kind (block_at pack.image (copy_at kind k))) ⊎ ((t : Table) → Tells kind pack k t → ⊥)
 unfolding candidate
 told_or_not kind pack k =
     at (is_marked pack (copy_at kind k))
-    (λ m. inr (λ t told. true-false (sym m ∙ told.unmarked)))
+    (λ m. inr (λ t told. true≢false (sym m ∙ told.unmarked)))
     (λ u. elim (both (text_or_not bytes (table_text (long_at bytes 0) (places_from bytes 0 126))) (table_or_not (candidate kind bytes))) [
       | inl all ↦ inl (record { for_drive = refl; unmarked = u; spelled = record { text = all.0; valid = all.1 } })
       | inr none ↦ inr (λ t told. none (spells_candidate t told))

@@ -6,14 +6,14 @@ use Rattle.std.proofs.lemmas.Grind.{same_number_lists}
 use Rattle.std.proofs.lemmas.List.{get_or_append_left, get_or-append_right, get_or-replicate, length-replicate, same_lists}
 use Rattle.std.specs.List.{flat_map}
 use Rattle.pack_geometry.specs.declared.DriveKind.{DriveKind}
-use Rattle.pack_geometry.specs.declared.DriveKind.TheVariants.{Rp06, Rm03, Rm05}
+use Rattle.pack_geometry.specs.declared.DriveKind.TheVariants.{Rp06}
 use Rattle.pack_geometry.specs.declared.Place.{Place}
 use Rattle.pack_geometry.specs.Geometry.{IsInside}
 use Rattle.pack_geometry.specs.TableFields.{word_at, long_at, place_in, IsEnd}
 use Rattle.pack_geometry.specs.TableSpelling.{Table, head_text, pair_text, pairs_text, table_text, Spells}
 
 -- four bytes a pair
-length-pairs : (places : List Place) → length (flat_map pair_text places) ≡ 4 * length places
+pub length-pairs : (places : List Place) → length (flat_map pair_text places) ≡ 4 * length places
 length-pairs [] = refl
 length-pairs (p ∷ ps) = omega (arith, length-pairs ps)
 

@@ -79,13 +79,3 @@ edited kind pack table edit i =
     with_mark_at edit.mark edit.block
     (with_copies kind (table_text table.serial (edited_table kind table edit i).places) 5
     (written (moved_up kind pack i (length table.places - i)) (replacement_at kind i) (replacement_bytes pack edit)))
-
--- TWO EDITS, one after another, and the table afterwards
-pub record AreMade (kind : DriveKind) (old middle new : Pack) (table : Table) (one two : Edit) (i j : ℕ) : Type 0 where
-  pub first_added : IsAddedAt kind old table one i
-  pub first_made : IsEdited kind old middle table one i
-  pub second_added : IsAddedAt kind middle (edited_table kind table one i) two j
-  pub second_made : IsEdited kind middle new (edited_table kind table one i) two j
-
-abbrev pub twice_edited : DriveKind → Table → Edit → Edit → ℕ → ℕ → Table
-twice_edited kind table one two i j = edited_table kind (edited_table kind table one i) two j

@@ -8,7 +8,7 @@
 //! table of a kind at most, and each table has one spelling, of 512 bytes. `pack_table_law`: a pack has one table at most, by
 //! its copies alone. `home_law`: no two data blocks share a home. `home_write_law`: a write at a home leaves the copies, the
 //! tables and every other block's content. `table_edit_law`: the writes that list a block leave every other data block's
-//! content; `two_edits_law`: two of them come to the same in either order.
+//! content.
 //!
 //! Only tested, in `hpsim_rows`: worked values, beside their proofs.
 
@@ -19,7 +19,7 @@ ghost use Rattle.pack_geometry.specs.Pack.{Pack, block_at, is_marked, with_block
 ghost use Rattle.pack_geometry.specs.TableSpelling.{Table, IsTable, Spells, table_text};
 ghost use Rattle.pack_geometry.specs.PackTable.{IsTableOf, AreTablesOf, HaveSameCopies, places_of};
 ghost use Rattle.pack_geometry.specs.Homes.{home_of, content_of, contents_of, with_content};
-ghost use Rattle.pack_geometry.specs.TableEdit.{Edit, IsAddedAt, IsEdited, AreMade, edited, edited_table, twice_edited};
+ghost use Rattle.pack_geometry.specs.TableEdit.{Edit, IsAddedAt, IsEdited, edited, edited_table};
 
 /// The law of blocks: a block has 512 bytes, what was written to it is read again, and a write to one block
 /// changes no other.
@@ -102,18 +102,4 @@ pub fn table_edit_law()
         → IsAddedAt kind pack table edit i → IsEdited kind pack new table edit i → edit.copy ≡ true
         → is_marked pack edit.block ≡ false
         → content_of kind (Some (edited_table kind table edit i)) new ≡ content_of kind (Some table) pack }
-{}
-
-/// The law of two edits: where two blocks are listed one after the other, and also in the other order, the table and the
-/// content of every data block come to the same.
-pub fn two_edits_law()
-    ensures table { (kind : DriveKind) → (old middle new other_middle other_new : Pack) → (table : Table)
-        → (one two : Edit) → (i j k l : ℕ) → AreMade kind old middle new table one two i j
-        → AreMade kind old other_middle other_new table two one k l
-        → twice_edited kind table one two i j ≡ twice_edited kind table two one k l }
-    ensures contents { (kind : DriveKind) → (old middle new other_middle other_new : Pack) → (table : Table)
-        → (one two : Edit) → (i j k l : ℕ) → one.block ≢ two.block → AreMade kind old middle new table one two i j
-        → AreMade kind old other_middle other_new table two one k l
-        → content_of kind (Some (twice_edited kind table one two i j)) new
-        ≡ content_of kind (Some (twice_edited kind table two one k l)) other_new }
 {}

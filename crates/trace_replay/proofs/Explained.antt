@@ -2,19 +2,20 @@
 use Rattle.std.proofs.Common.{◌≡◌, ◌⊎◌, inl, inr, ℕ, ◌<◌, ◌&&◌, Bool, true, false, not, List, [], ◌∷◌, Option, None, Some, refl, sym, ap, ◌∙◌, subst, arith}
 use Rattle.std.specs.Prelude.{if◌then◌else◌}
 use Rattle.std.proofs.lemmas.Option.{same_Some, none-some}
+use Rattle.std.proofs.lemmas.Bool.{and_from, and_parts}
 use Rattle.pack_geometry.specs.TableSpelling.{Table}
 use Rattle.hardware_table.specs.declared.Moved.{Moved}
 use Rattle.hardware_table.specs.declared.Moved.TheVariants as verdict
 use Rattle.hardware_table.specs.Drive.{DriveState}
 use Rattle.trace_replay.specs.requests.ServiceOrder.{Service}
-use Rattle.trace_replay.specs.requests.Requests.{Request, Answer, ReadOk, WriteOk, OutsidePartition, EndOfPartition, NoFrames, Failed, Cause, Offline, Locked, Unforwarded, Fault}
+use Rattle.trace_replay.specs.requests.Requests.{Request, Answer, ReadOk, WriteOk, Failed, Cause, Offline, Locked, Unforwarded, Fault}
 use Rattle.trace_replay.specs.Moments.{Deed, Centre, Clear, Pack, Try, End, Told}
-use Rattle.trace_replay.specs.Conversation.{Hand, Segment, OwnBlocks, Stage, Waiting, Steps, UnderWay, AtOnce, Moving, Saying, Ending, Progress, due, guarded, transfer_of, command_of, needs_unlocked, is_write, Positioning, SearchFor, Recalibrate, SeekTo, OffsetBy, entry_of, start_of}
-use Rattle.trace_replay.specs.Events.{Wish, NoLine, DueLine, Arrival, SectorLine, Interrupt, Attention, Refusal, IdleLine}
+use Rattle.trace_replay.specs.Conversation.{Hand, Segment, OwnBlocks, Stage, Waiting, Steps, UnderWay, AtOnce, Moving, Saying, Ending, Progress, due, guarded, transfer_of, command_of, needs_unlocked, is_write, Positioning, SearchFor, entry_of, start_of}
+use Rattle.trace_replay.specs.Events.{Wish, Refusal}
 use Rattle.trace_replay.specs.Replay.{Replay, UnitSeen, new_replay, next_wish, hand_of, ToldMay, Follows, after_moments}
 use Rattle.trace_replay.specs.History.{is_refusal, lines_behind, done_in, Tried, Untried, TriedAt, last_tried, marks_in, fails}
 use Rattle.trace_replay.specs.Causes.{wants_command, IsLockedOut, WasTriedOffline, IsBeyondHelp, Because, IsOk, AreAllTries, IsExplained, AreExplained}
-use Rattle.trace_replay.proofs.Histories.{IsListed, Open, EndsFailed, EndsOk, EndFits, EndsBy, Fits, AreSaid, Goes, WasReached, both}
+use Rattle.trace_replay.proofs.Histories.{IsListed, Open, EndsFailed, EndsOk, EndFits, EndsBy, Fits, AreSaid, Goes, WasReached}
 use Rattle.trace_replay.proofs.Following.{follow_on}
 use Rattle.trace_replay.proofs.Kept.{UnitFits, moments_all, starts, refused_is, no}
 
@@ -254,10 +255,6 @@ line_is_none Centre rest a = refl
 line_is_none (Try b t) rest a = refl
 line_is_none line rest a = absurd a
 
-conjoined : (a b : Bool) → a ≡ true → b ≡ true → a && b ≡ true
-conjoined true b h k = k
-conjoined false b h k = h
-
 Over : DriveState → Service Request → Stage → Progress → Option Table → UnitSeen
 Over d service stage p table = record { drive = d; service = service; stage = stage; progress = p; table = table }
 
@@ -268,8 +265,8 @@ unfolding is_end answer_of Over
 explained_at d service Waiting p table lines answer f is = absurd (none-some (End answer) is)
 explained_at d service (Steps [] segment) p table lines answer f is =
     open_explained (Over d service (Steps [] segment) p table) segment lines answer (is_write (hand_of (Over d service (Steps [] segment) p table)) && d.locked) f refl
-    (λ on lock. record { due = refl; writes = (both (is_write (hand_of (Over d service (Steps [] segment) p table))) d.locked lock).0; online = on; locked = (both (is_write (hand_of (Over d service (Steps [] segment) p table))) d.locked lock).1 })
-    (λ out. conjoined (is_write (hand_of (Over d service (Steps [] segment) p table))) d.locked out.writes out.locked)
+    (λ on lock. record { due = refl; writes = (and_parts (is_write (hand_of (Over d service (Steps [] segment) p table))) d.locked lock).0; online = on; locked = (and_parts (is_write (hand_of (Over d service (Steps [] segment) p table))) d.locked lock).1 })
+    (λ out. and_from (is_write (hand_of (Over d service (Steps [] segment) p table))) d.locked out.writes out.locked)
     (ends_in_place d.online (is_write (hand_of (Over d service (Steps [] segment) p table)) && d.locked) d.valid p.done (transfer_of segment (hand_of (Over d service (Steps [] segment) p table))) answer refl
     (same_Some (guarded d (hand_of (Over d service (Steps [] segment) p table)) (transfer_of segment (hand_of (Over d service (Steps [] segment) p table)))) (End answer) is))
 explained_at d service (Steps (step ∷ left) segment) p table lines answer f is =
@@ -280,8 +277,8 @@ explained_at d service (Steps (step ∷ left) segment) p table lines answer f is
 explained_at d service (UnderWay left segment) p table lines answer f is = absurd (none-some (End answer) is)
 explained_at d service (AtOnce segment) p table lines answer f is =
     open_explained (Over d service (AtOnce segment) p table) segment lines answer (is_write (hand_of (Over d service (AtOnce segment) p table)) && d.locked) f refl
-    (λ on lock. record { due = refl; writes = (both (is_write (hand_of (Over d service (AtOnce segment) p table))) d.locked lock).0; online = on; locked = (both (is_write (hand_of (Over d service (AtOnce segment) p table))) d.locked lock).1 })
-    (λ out. conjoined (is_write (hand_of (Over d service (AtOnce segment) p table))) d.locked out.writes out.locked)
+    (λ on lock. record { due = refl; writes = (and_parts (is_write (hand_of (Over d service (AtOnce segment) p table))) d.locked lock).0; online = on; locked = (and_parts (is_write (hand_of (Over d service (AtOnce segment) p table))) d.locked lock).1 })
+    (λ out. and_from (is_write (hand_of (Over d service (AtOnce segment) p table))) d.locked out.writes out.locked)
     (ends_in_place d.online (is_write (hand_of (Over d service (AtOnce segment) p table)) && d.locked) d.valid p.done (transfer_of segment (hand_of (Over d service (AtOnce segment) p table))) answer refl
     (same_Some (guarded d (hand_of (Over d service (AtOnce segment) p table)) (transfer_of segment (hand_of (Over d service (AtOnce segment) p table)))) (End answer) is))
 explained_at d service (Moving segment left last) p table lines answer f is = absurd (none-some (End answer) is)

@@ -2,7 +2,7 @@
 use Rattle.std.proofs.Common.{ℕ, List, [], ◌∷◌, ◌++◌}
 use Rattle.trace_replay.specs.requests.Requests.{Rejection}
 use Rattle.trace_replay.specs.Moments.{Deed, Moment, Told, Played, Idle}
-use Rattle.trace_replay.specs.Events.{Wish, NoLine, DueLine, Arrival, SectorLine, Interrupt, Attention, Refusal, IdleLine}
+use Rattle.trace_replay.specs.Events.{Wish, Refusal}
 use Rattle.trace_replay.specs.Replay.{Replay, next_wish, LineMay, RefusalMay, ToldMay, InputMay, IdleMay, MayCome, after_moment, after_moments, Follows}
 use Rattle.trace_replay.specs.Rules.{RuleName, Number, Events, Service, Conversation, Drives, Adapters, Packs, Work, LineKeeps, RefusalKeeps, ToldKeeps, InputKeeps, IdleKeeps, Keeps, KeepsEach, FollowOn}
 
@@ -71,7 +71,7 @@ moment_all s (Idle line) keeps = record { number = keeps Number; nothing = keeps
 pub keeps_each : KeepsEach
 keeps_each s m = (moment_kept s m, moment_all s m)
 
-joined : (s : Replay) (ms ns : List Moment) → Follows s ms → Follows (after_moments s ms) ns → Follows s (ms ++ ns)
+pub joined : (s : Replay) (ms ns : List Moment) → Follows s ms → Follows (after_moments s ms) ns → Follows s (ms ++ ns)
 joined s [] ns first more = more
 joined s (m ∷ ms) ns first more = (first.0, joined (after_moment s m) ms ns first.1 more)
 

@@ -4,6 +4,7 @@ use Rattle.std.specs.Prelude.{if◌then◌else◌}
 use Rattle.std.specs.Option.{option_map_or}
 use Rattle.std.proofs.lemmas.Option.{same_Some, none-some}
 use Rattle.std.proofs.lemmas.Bool.Decides.{nat_tests}
+use Rattle.std.proofs.lemmas.Bool.{false≢true, eqb-false, eqb-true, and_parts}
 use Rattle.pack_geometry.specs.Geometry.{place_at, replacement_at}
 use Rattle.drive_registers.specs.Codes.{offset_field}
 use Rattle.drive_registers.specs.declared.OffsetCode.{OffsetCode}
@@ -224,7 +225,7 @@ abbrev pub AfterFits : DriveState → Hand → Option Request → Stage → List
 AfterFits d h next stage lines (End answer) = Unit {0}
 AfterFits d h next stage lines deed = Fits h (stage_after stage deed d h next) (deed ∷ lines)
 
-length_some : (h : Hand) (segment : Segment) (lines : List Deed) → Open h segment 1 lines → 1 ≤ length_of segment h
+pub length_some : (h : Hand) (segment : Segment) (lines : List Deed) → Open h segment 1 lines → 1 ≤ length_of segment h
 length_some h OwnBlocks lines o = omega (arith, o.room)
 length_some h (Replacement block) lines o = omega arith
 
@@ -283,30 +284,19 @@ due_fits d d' h next (Saying (line ∷ rest) then_stage) deed lines is f =
 due_fits d d' h next (Ending answer) deed lines is f = subst (AfterFits d' h next (Ending answer) lines) (same_Some (End answer) deed is) tt
 
 -- ---- arrivals and attentions
-no : false ≡ true → ⊥
-no e = grind (arith, e)
 
 pub arrive_fits : (h : Hand) (stage : Stage) (lines : List Deed) → is_under_way stage ≡ true → Fits h stage lines → Fits h stage (Arrive ∷ lines)
 arrive_fits h (UnderWay left segment) lines is f = open_quiet Arrive h segment 1 lines tt f
-arrive_fits h other lines is f = absurd (no is)
+arrive_fits h other lines is f = absurd (false≢true is)
 
 pub attn_fits : (d : DriveState) (h : Hand) (next : Option Request) (stage : Stage) (lines : List Deed) → is_under_way stage ≡ true → Fits h stage lines
     → Fits h (stage_after stage Attn d h next) (Attn ∷ lines)
 attn_fits d h next (UnderWay left segment) lines is f = open_quiet Attn h segment 1 lines tt f
-attn_fits d h next other lines is f = absurd (no is)
+attn_fits d h next other lines is f = absurd (false≢true is)
 
 -- ---- sectors
-pub both : (a b : Bool) → a && b ≡ true → (a ≡ true) × (b ≡ true)
-both true b h = (refl, h)
-both false b h = absurd (no h)
 
-pub eqb_true : (a b : ℕ) → a == b ≡ true → a ≡ b
-eqb_true a b h = grind (arith, nat_tests)
-
-eqb_false : (a b : ℕ) → a == b ≡ false → a ≡ b → ⊥
-eqb_false a b h e = grind (arith, nat_tests)
-
-or_zero : (n : ℕ) → (n == 0) || false ≡ true → n ≡ 0
+pub or_zero : (n : ℕ) → (n == 0) || false ≡ true → n ≡ 0
 or_zero n h = grind (arith, nat_tests)
 
 stopped : (h : Hand) (segment : Segment) (n block : ℕ) (v : Moved) (lines : List Deed) → block ≡ start_of segment h → Open h segment (suc n) lines
@@ -367,7 +357,7 @@ sector_moved h bytes segment n block (verdict.Burst at q) lines is o =
 sector_moved h bytes segment n block other lines is o = stopped h segment n block other lines is o
 
 never_of_none : (block start : ℕ) → nat_lt 0 0 && (block == start) ≡ true → ⊥
-never_of_none block start is = no is
+never_of_none block start is = false≢true is
 
 pub sector_fits : (h : Hand) (bytes : List ℕ) (stage : Stage) (block : ℕ) (v : Moved) (d : DriveState) (next : Option Request) (lines : List Deed)
     → sector_may h stage block ≡ true → Fits h stage lines
@@ -375,18 +365,18 @@ pub sector_fits : (h : Hand) (bytes : List ℕ) (stage : Stage) (block : ℕ) (v
     (stage_after stage (Sector block v) d (record h { progress = progress_tried v bytes h.progress }) next) (Sector block v ∷ lines)
 sector_fits h bytes (Moving segment zero verdict.Clean) block v d next lines is f = absurd (never_of_none block (start_of segment h) is)
 sector_fits h bytes (Moving segment (suc n) verdict.Clean) block v d next lines is f =
-    sector_moved h bytes segment n block v lines (eqb_true block (start_of segment h) (both (nat_lt 0 (suc n)) (block == start_of segment h) is).1) f
-sector_fits h bytes (Moving segment left (verdict.Burst at q)) block v d next lines is f = absurd (no is)
-sector_fits h bytes (Moving segment left verdict.Hard) block v d next lines is f = absurd (no is)
-sector_fits h bytes (Moving segment left (verdict.Faulted k)) block v d next lines is f = absurd (no is)
-sector_fits h bytes (Moving segment left verdict.Marked) block v d next lines is f = absurd (no is)
-sector_fits h bytes (Moving segment left verdict.Offline) block v d next lines is f = absurd (no is)
-sector_fits h bytes Waiting block v d next lines is f = absurd (no is)
-sector_fits h bytes (Steps left segment) block v d next lines is f = absurd (no is)
-sector_fits h bytes (UnderWay left segment) block v d next lines is f = absurd (no is)
-sector_fits h bytes (AtOnce segment) block v d next lines is f = absurd (no is)
-sector_fits h bytes (Saying rest then_stage) block v d next lines is f = absurd (no is)
-sector_fits h bytes (Ending answer) block v d next lines is f = absurd (no is)
+    sector_moved h bytes segment n block v lines (eqb-true block (start_of segment h) (and_parts (nat_lt 0 (suc n)) (block == start_of segment h) is).1) f
+sector_fits h bytes (Moving segment left (verdict.Burst at q)) block v d next lines is f = absurd (false≢true is)
+sector_fits h bytes (Moving segment left verdict.Hard) block v d next lines is f = absurd (false≢true is)
+sector_fits h bytes (Moving segment left (verdict.Faulted k)) block v d next lines is f = absurd (false≢true is)
+sector_fits h bytes (Moving segment left verdict.Marked) block v d next lines is f = absurd (false≢true is)
+sector_fits h bytes (Moving segment left verdict.Offline) block v d next lines is f = absurd (false≢true is)
+sector_fits h bytes Waiting block v d next lines is f = absurd (false≢true is)
+sector_fits h bytes (Steps left segment) block v d next lines is f = absurd (false≢true is)
+sector_fits h bytes (UnderWay left segment) block v d next lines is f = absurd (false≢true is)
+sector_fits h bytes (AtOnce segment) block v d next lines is f = absurd (false≢true is)
+sector_fits h bytes (Saying rest then_stage) block v d next lines is f = absurd (false≢true is)
+sector_fits h bytes (Ending answer) block v d next lines is f = absurd (false≢true is)
 
 -- ---- the interrupt
 goes_on_from : (h : Hand) (t : Tried) (marks : ℕ) → WasReached t → Goes h t marks
@@ -404,10 +394,10 @@ ok_fits false h lines e = e
 
 continued_at : (b : Bool) (h : Hand) (lines : List Deed) → h.progress.done == h.request.count ≡ b → IsDone h lines
     → Fits h (if b then Ending (ok_answer h) else AtOnce OwnBlocks) lines
-continued_at true h lines is o = ok_fits (is_write h) h lines (record { whole = o; all = eqb_true h.progress.done h.request.count is })
+continued_at true h lines is o = ok_fits (is_write h) h lines (record { whole = o; all = eqb-true h.progress.done h.request.count is })
 continued_at false h lines is o = record {
   counted = o.counted;
-  room = below h.progress.done h.request.count o.room (eqb_false h.progress.done h.request.count is);
+  room = below h.progress.done h.request.count o.room (eqb-false h.progress.done h.request.count is);
   going = goes_on_from h (last_tried lines) (marks_in lines) o.reached;
   few = o.few;
   small = subst (λ z. z < 28) (sym o.fresh) (omega arith);
@@ -455,19 +445,19 @@ behind_centre block v before lines e =
 
 -- behind a failure
 goes_failed : (h : Hand) (block : ℕ) (v : Moved) (marks : ℕ) → fails v ≡ true → Goes h (TriedAt block v) marks
-goes_failed h block verdict.Marked marks is = absurd (no is)
-goes_failed h block verdict.Offline marks is = absurd (no is)
+goes_failed h block verdict.Marked marks is = absurd (false≢true is)
+goes_failed h block verdict.Offline marks is = absurd (false≢true is)
 goes_failed h block other marks is = tt
 
 failed_moves : (v : Moved) → fails v ≡ true → moved_by v ≡ 0
-failed_moves verdict.Clean is = absurd (no is)
-failed_moves (verdict.Burst at q) is = absurd (no is)
+failed_moves verdict.Clean is = absurd (false≢true is)
+failed_moves (verdict.Burst at q) is = absurd (false≢true is)
 failed_moves other is = refl
 
 failed_marks : (v : Moved) (block : ℕ) (before : List Deed) → fails v ≡ true → marks_in (Sector block v ∷ before) ≡ marks_in before
 failed_marks verdict.Hard block before is = refl
 failed_marks (verdict.Faulted k) block before is = refl
-failed_marks other block before is = absurd (no is)
+failed_marks other block before is = absurd (false≢true is)
 
 -- the hand with one failure more
 abbrev pub once_more : Hand → Hand
@@ -534,11 +524,11 @@ failed_fits h segment v before lines left some is o e = at (h.progress.failures 
         v,
         e.tried,
         is,
-        eqb_true (h.progress.failures + 1) 28 last,
+        eqb-true (h.progress.failures + 1) 28 last,
         (
           same_start h segment,
-          eqb_true (h.progress.failures + 1) 28 last,
-          step h.progress.failures (eqb_true (h.progress.failures + 1) 28 last) (e.failures h.progress.failures is o.failing),
+          eqb-true (h.progress.failures + 1) 28 last,
+          step h.progress.failures (eqb-true (h.progress.failures + 1) 28 last) (e.failures h.progress.failures is o.failing),
         ),
       );
     }
@@ -549,8 +539,8 @@ failed_fits h segment v before lines left some is o e = at (h.progress.failures 
           counted = none_more (done_in lines) ∙ counted;
           room = omega (arith, o.room, some);
           going = subst (λ z. Goes (once_more h) z (marks_in lines)) (sym e.tried) (goes_failed (once_more h) (start_of segment h) v (marks_in lines) is);
-          few = below h.progress.failures o.small (eqb_false (h.progress.failures + 1) 28 more_left);
-          small = below h.progress.failures o.small (eqb_false (h.progress.failures + 1) 28 more_left);
+          few = below h.progress.failures o.small (eqb-false (h.progress.failures + 1) 28 more_left);
+          small = below h.progress.failures o.small (eqb-false (h.progress.failures + 1) 28 more_left);
           failing = subst (λ z. AreFailures false z (start_of segment (once_more h)) (Try (start_of segment (once_more h)) (h.progress.failures + 1) ∷ lines)) (more h.progress.failures)
               (refl, sym (more h.progress.failures), subst (λ z. AreFailures true h.progress.failures z lines) (sym (same_start h segment)) (e.failures h.progress.failures is o.failing));
           place = place_one h segment left (marks_in before) (marks_in lines) before (Try (start_of segment (once_more h)) (h.progress.failures + 1) ∷ lines)
@@ -688,4 +678,4 @@ moved_interrupted d h segment left verdict.Offline lines is f =
 pub intr_fits : (d : DriveState) (h : Hand) (next : Option Request) (stage : Stage) (lines : List Deed) → intr_may stage ≡ true → Fits h stage lines
     → Fits (interrupted h (last_of stage)) (stage_after stage Intr d (interrupted h (last_of stage)) next) (Intr ∷ lines)
 intr_fits d h next (Moving segment left last) lines is f = moved_interrupted d h segment left last lines is f
-intr_fits d h next other lines is f = absurd (no is)
+intr_fits d h next other lines is f = absurd (false≢true is)

@@ -5,6 +5,7 @@ use Rattle.std.specs.List.{AllByRecursion}
 use Rattle.std.proofs.lemmas.Option.{same_Some, none-some}
 use Rattle.std.proofs.lemmas.Bool.{cond-true}
 use Rattle.std.proofs.lemmas.Bool.Decides.{nat_tests, eqb_tells}
+pub use Rattle.std.proofs.lemmas.Bool.{false≢true as no}
 use Rattle.pack_geometry.specs.declared.DriveKind.{DriveKind}
 use Rattle.pack_geometry.specs.declared.DriveKind.TheVariants.{Rp06, Rm03, Rm05}
 use Rattle.pack_geometry.specs.TableSpelling.{Table}
@@ -23,7 +24,7 @@ use Rattle.hardware_table.specs.Functions.{performed, refusals, effect, refused}
 use Rattle.hardware_table.specs.Moves.{after_move}
 use Rattle.trace_replay.specs.requests.ServiceOrder.{Waiting as Waiter, is_before, put, Service, after_leave}
 use Rattle.trace_replay.proofs.requests.ServiceOrderRuns.{IsService, IsPlaced, empty-is, newcomer, after_join-waiting, after_join-is, after_leave-is, each-put}
-use Rattle.trace_replay.specs.requests.Requests.{Request, Answer, ReadOk, WriteOk, OutsidePartition, EndOfPartition, NoFrames, Failed, Rejection, AtEnd, Beyond, FramesShort, rejection_answer}
+use Rattle.trace_replay.specs.requests.Requests.{Request, Answer, OutsidePartition, EndOfPartition, NoFrames, Rejection, AtEnd, rejection_answer}
 use Rattle.trace_replay.specs.Script.{Input, Submit, ArriveAt, MoveAt, AttendTo, Drain, Turn, Noise, Arm, SetOnline, SetLocked}
 use Rattle.trace_replay.specs.Moments.{Deed, Search, Seek, Recal, Offset, Centre, Clear, Pack, Transfer, Arrive, Sector, Intr, Try, Attn, End, Moment, Played, Told, Idle}
 use Rattle.hardware_table.specs.declared.Register.TheVariants as register
@@ -33,23 +34,20 @@ use Rattle.trace_replay.specs.Drives.{drive_after, drive_played, addressed, sear
 use Rattle.trace_replay.specs.Packs.{Surface}
 use Rattle.pack_geometry.specs.declared.Place.{Place}
 use Rattle.trace_replay.specs.Service.{cylinder_of, first_waiting, head_of, in_hand, request_or_none, ids, service_after, service_joined, target_of}
-use Rattle.trace_replay.specs.Conversation.{Hand, Stage, Waiting, Steps, UnderWay, AtOnce, Moving, Saying, Ending, Progress, not_begun, TalkMay, begun, due, guarded, transfer_of, command_of, needs_unlocked, is_write, is_waiting, progress_after, stage_after, Positioning, SearchFor, Recalibrate, SeekTo, OffsetBy}
-use Rattle.trace_replay.specs.Events.{Wish, NoLine, DueLine, Arrival, SectorLine, Interrupt, Attention, Refusal, IdleLine}
+use Rattle.trace_replay.specs.Conversation.{Hand, Stage, Waiting, Steps, UnderWay, AtOnce, Moving, Saying, Ending, Progress, not_begun, TalkMay, begun, due, guarded, transfer_of, command_of, needs_unlocked, is_write, is_waiting, progress_after, stage_after, Positioning, SearchFor}
+use Rattle.trace_replay.specs.Events.{Wish, Refusal}
 use Rattle.trace_replay.specs.Replay.{Replay, UnitSeen, new_replay, with_state, next_wish, hand_of, at_unit, LineMay, ToldMay, Follows, after_moment, after_moments, unit_after, bytes_of, told_after, replay_told, Submission, Refused, Joined, submission, submitted, stage_joined, unit_joined, replay_played}
 use Rattle.trace_replay.specs.History.{is_refusal, with_deed, lines_after, lines_behind}
 use Rattle.trace_replay.specs.Causes.{AsksSome, AskSome}
 use Rattle.trace_replay.proofs.Histories.{EndFits, Fits, AreSaid, due_fits, arrive_fits, attn_fits, sector_fits, intr_fits, guard_holds}
 use Rattle.trace_replay.proofs.Unchanged.{drained_keeps}
 
-pub no : false ≡ true → ⊥
-no e = grind (arith, e)
-
 -- ---- a drive's kind stays
 kind_of_either : (b : Bool) (x y : DriveState) (kind : DriveKind) → x.kind ≡ kind → y.kind ≡ kind → (if b then x else y).kind ≡ kind
 kind_of_either true x y kind a b = a
 kind_of_either false x y kind a b = b
 
-effect_kind : (f : Function) (d : DriveState) → (effect f d).kind ≡ d.kind
+pub effect_kind : (f : Function) (d : DriveState) → (effect f d).kind ≡ d.kind
 effect_kind function.Nop d = refl
 effect_kind other d = refl
 
@@ -58,7 +56,7 @@ performed_kind f d =
     kind_of_either (refusals f d == 0) (effect f (record d { cs1 = (function_code f) })) (refused (refusals f d) (record d { cs1 = (function_code f) })) d.kind
     (effect_kind f (record d { cs1 = function_code f })) refl
 
-arrived_kind : (w : Work) (d : DriveState) → (arrived_from w d).kind ≡ d.kind
+pub arrived_kind : (w : Work) (d : DriveState) → (arrived_from w d).kind ≡ d.kind
 arrived_kind work.Ready d = refl
 arrived_kind other d = refl
 
@@ -76,7 +74,7 @@ marked_kind Rm03 verdict.Marked block d is = rw is refl
 marked_kind Rm05 verdict.Marked block d is = rw is refl
 marked_kind kind verdict.Offline block d is = refl
 
-stepped_kind : (v : Moved) (a : AdapterState) (d : DriveState) → (drive_stepped v a d).kind ≡ d.kind
+pub stepped_kind : (v : Moved) (a : AdapterState) (d : DriveState) → (drive_stepped v a d).kind ≡ d.kind
 stepped_kind v a d =
     kind_of_either (stepped v a).completion (transfer_ended (after_move v (next_block a) d)) (after_move v (next_block a) d) d.kind
     (marked_kind d.kind v (next_block a) d refl) (marked_kind d.kind v (next_block a) d refl)
@@ -98,7 +96,7 @@ after_kind d a target Arrive = arrived_kind d.work d
 after_kind d a target (Sector b v) = stepped_kind v a d
 after_kind d a target other = refl
 
-online_kind : (on : Bool) (d : DriveState) → (online_set on d).kind ≡ d.kind
+pub online_kind : (on : Bool) (d : DriveState) → (online_set on d).kind ≡ d.kind
 online_kind true d = refl
 online_kind false d = refl
 
@@ -226,7 +224,7 @@ begun_held : (d : DriveState) (waiting : List (Waiter Request)) → is_waiting (
 begun_held d [] is = absurd (no (sym is))
 begun_held d (w ∷ rest) is = tt
 
-some_behind : (waiting : List (Waiter Request)) → AskSomeBlocks waiting → AskSomeBlocks (drop 1 waiting)
+pub some_behind : (waiting : List (Waiter Request)) → AskSomeBlocks waiting → AskSomeBlocks (drop 1 waiting)
 some_behind [] some = tt
 some_behind (w ∷ rest) some = some.1
 
@@ -336,14 +334,6 @@ joined u r lines some f = record {
 -- ---- all units
 abbrev pub AllFit : Replay → (ℕ → List Deed) → Type 0
 AllFit s lines = (unit : ℕ) → UnitFits (s.units unit) (lines unit)
-
--- one unit changes, and its lines with it
-pub one_more : (s : Replay) (lines : ℕ → List Deed) (k : ℕ) (u : UnitSeen) (new : List Deed) (x : ℕ) → UnitFits u new → AllFit s lines
-    → UnitFits (with_state s.units k u x) (if x == k then new else lines x)
-one_more s lines k u new x mine all = elim (eqb_tells x k) [
-  | inl same ↦ rw same.0 mine
-  | inr other ↦ rw other.0 (all x)
-]
 
 -- one unit changes, and no lines
 one_joins : (s : Replay) (lines : ℕ → List Deed) (k : ℕ) (u : UnitSeen) (x : ℕ) → UnitFits u (lines k) → AllFit s lines → UnitFits (with_state s.units k u x) (lines x)

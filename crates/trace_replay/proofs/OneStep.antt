@@ -11,7 +11,7 @@ use Rattle.hardware_table.specs.Drive.{DriveState, is_writing}
 use Rattle.hardware_table.specs.Adapter.{AdapterState}
 use Rattle.hardware_table.specs.Moves.{stop_of, IsVerdict, IsVerdictBy, IsReadVerdict}
 use Rattle.trace_replay.specs.requests.Requests.{Rejection}
-use Rattle.trace_replay.specs.Moments.{Deed, Search, Seek, Recal, Offset, Centre, Clear, Pack, Transfer, Arrive, Sector, Intr, Try, Attn, End}
+use Rattle.trace_replay.specs.Moments.{Deed, Search, Arrive, Sector, Intr, Attn}
 use Rattle.trace_replay.specs.Moments.{Played, Told, Idle}
 use Rattle.trace_replay.specs.Adapters.{AdapterMay}
 use Rattle.trace_replay.specs.Packs.{Surface, VerdictMay, flips_at}

@@ -177,7 +177,7 @@ mask_small i (p ∷ ps) = xor_lt 8 (cond (eqb (p / 8) i) (2 ^ (p % 8)) 0) (flipp
     one true = low (p % 8) (mod_below p 8 (omega arith))
     one false = pow_pos 8
 
-length_flipped : (i : ℕ) (ps bytes : List ℕ) → length (flipped_from i ps bytes) ≡ length bytes
+pub length_flipped : (i : ℕ) (ps bytes : List ℕ) → length (flipped_from i ps bytes) ≡ length bytes
 length_flipped i ps [] = refl
 length_flipped i ps (b ∷ bytes) = let e : length (flipped_from (i + 1) ps bytes) ≡ length bytes = length_flipped (i + 1) ps bytes in omega (arith, e)
 

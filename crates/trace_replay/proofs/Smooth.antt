@@ -7,7 +7,7 @@ use Rattle.drive_registers.specs.Codes.{offset_field}
 use Rattle.hardware_table.specs.declared.Moved.{Moved}
 use Rattle.hardware_table.specs.declared.Moved.TheVariants as verdict
 use Rattle.hardware_table.specs.Drive.{DriveState}
-use Rattle.trace_replay.specs.requests.Requests.{Request, Answer, Failed, Offline, Locked, NoFrames, Rejection, AtEnd, Beyond, FramesShort, rejection_answer}
+use Rattle.trace_replay.specs.requests.Requests.{Request, Answer, Failed, Offline, Locked, NoFrames, Rejection, AtEnd, rejection_answer}
 use Rattle.trace_replay.specs.Moments.{Deed, Search, Seek, Recal, Offset, Centre, Clear, Pack, Transfer, Arrive, Sector, Intr, Try, Attn, End, Moment, Played, Told, Idle}
 use Rattle.trace_replay.specs.Conversation.{Positioning, SearchFor, Recalibrate, SeekTo, OffsetBy, Segment, OwnBlocks, Replacement, Hand, is_write, start_of, length_of, transfer_of, command_of, needs_unlocked, guarded, due, Stage, Waiting, Steps, UnderWay, AtOnce, Moving, Saying, Ending, saying, continued, ok_answer, interrupted_by, stage_after, is_under_way, is_clean, last_of, sector_may, intr_may, progress_tried, Progress, not_begun, TalkMay, begun, progress_after, starts_at_once}
 use Rattle.trace_replay.specs.History.{with_deed, lines_after, lines_behind}
@@ -15,14 +15,14 @@ use Rattle.pack_geometry.specs.declared.DriveKind.{DriveKind}
 use Rattle.pack_geometry.specs.TableSpelling.{Table}
 use Rattle.trace_replay.specs.requests.ServiceOrder.{Waiting as Waiter, put, Service, after_leave}
 use Rattle.trace_replay.proofs.requests.ServiceOrderRuns.{newcomer, after_join-waiting}
-use Rattle.trace_replay.specs.Script.{Input, Submit, ArriveAt, MoveAt, AttendTo, Drain, Turn, Noise, Arm, SetOnline, SetLocked}
+use Rattle.trace_replay.specs.Script.{Input, Submit, ArriveAt, MoveAt, AttendTo, Drain}
 use Rattle.trace_replay.specs.Drives.{drive_after, drive_played}
 use Rattle.trace_replay.specs.Packs.{Surface}
 use Rattle.trace_replay.specs.Service.{cylinder_of, first_waiting, head_of, in_hand, request_or_none, service_after, target_of}
-use Rattle.trace_replay.specs.Events.{Wish, NoLine, DueLine, Arrival, SectorLine, Interrupt, Attention, Refusal, IdleLine}
+use Rattle.trace_replay.specs.Events.{Wish, Refusal}
 use Rattle.trace_replay.specs.Replay.{Replay, UnitSeen, new_replay, next_wish, hand_of, at_unit, LineMay, ToldMay, Follows, after_moment, after_moments, unit_after, bytes_of, told_after, replay_told, Submission, Refused, Joined, submission, submitted, stage_joined, unit_joined, replay_played}
 use Rattle.trace_replay.specs.Causes.{AskSome}
-use Rattle.trace_replay.proofs.Histories.{Fits, AreSaid, guard_holds}
+use Rattle.trace_replay.proofs.Histories.{Fits, AreSaid, guard_holds, or_zero}
 use Rattle.trace_replay.proofs.Unchanged.{drained_keeps}
 use Rattle.trace_replay.specs.Bounds.{transfer_by, transfers_in, search_by, searches_in, IsCleanLine, AreClean, OneTransfer}
 use Rattle.trace_replay.proofs.Histories.{AreSaid, said_onto, Fits, MoveFits, Open, guard_holds, interrupted}
@@ -198,9 +198,6 @@ clean_ended false h lines whole o =
 none_left : (a c : ℕ) → a + 0 ≡ c → a ≡ c
 none_left a c h = omega arith
 
-zero_or : (n : ℕ) → (n == 0) || false ≡ true → n ≡ 0
-zero_or n h = grind (arith, nat_tests)
-
 unclean : (start : ℕ) (v : Moved) (before lines : List Deed) → lines ≡ Sector start v ∷ before → (IsCleanLine (Sector start v) → ⊥) → AreClean lines → ⊥
 unclean start v before lines is never clean = never (subst AreClean is clean).0
 
@@ -208,7 +205,7 @@ intr_smooth : (d : DriveState) (h : Hand) (segment : Segment) (left : ℕ) (v : 
     → (AreClean lines → MovesOnce h segment left lines) → AreClean (Intr ∷ lines) → Smooth (interrupted h v) (interrupted_by v d (interrupted h v) segment) (Intr ∷ lines)
 intr_smooth d h segment zero verdict.Clean lines is f b clean =
     clean_ended (offset_field d.offset == 0) h lines (none_left h.progress.done h.request.count (b clean.1).whole) (b clean.1).once
-intr_smooth d h segment (suc n) verdict.Clean lines is f b clean = absurd (omega (arith, zero_or (suc n) is))
+intr_smooth d h segment (suc n) verdict.Clean lines is f b clean = absurd (omega (arith, or_zero (suc n) is))
 intr_smooth d h segment left (verdict.Burst at q) lines is f b clean = absurd (unclean (start_of segment h) (verdict.Burst at q) f.before lines f.is (λ c. c) clean.1)
 intr_smooth d h segment left verdict.Hard lines is f b clean = absurd (unclean (start_of segment h) verdict.Hard f.before lines f.is (λ c. c) clean.1)
 intr_smooth d h segment left verdict.Marked lines is f b clean = absurd (unclean (start_of segment h) verdict.Marked f.before lines f.is (λ c. c) clean.1)

@@ -5,15 +5,15 @@ use Rattle.std.specs.Prelude.{if◌then◌else◌}
 use Rattle.hardware_table.specs.Drive.{DriveState}
 use Rattle.hardware_table.specs.Moves.{was_read, was_written}
 use Rattle.trace_replay.specs.requests.Requests.{Request}
-use Rattle.trace_replay.specs.Moments.{Deed, Search, Seek, Recal, Offset, Centre, Clear, Pack, Transfer, Arrive, Sector, Intr, Try, Attn, End}
+use Rattle.trace_replay.specs.Moments.{Deed, Pack, Sector}
 use Rattle.trace_replay.specs.Adapters.{adapter_of}
 use Rattle.trace_replay.specs.Packs.{Surface, with_sector, surface_written, surface_read, sector_of_block}
 use Rattle.trace_replay.specs.Service.{in_hand}
-use Rattle.trace_replay.specs.Events.{Event, Wish, NoLine, DueLine, Arrival, SectorLine, Interrupt, Attention, Refusal, IdleLine, is_no_line, Done}
+use Rattle.trace_replay.specs.Events.{Event, Wish, Refusal, is_no_line, Done}
 use Rattle.trace_replay.specs.Replay.{Replay, with_state, next_wish, act_drained, drained, told_after, replay_told, unit_after, surface_after, at_unit, adapter_told}
 use Rattle.trace_replay.specs.Frames.{ChangesOneUnit, ChangesOneAdapter, ChangesOnePack, ChangesNoMark}
 
-with_other : {T : Type 0} (states : ℕ → T) (k : ℕ) (state : T) (x : ℕ) → x ≢ k → with_state states k state x ≡ states x
+pub with_other : {T : Type 0} (states : ℕ → T) (k : ℕ) (state : T) (x : ℕ) → x ≢ k → with_state states k state x ≡ states x
 with_other states k state x apart = elim (eqb_tells x k) [
   | inl same ↦ absurd (apart same.1)
   | inr other ↦ rw other.0 refl
@@ -60,7 +60,7 @@ written_other : (b : Bool) (s : Surface) (unit block : ℕ) (r : Request) (k oth
 written_other true s unit block r k other at apart = other_sector s unit block (sector_of_block r k) other at apart
 written_other false s unit block r k other at apart = refl
 
-read_same : (b : Bool) (s : Surface) (unit : ℕ) (d : DriveState) (block : ℕ) → (surface_read b s unit d block).sector ≡ s.sector
+pub read_same : (b : Bool) (s : Surface) (unit : ℕ) (d : DriveState) (block : ℕ) → (surface_read b s unit d block).sector ≡ s.sector
 read_same true s unit d block = refl
 read_same false s unit d block = refl
 
@@ -68,7 +68,7 @@ written_marks : (b : Bool) (s : Surface) (unit block : ℕ) (r : Request) (k : �
 written_marks true s unit block r k = refl
 written_marks false s unit block r k = refl
 
-read_marks : (b : Bool) (s : Surface) (unit : ℕ) (d : DriveState) (block : ℕ) → (surface_read b s unit d block).is_marked ≡ s.is_marked
+pub read_marks : (b : Bool) (s : Surface) (unit : ℕ) (d : DriveState) (block : ℕ) → (surface_read b s unit d block).is_marked ≡ s.is_marked
 read_marks true s unit d block = refl
 read_marks false s unit d block = refl
 

@@ -13,11 +13,11 @@ use Rattle.hardware_table.specs.declared.Moved.TheVariants as verdict
 use Rattle.hardware_table.specs.Drive.{DriveState}
 use Rattle.hardware_table.specs.Functions.{performed}
 use Rattle.trace_replay.specs.requests.Requests.{Request, Failed, Unforwarded, Rejection, rejection_answer}
-use Rattle.trace_replay.specs.Script.{Input, Submit, ArriveAt, MoveAt, AttendTo, Drain, Turn, Noise, Arm, SetOnline, SetLocked}
+use Rattle.trace_replay.specs.Script.{Input, Submit, ArriveAt, MoveAt, AttendTo, Drain}
 use Rattle.trace_replay.specs.Moments.{Deed, Search, Seek, Recal, Offset, Centre, Clear, Pack, Transfer, Arrive, Sector, Intr, Try, Attn, End, Moment, Played, Told, Idle}
 use Rattle.trace_replay.specs.Service.{in_hand, target_of}
 use Rattle.trace_replay.specs.Conversation.{Hand, OwnBlocks, entry_of, start_of}
-use Rattle.trace_replay.specs.Events.{Wish, NoLine, DueLine, Arrival, SectorLine, Interrupt, Attention, Refusal, IdleLine}
+use Rattle.trace_replay.specs.Events.{Wish, Refusal}
 use Rattle.trace_replay.specs.Replay.{Replay, new_replay, next_wish, hand_of, at_unit, LineMay, ToldMay, Follows, after_moment, after_moments, unit_after, told_after, replay_told, Submission, Refused, Joined, submission, submitted, replay_played}
 use Rattle.trace_replay.specs.History.{is_refusal, with_deed, lines_after, lines_behind, marks_in}
 use Rattle.trace_replay.proofs.Histories.{IsListed, EndsFailed, WasMarked}
@@ -36,7 +36,7 @@ use Rattle.hardware_table.specs.Drive.{is_writing, new_drive}
 use Rattle.hardware_table.specs.Functions.{performed}
 use Rattle.hardware_table.specs.Moves.{stop_of, first_armed, IsVerdict, IsVerdictBy, IsReadVerdict}
 use Rattle.trace_replay.specs.Drives.{attached}
-use Rattle.trace_replay.specs.Script.{Input, Submit, ArriveAt, MoveAt, AttendTo, Drain, Turn, Noise, Arm, SetOnline, SetLocked}
+use Rattle.trace_replay.specs.Script.{Input, Submit, ArriveAt, MoveAt, AttendTo, Drain}
 use Rattle.trace_replay.specs.Packs.{VerdictMay, flips_at, surface_of}
 use Rattle.trace_replay.specs.Service.{in_hand, target_of}
 use Rattle.trace_replay.specs.Replay.{at_unit, replay_told, told_after, unit_after, LineMay, submission, submitted, Submission, Refused, Joined, replay_played}
@@ -63,7 +63,7 @@ stop_is_none true None stop is three = none-some stop is
 stop_is_none true (Some k) stop is three = omega (arith, three, ap moved_sort (same_Some (verdict.Faulted k) stop is))
 stop_is_none false armed stop is three = omega (arith, three, ap moved_sort (same_Some verdict.Offline stop is))
 
-read_is_none : (places : Option (List ℕ)) → IsReadVerdict places verdict.Marked → ⊥
+pub read_is_none : (places : Option (List ℕ)) → IsReadVerdict places verdict.Marked → ⊥
 unfolding moved_sort
 read_is_none None is = omega (arith, ap moved_sort is)
 read_is_none (Some places) is = is
@@ -76,7 +76,7 @@ marked_by None true write places never is = refl
 marked_by None false true places never is = absurd (omega (arith, ap moved_sort is))
 marked_by None false false places never is = absurd (read_is_none places is)
 
-marked_only : (d : DriveState) (marked : Bool) (places : Option (List ℕ)) → IsVerdict d marked places verdict.Marked → marked ≡ true
+pub marked_only : (d : DriveState) (marked : Bool) (places : Option (List ℕ)) → IsVerdict d marked places verdict.Marked → marked ≡ true
 marked_only d marked places is = marked_by (stop_of d) marked (is_writing d.work) places (λ v stop three. stop_is_none d.online (first_armed d.armed) v stop three) is
 
 -- ---- what stays through a run: kinds, tables and marks; and that lines tell of marked sectors alone
@@ -88,7 +88,7 @@ record Steady (kinds : ℕ → DriveKind) (tables : ℕ → Option Table) (marke
 abbrev AreTrue : (ℕ → ℕ → Bool) → (ℕ → List Deed) → Type 0
 AreTrue marked lines = (x b : ℕ) → WasMarked b (lines x) → marked x b ≡ true
 
-was_told : (deed : Deed) (lines : List Deed) (b : ℕ) → WasMarked b (with_deed deed lines) → (deed ≡ Sector b verdict.Marked) ⊎ WasMarked b lines
+pub was_told : (deed : Deed) (lines : List Deed) (b : ℕ) → WasMarked b (with_deed deed lines) → (deed ≡ Sector b verdict.Marked) ⊎ WasMarked b lines
 was_told (Search c y) lines b w = w
 was_told (Seek c) lines b w = w
 was_told Recal lines b w = w
@@ -208,7 +208,7 @@ no_home h done pack lines true_marks e =
     below true (inr none) = rw (ap (λ z. model.is_marked pack z) (sym none.1) ∙ true_marks e.by.0 e.by.4) (rw none.0 refl)
     below false helpless = refl
 
-attached_kind : (kind : DriveKind) (unit : ℕ) → (attached kind unit).kind ≡ kind
+pub attached_kind : (kind : DriveKind) (unit : ℕ) → (attached kind unit).kind ≡ kind
 attached_kind kind unit = performed_kind function.Pack (performed function.Preset (new_drive kind unit)) ∙ performed_kind function.Preset (new_drive kind unit)
 
 pub are_unusable : AreUnusable

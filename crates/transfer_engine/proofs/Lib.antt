@@ -1,3 +1,2 @@
 pub mod EntryLaws
 pub mod Listing
-pub mod RunLaws

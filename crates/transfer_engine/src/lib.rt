@@ -3,20 +3,16 @@
 //!
 //! What is proved: `Direct`, `Forwarded` and `Continued` are seen as one record: the job, blocks done, failures, and the entry
 //! whose replacement is at hand. Each call is a function on it; Finished, Unforwarded and Exhausted come exactly where they are
-//! due. Laws: a segment lies inside the job or is one replacement; blocks done never fall; failures begin anew where the place
-//! moves on; Exhausted exactly at failure 28; after a forwarded block the rest begins one block later; a sequence of calls
-//! ends.
+//! due, Exhausted at failure 28 at one sector.
 //!
 //! Nothing here is only tested.
 #![tactic(auto)]
 
 mod calls;
 mod job;
-mod laws;
 mod progress;
 mod states;
 
 pub use calls::begin;
 pub use job::{Job, Segment};
-pub use laws::{continuation_law, ending_law, failure_law, segment_law, transfer_law};
 pub use states::{Continued, Direct, Exhausted, Forwarded, Next, Transfer, Unforwarded};

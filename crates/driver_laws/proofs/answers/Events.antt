@@ -8,7 +8,7 @@ use Rattle.trace_replay.specs.Script.{Input}
 use Rattle.trace_replay.specs.declared.requests.answers.AnswerKind.{AnswerKind}
 use Rattle.driver_machine.specs.World.{World, Held, unit_at, adapter_at, held_in, slot_in_hand, unit_on, unit_of, adapter_of}
 use Rattle.driver_machine.specs.Acts as deed
-use Rattle.driver_machine.specs.Acts.{Act, Refuse, Submit, Of, Change, Nothing, Taken, Deed, Tried, after, after_all}
+use Rattle.driver_machine.specs.Acts.{Act, Refuse, Submit, Change, Nothing, Deed, Tried, after, after_all}
 use Rattle.driver_machine.specs.Due.{next_of, command_of}
 use Rattle.driver_machine.specs.Events.{Part, followed, and_then, when_by, each, go_on, until, in_hand_by, in_hand, due_by, next_acts, due_acts, begun, choose_by, choose_acts, adapter_start, submit_by, refusal_of, can_arrive, can_move, can_attend, or_nothing, arrive_acts, move_acts, data_interrupt, steps_taken, attention, drives, attended, attend_acts}
 use Rattle.driver_machine.specs.Runs.{Run}

@@ -9,7 +9,7 @@ use Rattle.trace_replay.specs.Script as script
 use Rattle.trace_replay.specs.Script.{Input}
 use Rattle.driver_machine.specs.declared.Made.{Made}
 use Rattle.driver_machine.specs.World.{World, Held, no_held, held_in, unit_at, slot_in_hand}
-use Rattle.driver_machine.specs.Acts.{Act, Refuse, Submit, Of, Change, Nothing, Taken, Deed, Scene, scene_of, effect, freed, after, after_all}
+use Rattle.driver_machine.specs.Acts.{Act, Submit, Of, Change, Taken, Deed, Scene, scene_of, effect, freed, after, after_all}
 use Rattle.driver_machine.specs.Events.{submit_acts, event_acts}
 use Rattle.driver_machine.specs.Guards.{InHand, Allowed, MayChange}
 use Rattle.driver_machine.proofs.Frame.{effect_same}
@@ -58,7 +58,7 @@ freed_was (made ∷ rest) slots q g e = by made.slot e
     by (Some p) e = set_none slots p q g e
 
 -- THE START
-replicate_at : {A : Type 0} (n i : ℕ) (x : A) → slice_index_or (replicate n x) i x ≡ x
+pub replicate_at : {A : Type 0} (n i : ℕ) (x : A) → slice_index_or (replicate n x) i x ≡ x
 replicate_at zero i x = refl
 replicate_at (suc n) zero x = refl
 replicate_at (suc n) (suc i) x = replicate_at n i x

@@ -12,12 +12,9 @@ use Rattle.driver_laws.specs.answers.Packs.{ReadAll, packs_after, packs_after_al
 use Rattle.driver_laws.specs.answers.Outcome.{Site, Told, Acts, Does, IsFront, Outcome, text_after}
 use Rattle.driver_laws.specs.declared.answers.outcome.Stop.{Stop}
 use Rattle.driver_laws.specs.declared.answers.outcome.Stop.TheVariants.{Store, Sink}
+use Rattle.driver_laws.proofs.invariant.Leads.{after_append}
 
 -- LISTS OF ACTS
-pub after_append : (w : World) (xs ys : List Act) → after_all w (xs ++ ys) ≡ after_all (after_all w xs) ys
-after_append w [] ys = refl
-after_append w (x ∷ xs) ys = after_append (after w x) xs ys
-
 pub run_append : (w : World) (xs ys : List Act) → Run w xs → Run (after_all w xs) ys → Run w (xs ++ ys)
 run_append w [] ys first next = next
 run_append w (x ∷ xs) ys first next = (first.0, run_append (after w x) xs ys first.1 next)

@@ -5,7 +5,7 @@ use Rattle.hardware_table.specs.Events.{turned, fault_armed, online_set, locked_
 use Rattle.trace_replay.specs.Script as script
 use Rattle.trace_replay.specs.Script.{Input}
 use Rattle.driver_machine.specs.World.{World, UnitView, unit_at, slot_in_hand, no_unit}
-use Rattle.driver_machine.specs.Acts.{Act, Refuse, Submit, Of, Change, Nothing, Taken, effect, scene_of, with_drive, joined, changed, after}
+use Rattle.driver_machine.specs.Acts.{Act, Submit, Of, Change, effect, scene_of, with_drive, joined, changed, after}
 use Rattle.driver_machine.proofs.Frame.{effect_same}
 use Rattle.driver_laws.specs.answers.Counts.{IsSetAs}
 use Rattle.driver_laws.specs.answers.Laws.{SetupsStay}

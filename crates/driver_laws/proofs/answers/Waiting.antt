@@ -4,6 +4,7 @@ use Rattle.std.specs.Prelude.{Contains, slice_set, unwrap_or}
 use Rattle.std.specs.Option.{option_map_or}
 use Rattle.std.proofs.lemmas.List.{map-append}
 use Rattle.std.proofs.lemmas.Option.{none-some}
+use Rattle.std.proofs.lemmas.Bool.{true≢false}
 use Rattle.trace_replay.specs.Moments as moment
 use Rattle.trace_replay.specs.Moments.{Moment, Answered, Told, answers_in}
 use Rattle.trace_replay.specs.Script as script
@@ -110,16 +111,13 @@ changed_answers w (script.SetLocked u on) may = none_more w (after w (Change (sc
 changed_answers w input may = absurd may
 
 -- EACH ACT
-true_false : true ≡ false → ⊥
-true_false e = grind arith
-
 pub acts_answer : ActsAnswer
 acts_answer w (Refuse line r kind) s may none = one_more w (after w (Refuse line r kind)) (answer_at line None r.id kind) (λ m q c is. refl) refl
 acts_answer w (Submit line p h) s may none = none_more w (after w (Submit line p h)) (join_stays w line p h s may.slot) refl
 acts_answer w (Of line u id d) s may none = deed_answers w line u id d s may.0
 acts_answer w (Change input) s may none = changed_answers w input may
 acts_answer w (Nothing line) s may none = none_more w w (λ m q c is. refl) refl
-acts_answer w Taken s may none = absurd (true_false none)
+acts_answer w Taken s may none = absurd (true≢false none)
 
 pub runs_answer : RunsAnswer
 runs_answer w [] s run none = sym (append-nil (waiting w))

@@ -2,6 +2,7 @@
 use Rattle.std.proofs.Common.{◌≡◌, ◌≢◌, ◌⊎◌, inl, inr, ℕ, ◌+◌, ◌*◌, ◌/◌, ◌<◌, ◌≤◌, Bool, true, false, List, [], ◌∷◌, length, Option, Some, None, refl, sym, ap, subst, arith, ◌∙◌, get_or-set_same, get_or-set_other}
 use Rattle.std.specs.Prelude.{not, ◌&&◌, ◌%◌}
 use Rattle.std.proofs.lemmas.List.{get_or_past}
+use Rattle.std.proofs.lemmas.Bool.{cases_eq}
 use Rattle.hardware_table.specs.declared.Moved.{Moved}
 use Rattle.hardware_table.specs.declared.Moved.TheVariants as verdict
 use Rattle.hardware_table.specs.Drive.{DriveState}
@@ -13,7 +14,7 @@ use Rattle.trace_replay.specs.Script as script
 use Rattle.trace_replay.specs.Script.{Input}
 use Rattle.trace_replay.specs.declared.requests.answers.AnswerKind.{AnswerKind}
 use Rattle.driver_machine.specs.declared.Phase.{Phase}
-use Rattle.driver_machine.specs.declared.Phase.TheVariants.{Waiting, Positioning, Queued, Transferring, Due}
+use Rattle.driver_machine.specs.declared.Phase.TheVariants.{Waiting, Positioning, Transferring, Due}
 use Rattle.driver_machine.specs.World.{World, UnitView, AdapterView, Held, adapter_of, drive_of, unit_at, adapter_at, held_in, slot_in_hand, unit_on, unit_of, no_unit, new_adapter_view}
 use Rattle.driver_machine.specs.Acts as deed
 use Rattle.driver_machine.specs.Acts.{Act, Refuse, Submit, Change, Nothing, Taken, Deed, Tried, Scene, scene_of, with_scene, with_drive, with_unit_drive, joined, after, after_all}
@@ -30,13 +31,10 @@ use Rattle.driver_laws.proofs.invariant.Due.{UnitsWork, Rests, in_hand_one, due_
 use Rattle.driver_laws.proofs.invariant.Start.{IsOver, no_more, start_leads}
 
 -- EACH EVENT ENDS with adapter start, and then the driver is at work.
-same_or : (x y : ℕ) → (x ≡ y) ⊎ (x ≢ y)
-same_or x y = grind arith
-
 over_works : (line a n : ℕ) (w : World) → a < 4 → IsOver (Unit {0}) line a n w → AtWork w
 over_works line a n w lt over = record {
   units = (over.rests.work tt).units;
-  adapters = λ b less busy. by b less busy (same_or b a);
+  adapters = λ b less busy. by b less busy (cases_eq b a);
 }
   where
     by : (b : ℕ) → b < 4 → (adapter_at w b).state.busy ≡ false → (b ≡ a) ⊎ (b ≢ a) → (adapter_at w b).queue ≡ []
@@ -57,7 +55,7 @@ at_rest a n w sound work few = record {
   few = few;
 }
 
-eighth : (u : ℕ) → u < 32 → u / 8 < 4
+pub eighth : (u : ℕ) → u < 32 → u / 8 < 4
 eighth u lt = omega (arith, lt)
 
 least : (n : ℕ) → n ≤ n
@@ -135,8 +133,8 @@ same_work : (w : World) (u p : ℕ) (s : Scene) → Sound w → u < 32 → s.uni
     → s.adapter.queue ≡ (adapter_at w (adapter_of u)).queue → s.adapter.state.busy ≡ (adapter_at w (adapter_of u)).state.busy
     → AtWork w → AtWork (with_scene w u p s)
 same_work w u p s sound lt phase queue waits busy work = record {
-  units = λ x less. unit_by x less (same_or x u);
-  adapters = λ a less free. adapter_by a less free (same_or a (adapter_of u));
+  units = λ x less. unit_by x less (cases_eq x u);
+  adapters = λ a less free. adapter_by a less free (cases_eq a (adapter_of u));
 }
   where
     own : unit_at (with_scene w u p s) u ≡ s.unit
@@ -277,7 +275,7 @@ behind stays line a u n d w its lt some at may free =
     numbers : (old n ended : ℕ) → old ≤ n → old ≤ n + ended
     numbers old n ended few = omega (arith, few)
 
-was_busy : (b c : Bool) → (b ≡ false → c ≡ false) → c ≡ true → b ≡ true
+pub was_busy : (b c : Bool) → (b ≡ false → c ≡ false) → c ≡ true → b ≡ true
 was_busy true c rest up = refl
 was_busy false c rest up = absurd (false_true (sym (rest refl) ∙ up))
 
@@ -365,7 +363,7 @@ attend_by stays line a w sound work can =
 -- CONDITIONS
 drive_work : (u : ℕ) (f : DriveState → DriveState) (w : World) → Sound w → u < 32 → AtWork w → AtWork (with_unit_drive u f w)
 drive_work u f w sound lt work = record {
-  units = λ x less. by x less (same_or x u);
+  units = λ x less. by x less (cases_eq x u);
   adapters = work.adapters;
 }
   where

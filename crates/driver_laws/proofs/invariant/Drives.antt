@@ -4,7 +4,7 @@ use Rattle.std.specs.Prelude.{if◌then◌else◌, ◌==◌, ◌&&◌, not, bit_
 use Rattle.std.proofs.lemmas.Nat.{div-mul-add, mod-mul-add}
 use Rattle.std.proofs.lemmas.Bool.Decides.{Decides-ltb}
 use Rattle.pack_geometry.specs.declared.DriveKind.{DriveKind}
-use Rattle.pack_geometry.specs.declared.DriveKind.TheVariants.{Rp06, Rm03, Rm05}
+use Rattle.pack_geometry.specs.declared.DriveKind.TheVariants.{Rp06}
 use Rattle.pack_geometry.specs.declared.Place.{Place}
 use Rattle.pack_geometry.specs.Geometry.{cylinders_of, tracks_of, sectors_of, block_count, limit_of, IsInside, place_at, replacement_at, track_and_sector}
 use Rattle.drive_registers.specs.declared.Function.{Function}
@@ -59,17 +59,17 @@ sector_below other n = omega arith
 pub performed_as : (f : Function) (d : DriveState) → refusals f d ≡ 0 → performed f d ≡ effect f (record d { cs1 = function_code f })
 performed_as f d e = ap (λ n. if n == 0 then effect f (record d { cs1 = function_code f }) else refused n (record d { cs1 = function_code f })) e
 
-tests_true : (x y z : Bool) → x ≡ true → y ≡ true → z ≡ true → (x && (y && z)) ≡ true
+pub tests_true : (x y z : Bool) → x ≡ true → y ≡ true → z ≡ true → (x && (y && z)) ≡ true
 tests_true x y z e f g = rw (e, f, g) refl
 
 tests_in : (x y : Bool) → x && y ≡ true → y ≡ true
 tests_in true y e = e
 tests_in false y e = absurd (grind (arith, e))
 
-no_bits : (b c : Bool) (x y : ℕ) → b ≡ true → c ≡ false → bit_or (on (not b) x) (on c y) ≡ 0
+pub no_bits : (b c : Bool) (x y : ℕ) → b ≡ true → c ≡ false → bit_or (on (not b) x) (on c y) ≡ 0
 no_bits b c x y e f = rw (e, f) refl
 
-small_sector : (kind : DriveKind) (sector : ℕ) → sector < sectors_of kind → sector < 256
+pub small_sector : (kind : DriveKind) (sector : ℕ) → sector < sectors_of kind → sector < 256
 small_sector kind sector lt = let few = (sizes_small kind).2 in omega arith
 
 pub unrefused : (d : DriveState) → is_addressed d ≡ true → on (not (is_addressed d)) bits.invalid_address_error ≡ 0

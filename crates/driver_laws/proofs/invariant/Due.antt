@@ -3,7 +3,7 @@ use Rattle.std.proofs.Common.{◌≡◌, ◌≢◌, ◌⊎◌, inl, inr, ℕ, ze
 use Rattle.std.specs.Prelude.{slice_index_or, ◌*◌}
 use Rattle.disksort.specs.declared.Waiter.{Waiter}
 use Rattle.driver_machine.specs.declared.Phase.{Phase}
-use Rattle.driver_machine.specs.declared.Phase.TheVariants.{Waiting, Positioning, Queued, Transferring, Due}
+use Rattle.driver_machine.specs.declared.Phase.TheVariants.{Waiting, Due}
 use Rattle.driver_machine.specs.World.{World, adapter_of, unit_at, adapter_at, held_in, slot_in_hand}
 use Rattle.driver_machine.specs.Acts.{Act, Of, Deed, after, after_all}
 use Rattle.driver_machine.specs.Due.{next_of, next_by}
@@ -56,7 +56,7 @@ pub record Rests (E : Type 0) (a n : ℕ) (w : World) : Type 0 where
   pub few : outstanding w ≤ n
 
 -- a unit at which nothing is due is at work
-none_due : (queue : List Waiter) (line u : ℕ) (d : Deed) (w : World) → in_hand_by queue line u d w ≡ [] → queue ≡ []
+pub none_due : (queue : List Waiter) (line u : ℕ) (d : Deed) (w : World) → in_hand_by queue line u d w ≡ [] → queue ≡ []
 none_due [] line u d w none = refl
 none_due (x ∷ rest) line u d w none = absurd (grind (arith, none))
 

@@ -1,7 +1,6 @@
 -- A REPLACEMENT comes next: it is that of the entry which lists the block, and phase and adapter hold.
-use Rattle.std.proofs.Common.{◌≡◌, ℕ, ◌+◌, ◌<◌, true, get_or, Option, Some, None, refl, sym, ap, ◌∙◌, subst, arith}
+use Rattle.std.proofs.Common.{◌≡◌, ℕ, ◌+◌, ◌<◌, get_or, Option, Some, None, refl, sym, ap, ◌∙◌, subst, arith}
 use Rattle.std.specs.Prelude.{slice_get}
-use Rattle.std.proofs.lemmas.Bool.Decides.{nat_tests}
 use Rattle.std.proofs.lemmas.List.Quantifiers.{position-Some}
 use Rattle.std.proofs.lemmas.Option.{slice_get-get_or}
 use Rattle.pack_geometry.specs.declared.DriveKind.{DriveKind}
@@ -25,15 +24,9 @@ use Rattle.driver_machine.proofs.DueFacts.{none_some}
 use Rattle.driver_laws.proofs.invariant.Scene.{SceneOk, due_of}
 use Rattle.driver_laws.proofs.invariant.DeedFacts.{judged_is, left_by}
 use Rattle.driver_laws.proofs.invariant.AdapterLeft.{SceneAdapter, AdapterLeft, is_transferring, is_queued, due_left}
+use Rattle.pack_geometry.proofs.HomeLaws.{same_place}
 
 -- FORWARD: the replacement that comes next is that of the entry which lists the block.
-same_place : (p q : Place) → is_place p q ≡ true → p ≡ q
-same_place p q is =
-    let cylinder : p.cylinder ≡ q.cylinder = grind (arith, nat_tests) in
-    let track : p.track ≡ q.track = grind (arith, nat_tests) in
-    let sector : p.sector ≡ q.sector = grind (arith, nat_tests) in
-    λ i. record { cylinder = cylinder i; track = track i; sector = sector i }
-
 found_at : (index : Option ℕ) (table : Option Table) (place : Place) (i : ℕ) → entry_by index table place ≡ Some i
     → slice_get (places_of table) i ≡ Some place
 found_at (Some k) table place i is = absurd (none_some is)

@@ -11,13 +11,14 @@ use Rattle.main_memory.specs.Blocks.{IsLoan}
 use Rattle.pack_geometry.specs.Geometry.{limit_of}
 use Rattle.transfer_engine.specs.State.{segment_of}
 use Rattle.driver_machine.specs.declared.Phase.{Phase}
-use Rattle.driver_machine.specs.declared.Phase.TheVariants.{Waiting, Positioning, Queued, Transferring, Due}
+use Rattle.driver_machine.specs.declared.Phase.TheVariants.{Waiting, Queued}
 use Rattle.driver_machine.specs.World.{World, UnitView, AdapterView, Held, no_held, no_unit, new_adapter_view, adapter_of, drive_of, unit_on, unit_at, adapter_at, slot_at, held_in, slot_in_hand, transfer_of}
 use Rattle.driver_machine.specs.Acts.{Deed, Scene, effect, scene_of, with_scene}
 use Rattle.driver_machine.specs.Guards.{InHand, May}
 use Rattle.driver_machine.specs.Sound.{IsDrive, IsPhase, IsTableFor, IsOutstanding, UnitOk, Transfers, AdapterOk, SlotOk, Sound, is_waiting}
 use Rattle.driver_laws.proofs.invariant.Scene.{HasTransferFor, SceneOk}
 use Rattle.driver_laws.proofs.invariant.Others.{LeavesOthers, leaves_others, other_phase}
+use Rattle.driver_laws.proofs.invariant.Joins.{busy_is}
 
 -- NUMBERS of units
 pub adapter_of-unit_on : (a k : ℕ) → k < 8 → adapter_of (unit_on a k) ≡ a
@@ -99,16 +100,13 @@ pub table_stays : (w now : World) (u x : ℕ) → Sound w → Changed w now u �
 table_stays w now u x s c lt other = subst HasTable (sym (c.units x other)) (s.each_unit x lt).table
 
 -- WHAT ADAPTERS SAY of other units
-transferring_goes : (phase : Phase) → phase ≡ Transferring → is_waiting phase ≡ false
-transferring_goes phase is = ap is_waiting is
-
 pub transfers_on : (w now : World) (u x : ℕ) (h : Held) (a : AdapterState) → Changed w now u → x < 32 → x ≢ u → Transfers w x h a → Transfers now x h a
 transfers_on w now u x h a c lt other is =
     let same : unit_at now x ≡ unit_at w x = c.units x other in
     record {
       phase = ap (λ (y : UnitView). y.phase) same ∙ is.phase;
       slot = ap (λ (y : UnitView). slot_at now (slot_in_hand y)) same
-          ∙ (c.held x lt other (transferring_goes (unit_at w x).phase is.phase) ∙ is.slot);
+          ∙ (c.held x lt other (busy_is (unit_at w x).phase is.phase) ∙ is.slot);
       on_bus = is.on_bus;
       loan = is.loan;
       segment = is.segment ∙ ap (λ (y : UnitView). segment_of (transfer_of y)) (sym same);
@@ -200,7 +198,7 @@ scene_ok w u id s i =
     }
 
 -- A DEED is a change at its unit.
-other_slot : (w : World) (u id x : ℕ) → Sound w → InHand w u id → x < 32 → x ≢ u → is_waiting (unit_at w x).phase ≡ false
+pub other_slot : (w : World) (u id x : ℕ) → Sound w → InHand w u id → x < 32 → x ≢ u → is_waiting (unit_at w x).phase ≡ false
     → slot_in_hand (unit_at w x) ≢ slot_in_hand (unit_at w u)
 other_slot w u id x s i lt other goes same =
     let ok = s.each_unit x lt in
@@ -217,7 +215,7 @@ adapter_here w u p e s lt =
 pub unit_here : (w : World) (u p : ℕ) (e : Scene) → Sound w → u < 32 → unit_at (with_scene w u p e) u ≡ e.unit
 unit_here w u p e s lt = get_or-set_same w.units u e.unit no_unit (subst (λ n. u < n) (sym s.units) lt)
 
-slot_there : (slots : List (Option Held)) (p : ℕ) (h : Held) → slice_index_or slots p None ≡ Some h → p < length slots
+pub slot_there : (slots : List (Option Held)) (p : ℕ) (h : Held) → slice_index_or slots p None ≡ Some h → p < length slots
 slot_there [] p h e = absurd (none-some h e)
 slot_there (x ∷ slots) zero h e = omega arith
 slot_there (x ∷ slots) (suc p) h e = let later = slot_there slots p h e in omega (arith, later)

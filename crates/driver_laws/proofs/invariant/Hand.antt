@@ -1,7 +1,7 @@
 -- The request in hand of a sound world, and a deed that leaves queues, frames and answers as they were.
 use Rattle.std.proofs.Common.{◌≡◌, ◌≢◌, inl, inr, ℕ, ◌+◌, ◌<◌, ◌≤◌, Bool, true, false, List, length, length-set, Option, Some, None, sym, ap, ◌∙◌, subst, arith}
 use Rattle.std.specs.Prelude.{Contains, slice_index_or, unwrap_or}
-use Rattle.std.proofs.lemmas.Bool.{cases_eq, cases_lt}
+use Rattle.std.proofs.lemmas.Bool.{cases_eq, cases_lt, true≢false}
 use Rattle.std.proofs.lemmas.Option.{none-some, same_Some}
 use Rattle.std.proofs.lemmas.List.{get_or_past}
 use Rattle.pack_geometry.specs.Geometry.{limit_of, place_at}
@@ -46,9 +46,6 @@ pub record Keeps (old new : Scene) : Type 0 where
 pub record Fits (old new : Scene) : Type 0 where
   pub whole : (k : ℕ) → k < length old.held.blocks → length (block_in old.held k) ≡ size_at old.held.loan k → length (block_in new.held k) ≡ size_at old.held.loan k
   pub bus : new.held.on_bus ≡ true → new.unit.phase ≡ Transferring
-
-true_false : true ≡ false → ⊥
-true_false e = grind arith
 
 module _ (w : World) (s : Sound w) (u id : ℕ) (i : InHand w u id) where
   abbrev old : UnitView
@@ -98,7 +95,7 @@ module _ (w : World) (s : Sound w) (u id : ℕ) (i : InHand w u id) where
   pub not_made : (made : Made) (q : ℕ) → IsMade w made q → q ≢ p
   not_made made q is same =
       let here : is.held ≡ h = same_Some is.held h (sym is.slot ∙ subst (λ (r : ℕ). slot_at w r ≡ Some h) (sym same) in_slot) in
-      absurd (true_false (sym is.over ∙ ap (λ (g : Held). g.ended) here ∙ going_on))
+      absurd (true≢false (sym is.over ∙ ap (λ (g : Held). g.ended) here ∙ going_on))
 
   -- A DEED that keeps queues, frames and answers
   module _ (new : Scene) (k : Keeps (scene_of w u) new) (f : Fits (scene_of w u) new) where
@@ -177,7 +174,7 @@ module _ (w : World) (s : Sound w) (u id : ℕ) (i : InHand w u id) where
           queued = λ e. subst (λ (x : UnitView). Among p (slots_of x.queue)) (sym here)
               (subst (Among p) (sym queue_same) (Among-contained number_of old.queue (head_of old.queue) (contains_head old.queue i.some)));
           bus = λ e. (sym hand_same ∙ ap slot_in_hand (sym here), ap (λ (x : UnitView). x.phase) here ∙ f.bus e, ended_now);
-          made = λ e. absurd (true_false (sym e ∙ ended_now));
+          made = λ e. absurd (true≢false (sym e ∙ ended_now));
         }
 
     own_frames : AreFrames now

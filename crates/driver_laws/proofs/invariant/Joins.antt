@@ -1,6 +1,7 @@
 -- A request joins: it stands in its slot and in its unit's queue, and its frames are needed.
 use Rattle.std.proofs.Common.{◌≡◌, ◌≢◌, inl, inr, ℕ, ◌+◌, ◌<◌, ◌≤◌, Bool, true, false, length, Option, Some, None, refl, sym, ap, ◌∙◌, subst, arith}
 use Rattle.std.proofs.lemmas.Option.{none-some, same_Some}
+use Rattle.std.proofs.lemmas.Bool.{false≢true, true≢false}
 use Rattle.pack_geometry.specs.Geometry.{limit_of, place_at}
 use Rattle.pack_geometry.specs.declared.DriveKind.{DriveKind}
 use Rattle.disksort.specs.declared.Waiter.{Waiter}
@@ -18,19 +19,13 @@ use Rattle.driver_laws.proofs.invariant.SlotsLists.{put_set, number_of, cylinder
 use Rattle.driver_laws.proofs.invariant.Frames.{frames_at, frames_put}
 use Rattle.driver_laws.proofs.invariant.Changed.{AreParts, Changed, Leaves, outstanding_stays, kind_stays, slots_changed, parts_changed}
 
-true_false : true ≡ false → ⊥
-true_false e = grind arith
-
-false_true : false ≡ true → ⊥
-false_true e = grind arith
-
 used_more : (frames used now needed : ℕ) → frames ≡ used → now + 0 ≡ used + needed → frames + needed ≡ now
 used_more frames used now needed a b = omega (arith, a, b)
 
 longer : (n m : ℕ) → n ≡ m + 1 → 0 < n
 longer n m e = omega (arith, e)
 
-busy_is : (phase : Phase) → phase ≡ Transferring → is_waiting phase ≡ false
+pub busy_is : (phase : Phase) → phase ≡ Transferring → is_waiting phase ≡ false
 busy_is phase e = ap is_waiting e
 
 module _ (w : World) (s : Sound w) (line p : ℕ) (h : Held) (new : IsNew w p h) where
@@ -92,7 +87,7 @@ module _ (w : World) (s : Sound w) (line p : ℕ) (h : Held) (new : IsNew w p h)
     once = with_once newcomer old.queue ok.order not_queued ok.once;
     order = queue_with-in_order cylinder_of newcomer old.queue ok.order;
     head = λ e. longer (length view.queue) (length old.queue) (length-queue_with cylinder_of newcomer old.queue);
-    undeclared = λ e. absurd (true_false (sym new.unit.declared ∙ e));
+    undeclared = λ e. absurd (true≢false (sym new.unit.declared ∙ e));
   }
 
   own_slot : SlotOk now p h
@@ -104,8 +99,8 @@ module _ (w : World) (s : Sound w) (line p : ℕ) (h : Held) (new : IsNew w p h)
     whole = new.whole;
     inside = subst (λ (kind : DriveKind). h.first + h.loan.count ≤ limit_of kind) (sym (kind_stays w now h.unit p view (Some h) s change leaves h.unit)) new.inside;
     queued = λ e. subst (λ (x : UnitView). Among p (slots_of x.queue)) (sym change.units.here) (with_among newcomer old.queue ok.order p (inl refl));
-    bus = λ e. absurd (false_true (sym new.on_bus ∙ e));
-    made = λ e. absurd (false_true (sym new.going_on ∙ e));
+    bus = λ e. absurd (false≢true (sym new.on_bus ∙ e));
+    made = λ e. absurd (false≢true (sym new.going_on ∙ e));
   }
 
   own_frames : AreFrames now

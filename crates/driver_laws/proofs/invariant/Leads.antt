@@ -37,10 +37,6 @@ pub after_append : (w : World) (xs ys : List Act) → after_all w (xs ++ ys) ≡
 after_append w [] ys = refl
 after_append w (x ∷ xs) ys = after_append (after w x) xs ys
 
-pub run_append : (w : World) (xs ys : List Act) → Run w xs → Run (after_all w xs) ys → Run w (xs ++ ys)
-run_append w [] ys first later = later
-run_append w (x ∷ xs) ys first later = (first.0, run_append (after w x) xs ys first.1 later)
-
 pub run_split : (w : World) (xs ys : List Act) → Run w (xs ++ ys) → Run w xs × Run (after_all w xs) ys
 run_split w [] ys run = (tt, run)
 run_split w (x ∷ xs) ys run =

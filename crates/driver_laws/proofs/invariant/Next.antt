@@ -20,7 +20,7 @@ use Rattle.driver_machine.specs.Sound.{Among, IsStill, IsGoal, IsMoving, IsPhase
 use Rattle.driver_machine.proofs.DueFacts.{false_true}
 use Rattle.driver_machine.specs.Runs.{CanCome, NoneOutstanding}
 use Rattle.driver_laws.proofs.invariant.Deeds.{head_of}
-use Rattle.driver_laws.proofs.invariant.Calls.{IsServing, serving}
+use Rattle.driver_laws.proofs.invariant.Calls.{IsServing, serving, eighth}
 
 -- The lowest element that can.
 pub lowest_is : {A : Type 0} (can : A → Bool) (xs : List A) (n u : ℕ) (d : A) → lowest can xs n ≡ Some u
@@ -69,14 +69,11 @@ none_lowest can (y ∷ ys) n d none =
     ∙ none_lowest can ys (n + 1) d (λ x lt. none (suc x) (omega arith))
 
 -- a unit and an adapter that are there
-unit_there : (w : World) (u : ℕ) → Sound w → u < 32 → u < length w.units
+pub unit_there : (w : World) (u : ℕ) → Sound w → u < 32 → u < length w.units
 unit_there w u sound lt = subst (λ (k : ℕ). u < k) (sym sound.units) lt
 
 adapter_there : (w : World) (a : ℕ) → Sound w → a < 4 → a < length w.adapters
 adapter_there w a sound lt = subst (λ (k : ℕ). a < k) (sym sound.adapters) lt
-
-adapter_of-small : (u : ℕ) → u < 32 → u / 8 < 4
-adapter_of-small u lt = omega (arith, lt)
 
 drive_of-small : (u : ℕ) → u % 8 < 8
 drive_of-small u = omega arith
@@ -88,7 +85,7 @@ unit_on-own u = omega arith
 pub shows : (w : World) (u : ℕ) → Sound w → u < 32 → (unit_at w u).drive.attention ≡ true → (adapter_at w (adapter_of u)).state.attentions ≢ 0
 shows w u sound lt up none =
     let at : bit_at (adapter_at w (adapter_of u)).state.attentions (drive_of u) ≡ (if (unit_at w (unit_on (adapter_of u) (drive_of u))).drive.attention then 1 else 0) =
-    (sound.each_adapter (adapter_of u) (adapter_of-small u lt)).raised (drive_of u) (drive_of-small u) in
+    (sound.each_adapter (adapter_of u) (eighth u lt)).raised (drive_of u) (drive_of-small u) in
     let here : (if (unit_at w (unit_on (adapter_of u) (drive_of u))).drive.attention then 1 else 0) ≡ 1 =
     ap (λ k. if (unit_at w k).drive.attention then 1 else 0) (unit_on-own u) ∙ ap (λ b. if b then 1 else 0) up in
     let zero : bit_at (adapter_at w (adapter_of u)).state.attentions (drive_of u) ≡ 0 = ap (λ n. bit_at n (drive_of u)) none ∙ bit_at-zero (drive_of u) in
@@ -183,7 +180,7 @@ module _ (w : World) (sound : Sound w) (work : AtWork w) (idle : next_event w �
   no_moving : (u : ℕ) → u < 32 → IsMoving (unit_at w u).drive → ⊥
   no_moving u lt moving = elim moving.either [
     | inl goal ↦ no_arrive u lt (goal_positions (unit_at w u).drive.kind (unit_at w u).drive.work goal.0)
-    | inr up ↦ no_attention (adapter_of u) (adapter_of-small u lt) (shows w u sound lt up.1)
+    | inr up ↦ no_attention (adapter_of u) (eighth u lt) (shows w u sound lt up.1)
   ]
     where
       goal_positions : (kind : DriveKind) (x : Work) → IsGoal kind x → is_positioning x ≡ true
@@ -202,9 +199,9 @@ module _ (w : World) (sound : Sound w) (work : AtWork w) (idle : next_event w �
   none_asked u Queued lt e = absurd (by_busy (adapter_at w (adapter_of u)).state.busy refl)
     where
       by_busy : (b : Bool) → (adapter_at w (adapter_of u)).state.busy ≡ b → ⊥
-      by_busy true f = no_busy (adapter_of u) (adapter_of-small u lt) f
-      by_busy false f = subst (Among u) (work.adapters (adapter_of u) (adapter_of-small u lt) f) (phase_of u Queued lt e).2
-  none_asked u Transferring lt e = absurd (no_busy (adapter_of u) (adapter_of-small u lt) (phase_of u Transferring lt e).2)
+      by_busy true f = no_busy (adapter_of u) (eighth u lt) f
+      by_busy false f = subst (Among u) (work.adapters (adapter_of u) (eighth u lt) f) (phase_of u Queued lt e).2
+  none_asked u Transferring lt e = absurd (no_busy (adapter_of u) (eighth u lt) (phase_of u Transferring lt e).2)
   none_asked u (Due task) lt e = absurd (subst (λ (y : Phase). WorkOf y (unit_at w u).queue) e (work.units u lt))
 
   pub none_left : NoneOutstanding w

@@ -5,6 +5,7 @@ use Rattle.std.specs.Option.{option_map_or}
 use Rattle.std.proofs.lemmas.Option.{none-some, same_Some}
 use Rattle.std.proofs.lemmas.List.{get_or_past}
 use Rattle.std.proofs.lemmas.List.Elements.{Contains-push_cases}
+use Rattle.std.proofs.lemmas.Bool.{false≢true}
 use Rattle.hardware_table.specs.Drive.{DriveState}
 use Rattle.hardware_table.specs.Noise.{Book}
 use Rattle.driver_machine.specs.declared.Made.{Made}
@@ -17,9 +18,6 @@ use Rattle.driver_laws.proofs.invariant.SlotsLists.{put_set, put_none, Contains-
 use Rattle.driver_laws.proofs.invariant.Frames.{frames_at, frames_put}
 use Rattle.driver_laws.proofs.invariant.Changed.{AreParts, Changed, Leaves, outstanding_stays, slots_changed, parts_changed}
 use Rattle.driver_laws.proofs.invariant.Hand.{slot_there}
-
-false_true : false ≡ true → ⊥
-false_true e = grind arith
 
 not_small : 32 < 32 → ⊥
 not_small lt = omega (arith, lt)
@@ -175,7 +173,7 @@ module _ (w : World) (s : Sound w) (made : Made) (rest : List Made) (p : ℕ) (w
   going_elsewhere : (q : ℕ) (g : Held) → slot_at w q ≡ Some g → g.ended ≡ false → q ≢ p
   going_elsewhere q g e on same =
       let here : g ≡ is.held = same_Some g is.held (sym (subst (λ (r : ℕ). slot_at w r ≡ Some g) same e) ∙ is.slot) in
-      false_true (sym on ∙ ap (λ (x : Held). x.ended) here ∙ is.over)
+      false≢true (sym on ∙ ap (λ (x : Held). x.ended) here ∙ is.over)
 
   freed_leaves : Leaves w freed_world u p (unit_at w u)
   freed_leaves = record {

@@ -1,5 +1,5 @@
 -- READY: the unit waits behind all others, and phase and adapter hold.
-use Rattle.std.proofs.Common.{◌≡◌, inl, inr, ℕ, false, List, [], ◌∷◌, ◌++◌, Some, refl, sym, ap, ◌∙◌}
+use Rattle.std.proofs.Common.{◌≡◌, inl, inr, ℕ, false, [], ◌∷◌, ◌++◌, Some, refl, sym, ap, ◌∙◌}
 use Rattle.transfer_engine.specs.State.{TransferState}
 use Rattle.driver_machine.specs.declared.Phase.TheVariants.{Waiting, Queued, Due}
 use Rattle.driver_machine.specs.declared.Task.TheVariants.{Steps}
@@ -13,12 +13,9 @@ use Rattle.driver_laws.proofs.invariant.Scene.{SceneOk, phase_is, same_ask, begu
 use Rattle.driver_laws.proofs.invariant.DeedFacts.{new_begun}
 use Rattle.driver_laws.proofs.invariant.AdapterLeft.{is_transferring, is_queued, SceneAdapter, AdapterLeft, queue_left, not_transferring, not_queued}
 use Rattle.driver_laws.proofs.invariant.Lists.{among_push, once_push}
+use Rattle.driver_laws.proofs.invariant.SlotsLists.{Among-last}
 
 -- READY: the unit waits behind all others
-among_last : (u : ℕ) (xs : List ℕ) → Among u (xs ++ u ∷ [])
-among_last u [] = inl refl
-among_last u (y ∷ ys) = inr (among_last u ys)
-
 ready_still : (u : ℕ) (t : TransferState) (s : Scene) → SceneOk u s → IsReady s.unit s.held t → IsStill s.unit.drive
 ready_still u t s ok ready = elim ready [
   | inl start ↦ (phase_is u s Waiting ok start.0).0
@@ -36,7 +33,7 @@ ready_begun line u p t s ok ready = elim ready [
 
 pub ready_phase : (line u p : ℕ) (t : TransferState) (s : Scene) → SceneOk u s → IsDue s.unit s.held (deed.Ready t)
     → IsPhase u (effect line u p (deed.Ready t) s).unit (effect line u p (deed.Ready t) s).adapter s.held Queued
-ready_phase line u p t s ok due = (ready_begun line u p t s ok due, ready_still u t s ok due, among_last u s.adapter.queue)
+ready_phase line u p t s ok due = (ready_begun line u p t s ok due, ready_still u t s ok due, Among-last u s.adapter.queue)
 
 ready_rest : (v : UnitView) (h : Held) (t : TransferState) → IsReady v h t → (is_transferring v.phase ≡ false) × (is_queued v.phase ≡ false)
 ready_rest v h t ready = elim ready [

@@ -4,7 +4,7 @@ use Rattle.std.specs.Prelude.{◌*◌, ◌-◌, if◌then◌else◌, ◌==◌, m
 use Rattle.std.proofs.lemmas.Bool.{false≢true, eqb-true, eqb-false}
 use Rattle.std.specs.Int.{bit_at}
 use Rattle.pack_geometry.specs.declared.DriveKind.{DriveKind}
-use Rattle.pack_geometry.specs.declared.DriveKind.TheVariants.{Rp06, Rm03, Rm05}
+use Rattle.pack_geometry.specs.declared.DriveKind.TheVariants.{Rp06}
 use Rattle.pack_geometry.specs.Geometry.{block_count}
 use Rattle.fire_code.specs.Burst.{IsBurst}
 use Rattle.fire_code.specs.Remainder.{remainder}
@@ -28,11 +28,11 @@ use Rattle.driver_machine.specs.Acts.{Tried, Scene, effect}
 use Rattle.driver_machine.specs.Sound.{IsDrive, IsPhase, IsClear, IsUnderWay, IsEndedAt, IsBurstAt, IsFor, late_by}
 use Rattle.driver_machine.specs.World.{Held, transfer_of, drive_of, with_block_in}
 use Rattle.driver_machine.specs.Guards.{May, IsBusyFor}
-use Rattle.driver_machine.proofs.KindStays.{stepped_kind}
 use Rattle.driver_laws.proofs.invariant.Drives.{by_if, drive_after_step}
 use Rattle.driver_laws.proofs.invariant.Scene.{SceneOk, phase_is, same_ask, begun_as, block_below, effect_ask}
 use Rattle.driver_laws.proofs.invariant.DeedFacts.{transfer_at}
 use Rattle.driver_laws.proofs.invariant.AdapterLeft.{loaded_many, SceneAdapter, AdapterLeft}
+use Rattle.trace_replay.proofs.Kept.{stepped_kind}
 
 -- A SECTOR. What a move leaves of the drive's kind, its work and its attention
 pub record IsSameBut (d e : DriveState) : Type 0 where

@@ -7,8 +7,8 @@ use Rattle.driver_machine.specs.Guards.{May}
 use Rattle.driver_machine.specs.Acts as deed
 use Rattle.driver_machine.specs.Acts.{Scene, effect}
 use Rattle.driver_laws.proofs.invariant.Hand.{Keeps, Fits}
-use Rattle.driver_machine.proofs.KindStays.{performed_kind}
 use Rattle.driver_laws.proofs.invariant.SlotsDeedFacts.{kept, not_transferring, rests}
+use Rattle.trace_replay.proofs.Kept.{performed_kind}
 
 pub dclr_keeps : (line u p moved : ℕ) (last : Moved) (s : Scene) → Keeps s (effect line u p (deed.Dclr moved last) s)
 dclr_keeps line u p moved last s = kept s _ _ refl refl (performed_kind function.Clear s.unit.drive)

@@ -4,6 +4,7 @@ use Rattle.std.proofs.Common.{◌≡◌, inl, inr, ℕ, ◌+◌, ◌<◌, ◌-�
 use Rattle.std.specs.Prelude.{if◌then◌else◌, Contains, unwrap_or}
 use Rattle.std.proofs.lemmas.Option.{none-some, same_Some}
 use Rattle.std.proofs.lemmas.List.Elements.{Contains-push_cases}
+use Rattle.std.proofs.lemmas.Bool.{true≢false}
 use Rattle.pack_geometry.specs.declared.DriveKind.{DriveKind}
 use Rattle.pack_geometry.specs.Geometry.{limit_of}
 use Rattle.hardware_table.specs.declared.Moved.{Moved}
@@ -31,19 +32,15 @@ use Rattle.driver_laws.proofs.invariant.Frames.{frames_at, frames_put}
 use Rattle.driver_laws.proofs.invariant.Changed.{AreParts, Changed, Leaves, outstanding_stays, kind_stays, slots_changed, parts_changed}
 use Rattle.driver_laws.proofs.invariant.Hand.{in_slot, hand_there, unit_ok, unit_there, slot_ok, own, going_on, mine, not_made}
 use Rattle.driver_laws.proofs.invariant.SlotsDeedFacts.{not_transferring}
+use Rattle.driver_laws.proofs.invariant.DeedFacts.{left_by}
 
 -- the phase of a unit, once it is known
 phase_is : (u : ℕ) (v : UnitView) (a : AdapterView) (h : Held) (phase : Phase) → v.phase ≡ phase → IsPhase u v a h v.phase → IsPhase u v a h phase
 phase_is u v a h phase is holds = subst (IsPhase u v a h) is holds
 
--- a segment's blocks are blocks of the job
-inside : (index : Option ℕ) (job : Job) (done moved : ℕ) → done < job.count → moved < (segment_by index job done).count → done + moved < job.count
-inside None job done moved left less = omega (arith, left, less)
-inside (Some i) job done moved left less = omega (arith, left, less)
-
 begun_less : (v : UnitView) (h : Held) (moved : ℕ) → IsBegun v h → moved < (segment_of (transfer_of v)).count → done_with moved v < h.loan.count
 begun_less v h moved is less =
-    let in_job : done_with moved v < (transfer_of v).job.count = inside (transfer_of v).index (transfer_of v).job (transfer_of v).done moved is.is.left less in
+    let in_job : done_with moved v < (transfer_of v).job.count = left_by (transfer_of v).index (transfer_of v).job (transfer_of v).done moved is.is.left less in
     subst (λ (job : Job). done_with moved v < job.count) is.job in_job
 
 some_left : (index : Option ℕ) (job : Job) (done : ℕ) → done < job.count → 0 < (segment_by index job done).count
@@ -113,9 +110,6 @@ ends_by : (u : ℕ) (s : Scene) (kind : AnswerKind) → IsNext u (deed.End kind)
 ends_by u s kind (inl next) = due_facts s.unit s.held (deed.End kind) next
 ends_by u s kind (inr chosen) = subst (IsDue s.unit s.held) (sym chosen.due) (chosen_facts s.unit s.held chosen.phase)
 
-true_false : true ≡ false → ⊥
-true_false e = grind arith
-
 used_less : (frames used now at needed : ℕ) → frames ≡ used → now + at ≡ used + 0 → at ≡ needed → frames - needed ≡ now
 used_less frames used now at needed a b c = omega (arith, a, b, c)
 
@@ -167,7 +161,7 @@ module _ (w : World) (s : Sound w) (line u id : ℕ) (i : InHand w u id) (kind :
         queue = λ x c. outstanding_stays w now u p new.unit (Some new.held) s change leaves u x (not_head old.queue x ok.once c) (ok.queue x (Contains-drop x old.queue c));
         once = Once-drop old.queue ok.once;
         order = drop-in_order cylinder_of old.queue ok.order;
-        head = λ e. absurd (true_false e);
+        head = λ e. absurd (true≢false e);
         undeclared = λ e. ap (drop 1) (ok.undeclared e);
       }
 
@@ -181,7 +175,7 @@ module _ (w : World) (s : Sound w) (line u id : ℕ) (i : InHand w u id) (kind :
         size = ok.size;
         whole = ok.whole;
         inside = subst (λ (k : DriveKind). h.first + h.loan.count ≤ limit_of k) (sym (kind_stays w now u p new.unit (Some new.held) s change leaves h.unit)) ok.inside;
-        queued = λ e. absurd (true_false e);
+        queued = λ e. absurd (true≢false e);
         bus = λ e. absurd (not_transferring u (deed.End kind) (scene_of w u) may (subst (λ (x : ℕ). (unit_at w x).phase ≡ Transferring) (own w s u id i) (ok.bus e).1));
         made = λ e. subst (Among p) (sym made_now) (Among-last p (slots_made w.answers));
       }
@@ -226,7 +220,7 @@ module _ (w : World) (s : Sound w) (line u id : ℕ) (i : InHand w u id) (kind :
       parts_changed w now u p new.unit (Some new.held) s change leaves (λ lt. own_unit)
       (slots_changed w now u p new.unit (Some new.held) s change leaves
       (λ g e. subst (SlotOk now p) (same_Some new.held g e) own_slot)
-      (λ g e on. absurd (true_false (ap (λ (x : Held). x.ended) (same_Some new.held g e) ∙ on)))
+      (λ g e on. absurd (true≢false (ap (λ (x : Held). x.ended) (same_Some new.held g e) ∙ on)))
       (λ g e q f ne there. subst (λ (x : Held). IsApart x.loan.frames f.loan.frames) (same_Some new.held g e)
       (s.apart p q h f (in_slot w s u id i) there (λ same. ne (sym same)))))
       own_frames own_answers

@@ -6,14 +6,9 @@ use Rattle.disksort.specs.declared.Waiter.{Waiter}
 use Rattle.trace_replay.specs.requests.ServiceOrder.{IsInOrder, queue_with}
 use Rattle.trace_replay.proofs.requests.ServiceOrderRuns.{goes_before, put_in, inserted, queue_with-inserted}
 use Rattle.driver_machine.specs.Sound.{Among, Once, slots_of}
+pub use Rattle.driver_laws.proofs.invariant.Lists.{once_push as Once-push}
 
 -- NUMBERS of a list
-pub Among-push : (x : ℕ) (xs : List ℕ) (u : ℕ) → Among x (xs ++ u ∷ []) → Among x xs ⊎ (x ≡ u)
-Among-push x [] u (inl e) = inr e
-Among-push x [] u (inr m) = absurd m
-Among-push x (y ∷ ys) u (inl e) = inl (inl e)
-Among-push x (y ∷ ys) u (inr m) = elim (Among-push x ys u m) [ inl old ↦ inl (inr old) | inr e ↦ inr e ]
-
 pub Among-left : (x : ℕ) (xs : List ℕ) (u : ℕ) → Among x xs → Among x (xs ++ u ∷ [])
 Among-left x [] u m = absurd m
 Among-left x (y ∷ ys) u (inl e) = inl e
@@ -22,11 +17,6 @@ Among-left x (y ∷ ys) u (inr m) = inr (Among-left x ys u m)
 pub Among-last : (u : ℕ) (xs : List ℕ) → Among u (xs ++ u ∷ [])
 Among-last u [] = inl refl
 Among-last u (y ∷ ys) = inr (Among-last u ys)
-
-pub Once-push : (xs : List ℕ) (u : ℕ) → Once xs → (Among u xs → ⊥) → Once (xs ++ u ∷ [])
-Once-push [] u once new = ((λ m. m), tt)
-Once-push (x ∷ xs) u once new =
-    ((λ m. elim (Among-push x xs u m) [ inl old ↦ once.0 old | inr e ↦ new (inl (sym e)) ]), Once-push xs u once.1 (λ m. new (inr m)))
 
 -- WHAT IS IN A LIST
 contained_at : {A : Type 0} (f : A → ℕ) (xs : List A) (x : A) (k : ℕ) → k < length xs → slice_index_or xs k x ≡ x → Among (f x) (map f xs)

@@ -6,8 +6,8 @@ use Rattle.driver_machine.specs.Guards.{May}
 use Rattle.driver_machine.specs.Acts as deed
 use Rattle.driver_machine.specs.Acts.{Scene, effect}
 use Rattle.driver_laws.proofs.invariant.Hand.{Keeps, Fits}
-use Rattle.driver_machine.proofs.KindStays.{performed_kind}
 use Rattle.driver_laws.proofs.invariant.SlotsDeedFacts.{kept, not_transferring, rests}
+use Rattle.trace_replay.proofs.Kept.{performed_kind}
 
 pub pack_keeps : (line u p : ℕ) (s : Scene) → Keeps s (effect line u p deed.Pack s)
 pack_keeps line u p s = kept s _ _ refl refl (performed_kind function.Pack s.unit.drive)

@@ -11,8 +11,8 @@ use Rattle.driver_machine.specs.Guards.{May}
 use Rattle.driver_machine.specs.Acts as deed
 use Rattle.driver_machine.specs.Acts.{Scene, effect}
 use Rattle.driver_laws.proofs.invariant.Hand.{Keeps, Fits}
-use Rattle.driver_machine.proofs.KindStays.{stepped_kind}
 use Rattle.driver_laws.proofs.invariant.SlotsDeedFacts.{kept_held}
+use Rattle.trace_replay.proofs.Kept.{stepped_kind}
 
 -- the blocks of a buffer of which perhaps one was put
 abbrev put_if : Bool → ℕ → List ℕ → List (List ℕ) → List (List ℕ)

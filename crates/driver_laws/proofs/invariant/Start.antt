@@ -3,6 +3,7 @@ use Rattle.std.proofs.Common.{◌≡◌, ◌⊎◌, inl, inr, ℕ, zero, suc, �
 use Rattle.std.specs.Prelude.{if◌then◌else◌, not, ◌&&◌, slice_index_or, unwrap_or, sum_by, ◌*◌}
 use Rattle.std.proofs.lemmas.List.{get_or_past}
 use Rattle.std.proofs.lemmas.List.Sums.{sum_by-le}
+use Rattle.std.proofs.lemmas.Bool.{not-false}
 use Rattle.drive_registers.specs.declared.Function.TheVariants as function
 use Rattle.hardware_table.specs.Functions.{performed}
 use Rattle.transfer_engine.specs.State.{segment_of}
@@ -16,7 +17,7 @@ use Rattle.driver_machine.specs.Events.{Part, followed, go_on, until, due_acts, 
 use Rattle.driver_machine.specs.Guards.{May, IsChosen}
 use Rattle.driver_machine.proofs.Measure.{is_resting}
 use Rattle.driver_machine.specs.Sound.{Sound, Among, is_waiting}
-use Rattle.driver_machine.proofs.DueFacts.{either, was_on, false_true}
+use Rattle.driver_machine.proofs.DueFacts.{either, false_true}
 use Rattle.driver_machine.proofs.Until.{resting, until_none}
 use Rattle.driver_machine.specs.Runs.{SoundAfter}
 use Rattle.driver_laws.proofs.invariant.Leads.{Leads, nothing, one_more, then_part, so_too}
@@ -39,7 +40,7 @@ command_turn v h =
     (if v.drive.valid then deed.Move h.write (segment_of (transfer_of v)) else deed.Pack)
     (λ locked. tt)
     (λ free. either (IsTurn v h) v.drive.valid (deed.Move h.write (segment_of (transfer_of v))) deed.Pack
-    (λ valid. tt) (λ invalid. (was_on v.drive.online on, free))))
+    (λ valid. tt) (λ invalid. (not-false v.drive.online on, free))))
 
 may_turn : (u : ℕ) (d : Deed) (s : Scene) → IsTurn s.unit s.held d → IsChosen u d s → May u d s
 may_turn u (deed.Move write segment) s turn chosen = (inr chosen, chosen.free)

@@ -4,9 +4,10 @@ use Rattle.std.specs.Prelude.{if◌then◌else◌, Contains}
 use Rattle.std.proofs.lemmas.List.{length-replicate}
 use Rattle.std.proofs.lemmas.Nat.Bits.{bit_at-zero}
 use Rattle.std.proofs.lemmas.Option.{none-some}
+use Rattle.std.proofs.lemmas.Bool.{false≢true, true≢false}
 use Rattle.pack_geometry.specs.declared.DriveKind.{DriveKind}
-use Rattle.pack_geometry.specs.declared.DriveKind.TheVariants.{Rp06, Rm03, Rm05}
-use Rattle.pack_geometry.specs.Geometry.{cylinders_of, sectors_of}
+use Rattle.pack_geometry.specs.declared.DriveKind.TheVariants.{Rp06}
+use Rattle.pack_geometry.specs.Geometry.{sectors_of}
 use Rattle.pack_geometry.specs.TableSpelling.{Table}
 use Rattle.hardware_table.specs.Functions.{is_addressed}
 use Rattle.hardware_table.specs.Adapter.{IsAdapter, new_adapter}
@@ -20,16 +21,13 @@ use Rattle.driver_machine.specs.World.{World, UnitView, AdapterView, Held, Setup
 use Rattle.driver_machine.specs.Sound.{Among, Once, slots_of, is_waiting, IsDrive, IsStill, IsPhase, IsTableFor, UnitOk, AdapterOk, frames_used, Sound, WorkOf, AtWork}
 use Rattle.driver_laws.specs.invariant.Parts.{units_of, AreSetups}
 use Rattle.driver_laws.proofs.invariant.SlotsLists.{Contains-none, Contains-first, Contains-later}
+use Rattle.driver_laws.proofs.invariant.Drives.{some_cylinder}
 
 -- an element of a list of one value is that value, which is the default too
 replicate_at : {A : Type 0} (n i : ℕ) (x : A) → get_or (replicate n x) i x ≡ x
 replicate_at zero i x = refl
 replicate_at (suc n) zero x = refl
 replicate_at (suc n) (suc i) x = replicate_at n i x
-
-some_cylinders : (kind : DriveKind) → 0 < cylinders_of kind
-some_cylinders Rp06 = omega arith
-some_cylinders other = omega arith
 
 some_sectors : (kind : DriveKind) → 0 < sectors_of kind
 some_sectors Rp06 = omega arith
@@ -41,7 +39,7 @@ first_addressed other unit = refl
 
 attached_is : (kind : DriveKind) (unit : ℕ) → IsDrive (attached kind unit)
 attached_is kind unit = record {
-  cylinder = some_cylinders kind;
+  cylinder = some_cylinder kind;
   look = 0;
   look_ahead = refl;
   sector = some_sectors kind;
@@ -113,9 +111,6 @@ set_up_other (s ∷ setups) units u none =
     set_up_other setups (set units s.unit (new_unit s)) u (λ m. none (inr m))
     ∙ get_or-set_other units s.unit u (new_unit s) no_unit (λ same. none (inl same))
 
-abbrev unit_of_setup : Setup → ℕ
-unit_of_setup s = s.unit
-
 stands_at : (setups : List Setup) (units : List UnitView) (t : Setup) (k : ℕ) → Once (units_of setups) → t.unit < length units → k < length setups
     → get_or setups k t ≡ t → get_or (set_up setups units) t.unit no_unit ≡ new_unit t
 stands_at [] units t k once small lt e = absurd (omega (arith, lt))
@@ -127,12 +122,6 @@ stands_at (s ∷ setups) units t (suc k) once small lt e =
     stands_at setups (set units s.unit (new_unit s)) t k once.1 (subst (λ (n : ℕ). t.unit < n) (sym (length-set units s.unit (new_unit s))) small)
     (omega (arith, lt)) e
 
-false_true : false ≡ true → ⊥
-false_true e = grind arith
-
-true_false : true ≡ false → ⊥
-true_false e = grind arith
-
 -- THE ADAPTERS
 new_adapter_is : IsAdapter new_adapter
 new_adapter_is = record {
@@ -142,8 +131,8 @@ new_adapter_is = record {
   last_some = λ e. absurd (omega (arith, e));
   last_few = omega arith;
   place = refl;
-  counted = λ e. absurd (false_true e);
-  left = λ e. absurd (false_true e);
+  counted = λ e. absurd (false≢true e);
+  left = λ e. absurd (false≢true e);
 }
 
 no_frames : (n : ℕ) → frames_used (replicate n None) ≡ 0
@@ -164,7 +153,7 @@ module _ (units : List UnitView) (adapters : List AdapterView) (slots : List (Op
         order = subst (λ (queue : List Waiter). IsInOrder (λ (x : Waiter). x.cylinder) queue) (sym is.queue)
             (empty-in_order (λ (x : Waiter). x.cylinder));
         drive = is.drive;
-        head = λ e. absurd (true_false (ap is_waiting (sym is.phase) ∙ e));
+        head = λ e. absurd (true≢false (ap is_waiting (sym is.phase) ∙ e));
         phase = subst (IsPhase u (unit_at start u) (adapter_at start (adapter_of u)) (held_in start (slot_in_hand (unit_at start u)))) (sym is.phase) (is.still, is.transfer);
         table = is.table;
         undeclared = λ e. is.queue;
@@ -174,7 +163,7 @@ module _ (units : List UnitView) (adapters : List AdapterView) (slots : List (Op
   start_adapter a = subst (AdapterOk start a) (sym (free a)) (record {
     state = new_adapter_is;
     drive = omega arith;
-    busy = λ e. absurd (false_true e);
+    busy = λ e. absurd (false≢true e);
     rest = λ e. refl;
     waits = λ u m. absurd m;
     once = tt;

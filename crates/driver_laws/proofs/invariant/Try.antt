@@ -91,7 +91,7 @@ try_by other moved s is still less at = (
   omega arith,
 )
 
-next_of_try : (moved block number many from count : ℕ) (next task : Task) → deed.Try moved block number next ≡ deed.Try many from count task → next ≡ task
+pub next_of_try : (moved block number many from count : ℕ) (next task : Task) → deed.Try moved block number next ≡ deed.Try many from count task → next ≡ task
 next_of_try moved block number many from count next task e = cc
 
 pub try_phase : (line u p moved block number : ℕ) (next : Task) (s : Scene) → SceneOk u s → IsDue s.unit s.held (deed.Try moved block number next)

@@ -1,18 +1,18 @@
 -- What is known of each cause of a legal run's answers.
 use Rattle.std.proofs.Common.{◌≡◌, ◌⊎◌, inl, inr, ℕ, ◌≤◌, ◌+◌, Bool, true, false, List, [], ◌∷◌, ◌++◌, Option, None, Some, zero, suc, refl, sym, ap, ◌∙◌, subst, arith}
-use Rattle.std.proofs.lemmas.Option.{same_Some, none-some}
 use Rattle.std.proofs.lemmas.List.{append-nil}
+use Rattle.std.proofs.lemmas.Bool.{false≢true, true≢false}
 use Rattle.pack_geometry.specs.declared.DriveKind.{DriveKind}
 use Rattle.pack_geometry.specs.Pack as model
 use Rattle.pack_geometry.specs.TableSpelling.{Table}
 use Rattle.pack_geometry.specs.Homes.{home_of}
-use Rattle.trace_replay.specs.requests.Requests.{Request, Failed, Cause, Offline, Locked, Unforwarded, Fault, first_block}
+use Rattle.trace_replay.specs.requests.Requests.{Failed, Cause, Offline, Locked, Unforwarded, Fault, first_block}
 use Rattle.trace_replay.specs.Script.{Script, drives_of}
 use Rattle.trace_replay.specs.Moments.{Deed, Search, Seek, Recal, Offset, Centre, Clear, Pack, Transfer, Arrive, Sector, Intr, Try, Attn, End, Moment, Told}
 use Rattle.trace_replay.specs.Packs.{surface_of}
-use Rattle.trace_replay.specs.Service.{ServiceMay, head_of, in_hand, request_or_none, ids}
+use Rattle.trace_replay.specs.Service.{ServiceMay, head_of, in_hand}
 use Rattle.trace_replay.specs.Conditions.{online_behind, locked_behind}
-use Rattle.trace_replay.specs.Events.{Wish, NoLine, DueLine, Arrival, SectorLine, Interrupt, Attention, Refusal, IdleLine}
+use Rattle.trace_replay.specs.Events.{Wish, Refusal}
 use Rattle.trace_replay.specs.History.{is_refusal, lines_of, AreFailures}
 use Rattle.trace_replay.specs.Causes.{AskSome, IsExplained, IsCutOff, WasTriedOffline, IsLockedOut, AreAllTries}
 use Rattle.trace_replay.specs.Replay.{Replay, after_moments, next_wish, Follows, MayCome, ToldMay}
@@ -23,10 +23,10 @@ use Rattle.trace_replay.proofs.Kept.{held_by, refused_is}
 use Rattle.trace_replay.proofs.RunExplained.{run_explained}
 use Rattle.trace_replay.proofs.Unusable.{are_unusable}
 use Rattle.driver_laws.specs.rules.Grounds.{WasPlayed, Submits, IsAskedAt, WasOffline, OfflineIsTold, LockedIsTold, UnforwardedIsHomeless, FaultIsTold}
-use Rattle.driver_laws.proofs.rules.Stages.{no, nor}
 use Rattle.driver_laws.proofs.rules.Known.{AnyFails, head_asked}
 use Rattle.driver_laws.proofs.rules.KnownScript.{KnownBehind, always_known}
 use Rattle.trace_replay.proofs.Asking.{run_asks}
+use Rattle.driver_laws.proofs.rules.Commands.{id_of}
 
 -- an end that names a cause is no refusal's
 is_refused : Deed → Bool
@@ -35,12 +35,8 @@ is_refused deed = false
 
 named : (wish : Wish) (s : Replay) (line unit id done : ℕ) (cause : Cause) → ToldMay wish s line unit id (End (Failed cause done)) → ServiceMay (s.units unit).service id
 unfolding is_refused
-named (Refusal u i why) s line unit id done cause may = absurd (no (ap is_refused may.answered ∙ refused_is why))
+named (Refusal u i why) s line unit id done cause may = absurd (false≢true (ap is_refused may.answered ∙ refused_is why))
 named other s line unit id done cause may = may.service
-
-id_of_head : (head : Option Request) (id : ℕ) → ids head ≡ Some id → (request_or_none head).id ≡ id
-id_of_head None id is = absurd (none-some id is)
-id_of_head (Some r) id is = same_Some r.id id is
 
 -- tries that failed met failures
 any_failed : (owed : Bool) (n block : ℕ) (lines : List Deed) → (owed ≡ false → 1 ≤ n) → AreFailures owed n block lines → AnyFails lines
@@ -57,7 +53,7 @@ any_failed false (suc n) block (Transfer w b k ∷ lines) some f = any_failed fa
 any_failed false (suc n) block (Arrive ∷ lines) some f = any_failed false (suc n) block lines some f
 any_failed false (suc n) block (Sector b v ∷ lines) some f = absurd f
 any_failed false (suc n) block (Intr ∷ lines) some f = any_failed false (suc n) block lines some f
-any_failed false (suc n) block (Try b t ∷ lines) some f = any_failed true n block lines (λ e. absurd (nor e)) f.2
+any_failed false (suc n) block (Try b t ∷ lines) some f = any_failed true n block lines (λ e. absurd (true≢false e)) f.2
 any_failed false (suc n) block (Attn ∷ lines) some f = any_failed false (suc n) block lines some f
 any_failed false (suc n) block (End a ∷ lines) some f = any_failed false (suc n) block lines some f
 any_failed true n block [] some f = absurd f
@@ -101,7 +97,7 @@ module _ (script : Script) (tables : ℕ → Option Table) (old new : ℕ → mo
   asked = head_asked unit ms (Then.units unit).service.waiting (held_by (Then.units unit).service.waiting id serves) (known.asked unit)
 
   is_asked : IsAskedAt (in_hand (Then.units unit).service) unit id ms
-  is_asked = record { unit_is = asked.0; id_is = id_of_head (head_of (Then.units unit).service) id serves; submitted = asked.1 }
+  is_asked = record { unit_is = asked.0; id_is = id_of (head_of (Then.units unit).service) id serves; submitted = asked.1 }
 
   said : ((Then.units unit).drive.online ≡ online_behind unit true ms) × ((Then.units unit).drive.locked ≡ locked_behind unit false ms)
   said = is_as_said (drives_of script) tables (surface_of old) ms unit

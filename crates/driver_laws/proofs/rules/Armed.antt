@@ -1,11 +1,12 @@
 -- The faults that are armed at a drive, and the noise that is live: none comes but by a line of the script.
-use Rattle.std.proofs.Common.{◌≡◌, ℕ, ◌-◌, ◌==◌, Bool, true, false, List, [], ◌∷◌, Option, None, Some, option_map, refl, sym, ap, ◌∙◌, subst, arith, nat_lt, All}
+use Rattle.std.proofs.Common.{◌≡◌, ℕ, ◌-◌, ◌==◌, Bool, true, false, List, [], ◌∷◌, Option, None, Some, option_map, refl, sym, ap, subst, arith, nat_lt, All}
 use Rattle.std.specs.Prelude.{if◌then◌else◌, find}
 use Rattle.std.proofs.lemmas.Option.{same_Some, none-some}
 use Rattle.std.proofs.lemmas.Bool.Decides.{nat_tests}
 use Rattle.std.proofs.lemmas.List.Elements.{All-head, All-tail}
+use Rattle.std.proofs.lemmas.Bool.{eqb-false}
 use Rattle.pack_geometry.specs.declared.DriveKind.{DriveKind}
-use Rattle.pack_geometry.specs.declared.DriveKind.TheVariants.{Rp06, Rm03, Rm05}
+use Rattle.pack_geometry.specs.declared.DriveKind.TheVariants.{Rp06}
 use Rattle.pack_geometry.specs.declared.Place.{Place}
 use Rattle.pack_geometry.specs.Geometry.{place_at}
 use Rattle.fire_code.specs.Remainder.{remainder}
@@ -27,9 +28,8 @@ use Rattle.hardware_table.specs.Events.{arrived_from, transfer_ended, times_arme
 use Rattle.hardware_table.specs.Functions.{performed, refusals, effect, refused}
 use Rattle.hardware_table.specs.Moves.{after_move, with_fault_bits, fault_used, with_mark_bits, first_armed, fault_order, stop_of, IsVerdictBy}
 use Rattle.hardware_table.specs.Noise.{LiveNoise, is_at, oldest, flips, is_ended_by}
-use Rattle.trace_replay.specs.Moments.{Deed, Search, Seek, Recal, Offset, Centre, Clear, Pack, Transfer, Arrive, Sector, Intr, Try, Attn, End}
+use Rattle.trace_replay.specs.Moments.{Deed, Search, Seek, Recal, Offset, Centre, Clear, Pack, Transfer, Arrive, Sector}
 use Rattle.trace_replay.specs.Drives.{drive_after, addressed, search_place, offset_written, transfer_function}
-use Rattle.driver_laws.proofs.rules.Stages.{nor}
 use Rattle.driver_laws.proofs.rules.Queues.{same}
 
 -- ---- no line of the trace arms a fault
@@ -82,15 +82,15 @@ performed_armed f d =
     armed_of_either (refusals f d == 0) (effect f (record d { cs1 = function_code f })) (refused (refusals f d) (record d { cs1 = function_code f })) d.armed
     (effect_armed f (record d { cs1 = function_code f })) refl
 
-arrived_armed : (w : Work) (d : DriveState) → (arrived_from w d).armed ≡ d.armed
+pub arrived_armed : (w : Work) (d : DriveState) → (arrived_from w d).armed ≡ d.armed
 arrived_armed work.Ready d = refl
 arrived_armed other d = refl
 
-bits_armed : (k : FaultKind) (d : DriveState) → (with_fault_bits k d).armed ≡ d.armed
+pub bits_armed : (k : FaultKind) (d : DriveState) → (with_fault_bits k d).armed ≡ d.armed
 bits_armed fault.Seek d = refl
 bits_armed other d = refl
 
-marks_armed : (kind : DriveKind) (d : DriveState) → (with_mark_bits kind d).armed ≡ d.armed
+pub marks_armed : (kind : DriveKind) (d : DriveState) → (with_mark_bits kind d).armed ≡ d.armed
 marks_armed Rp06 d = refl
 marks_armed other d = refl
 
@@ -103,7 +103,7 @@ less_of_either : (b : Bool) (x : DriveState) (old : Armed) → IsLess x.armed ol
 less_of_either true x old is = is
 less_of_either false x old is = is
 
-transfer_armed : (write : Bool) (d : DriveState) → (performed (transfer_function write) d).armed ≡ d.armed
+pub transfer_armed : (write : Bool) (d : DriveState) → (performed (transfer_function write) d).armed ≡ d.armed
 transfer_armed true d = performed_armed function.Write d
 transfer_armed false d = performed_armed function.Read d
 
@@ -129,34 +129,31 @@ tag (verdict.Faulted k) = 3
 tag verdict.Marked = 4
 tag verdict.Offline = 5
 
-pub tags_apart : (n m : ℕ) → (n == m) ≡ false → n ≡ m → ⊥
-tags_apart n m differ is = nor (sym (same n) ∙ ap (λ z. n == z) is ∙ differ)
-
 -- how a drive stops: it is offline, or a fault is armed
 stop_tag : (b : Bool) (f : Option FaultKind) → (if b then option_map verdict.Faulted f else Some verdict.Offline) ≡ Some verdict.Offline → b ≡ false
 unfolding tag
 stop_tag true None is = absurd (none-some verdict.Offline is)
-stop_tag true (Some k) is = absurd (tags_apart 3 5 refl (ap tag (same_Some (verdict.Faulted k) verdict.Offline is)))
+stop_tag true (Some k) is = absurd (eqb-false 3 5 refl (ap tag (same_Some (verdict.Faulted k) verdict.Offline is)))
 stop_tag false f is = refl
 
 offline_by : (stop : Option Moved) (marked write : Bool) (places : Option (List ℕ)) → IsVerdictBy stop marked write places verdict.Offline → stop ≡ Some verdict.Offline
 unfolding tag
 offline_by (Some stop) marked write places is = ap Some (sym is)
-offline_by None true write places is = absurd (tags_apart 5 4 refl (ap tag is))
-offline_by None false true places is = absurd (tags_apart 5 0 refl (ap tag is))
-offline_by None false false None is = absurd (tags_apart 5 0 refl (ap tag is))
+offline_by None true write places is = absurd (eqb-false 5 4 refl (ap tag is))
+offline_by None false true places is = absurd (eqb-false 5 0 refl (ap tag is))
+offline_by None false false None is = absurd (eqb-false 5 0 refl (ap tag is))
 offline_by None false false (Some places) is = absurd is
 
 pub offline_verdict : (d : DriveState) (marked write : Bool) (places : Option (List ℕ)) → IsVerdictBy (stop_of d) marked write places verdict.Offline → d.online ≡ false
 offline_verdict d marked write places is = stop_tag d.online (first_armed d.armed) (offline_by (stop_of d) marked write places is)
 
 -- a fault that strikes is armed
-fault_by : (stop : Option Moved) (k : FaultKind) (marked write : Bool) (places : Option (List ℕ)) → IsVerdictBy stop marked write places (verdict.Faulted k) → stop ≡ Some (verdict.Faulted k)
+pub fault_by : (stop : Option Moved) (k : FaultKind) (marked write : Bool) (places : Option (List ℕ)) → IsVerdictBy stop marked write places (verdict.Faulted k) → stop ≡ Some (verdict.Faulted k)
 unfolding tag
 fault_by (Some stop) k marked write places is = ap Some (sym is)
-fault_by None k true write places is = absurd (tags_apart 3 4 refl (ap tag is))
-fault_by None k false true places is = absurd (tags_apart 3 0 refl (ap tag is))
-fault_by None k false false None is = absurd (tags_apart 3 0 refl (ap tag is))
+fault_by None k true write places is = absurd (eqb-false 3 4 refl (ap tag is))
+fault_by None k false true places is = absurd (eqb-false 3 0 refl (ap tag is))
+fault_by None k false false None is = absurd (eqb-false 3 0 refl (ap tag is))
 fault_by None k false false (Some places) is = absurd is
 
 -- some fault is armed where the first one is found
@@ -175,7 +172,7 @@ stop_fault : (b : Bool) (f : Option FaultKind) (k : FaultKind) → (if b then op
 unfolding tag
 stop_fault true None k is = absurd (none-some (verdict.Faulted k) is)
 stop_fault true (Some j) k is = (j, refl)
-stop_fault false f k is = absurd (tags_apart 5 3 refl (ap tag (same_Some verdict.Offline (verdict.Faulted k) is)))
+stop_fault false f k is = absurd (eqb-false 5 3 refl (ap tag (same_Some verdict.Offline (verdict.Faulted k) is)))
 
 pub faulted_verdict : (d : DriveState) (k : FaultKind) (marked write : Bool) (places : Option (List ℕ)) → IsVerdictBy (stop_of d) marked write places (verdict.Faulted k)
     → (j : FaultKind) × (nat_lt 0 (times_armed j d.armed) ≡ true)
@@ -185,19 +182,19 @@ faulted_verdict d k marked write places is = (armed.0, (find_first (λ (kind : F
     armed = stop_fault d.online (first_armed d.armed) k (fault_by (stop_of d) k marked write places is)
 
 -- a hard verdict is that of noise which shows
-hard_stop : (b : Bool) (f : Option FaultKind) → (if b then option_map verdict.Faulted f else Some verdict.Offline) ≡ Some verdict.Hard → ⊥
+pub hard_stop : (b : Bool) (f : Option FaultKind) → (if b then option_map verdict.Faulted f else Some verdict.Offline) ≡ Some verdict.Hard → ⊥
 unfolding tag
 hard_stop true None is = none-some verdict.Hard is
-hard_stop true (Some j) is = tags_apart 3 2 refl (ap tag (same_Some (verdict.Faulted j) verdict.Hard is))
-hard_stop false f is = tags_apart 5 2 refl (ap tag (same_Some verdict.Offline verdict.Hard is))
+hard_stop true (Some j) is = eqb-false 3 2 refl (ap tag (same_Some (verdict.Faulted j) verdict.Hard is))
+hard_stop false f is = eqb-false 5 2 refl (ap tag (same_Some verdict.Offline verdict.Hard is))
 
 hard_by : (stop : Option Moved) (marked write : Bool) (places : Option (List ℕ)) → (stop ≡ Some verdict.Hard → ⊥) → IsVerdictBy stop marked write places verdict.Hard
     → (shown : List ℕ) × (places ≡ Some shown) × IsUncorrectable (remainder shown)
 unfolding tag
 hard_by (Some stop) marked write places never is = absurd (never (ap Some (sym is)))
-hard_by None true write places never is = absurd (tags_apart 2 4 refl (ap tag is))
-hard_by None false true places never is = absurd (tags_apart 2 0 refl (ap tag is))
-hard_by None false false None never is = absurd (tags_apart 2 0 refl (ap tag is))
+hard_by None true write places never is = absurd (eqb-false 2 4 refl (ap tag is))
+hard_by None false true places never is = absurd (eqb-false 2 0 refl (ap tag is))
+hard_by None false false None never is = absurd (eqb-false 2 0 refl (ap tag is))
 hard_by None false false (Some places) never is = (places, refl, is)
 
 pub hard_verdict : (d : DriveState) (marked write : Bool) (places : Option (List ℕ)) → IsVerdictBy (stop_of d) marked write places verdict.Hard
@@ -205,7 +202,7 @@ pub hard_verdict : (d : DriveState) (marked write : Bool) (places : Option (List
 hard_verdict d marked write places is = hard_by (stop_of d) marked write places (hard_stop d.online (first_armed d.armed)) is
 
 -- ---- the noise that strikes is live
-flips_of : (b : Bool) (places shown : List ℕ) → (if b then None else Some places) ≡ Some shown → places ≡ shown
+pub flips_of : (b : Bool) (places shown : List ℕ) → (if b then None else Some places) ≡ Some shown → places ≡ shown
 flips_of true places shown is = absurd (none-some shown is)
 flips_of false places shown is = same_Some places shown is
 

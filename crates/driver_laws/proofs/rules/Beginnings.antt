@@ -6,9 +6,9 @@ use Rattle.pack_geometry.specs.declared.DriveKind.{DriveKind}
 use Rattle.pack_geometry.specs.PackTable.{AreTablesOf}
 use Rattle.fire_code.specs.Noise.{IsAlias}
 use Rattle.hardware_table.specs.Noise.{LiveNoise}
-use Rattle.trace_replay.specs.requests.Requests.{Request, first_block, Answer, ReadOk, WriteOk, Failed, OutsidePartition, EndOfPartition, NoFrames}
-use Rattle.trace_replay.specs.Script.{Input, Submit, ArriveAt, MoveAt, AttendTo, Drain, Turn, Noise, Arm, SetOnline, SetLocked, Numbered, AreApart}
-use Rattle.trace_replay.specs.Moments.{Deed, Search, Seek, Recal, Offset, Centre, Clear, Pack, Transfer, Arrive, Sector, Intr, Try, Attn, End, Moment, Played, Told, Idle, Answered, played, answers_in}
+use Rattle.trace_replay.specs.requests.Requests.{Request, first_block, Answer, ReadOk}
+use Rattle.trace_replay.specs.Script.{Input, Submit, Noise, Numbered, AreApart}
+use Rattle.trace_replay.specs.Moments.{Deed, Search, Moment, Played, Told, Idle, Answered, played, answers_in}
 use Rattle.trace_replay.specs.Replay.{Replay, next_wish, Follows, after_moment, after_moments, Submission, Refused, Joined}
 use Rattle.trace_replay.specs.Events.{NoLine}
 use Rattle.driver_laws.specs.rules.Machine.{Blocks, Machine, MayAnswer, Steps, kind_of, after_input, answers_of_input, meets}
@@ -48,31 +48,6 @@ pub steps_join : (drives : ℕ → Option DriveKind) (claims : (line : ℕ) → 
     → Steps drives claims line m first mid → Steps drives claims line mid more new → Steps drives claims line m (first ++ more) new
 steps_join drives claims line m [] mid more new one two = subst (λ z. Steps drives claims line z more new) one two
 steps_join drives claims line m (a ∷ first) mid more new one two = (one.0, one.1, one.2, steps_join drives claims line one.1 first mid more new one.3 two)
-
--- ---- answers to some inputs and then to more
-pub answers_join : (drives : ℕ → Option DriveKind) (claims : (line : ℕ) → Request → Type 0) (m : Machine) (inputs more : List Numbered) (answers later : List Answered) (mid new : Machine)
-    → AnswersTo drives claims m inputs answers mid → AnswersTo drives claims mid more later new → AnswersTo drives claims m (inputs ++ more) (answers ++ later) new
-answers_join drives claims m [] more answers later mid new one two =
-    subst (λ z. AnswersTo drives claims m more (z ++ later) new) (sym one.0) (subst (λ z. AnswersTo drives claims z more later new) one.1 two)
-answers_join drives claims m (n ∷ inputs) more answers later mid new one two =
-    (one.0, one.1 ++ later, one.2, ap (λ z. z ++ later) one.3 ∙ append_assoc one.0 one.1 later, one.4, answers_join drives claims one.2 inputs more one.1 later mid new one.5 two)
-
--- ---- fewer claims of all answers
-pub answers_claim : (drives : ℕ → Option DriveKind) (more less : (line : ℕ) → Request → Type 0) (m : Machine) (inputs : List Numbered) (answers : List Answered) (new : Machine)
-    → ((line : ℕ) (r : Request) → less line r → more line r) → AnswersTo drives more m inputs answers new → AnswersTo drives less m inputs answers new
-answers_claim drives more less m [] answers new implied is = is
-answers_claim drives more less m (n ∷ inputs) answers new implied is = (
-  is.0,
-  is.1,
-  is.2,
-  is.3,
-  record {
-    later = is.4.later;
-    order = is.4.order;
-    steps = steps_claim drives more less n.line (after_input drives m n.input) is.4.later is.2 (implied n.line) is.4.steps;
-  },
-  answers_claim drives more less is.2 inputs is.1 new implied is.5,
-)
 
 -- ---- noise that was armed leaves claims alone
 abbrev pub covered_by : Setup → ((line : ℕ) → Request → Type 0) → ℕ → Input → Type 0

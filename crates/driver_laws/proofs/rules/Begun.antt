@@ -10,15 +10,13 @@ use Rattle.pack_geometry.specs.TableSpelling.{Table}
 use Rattle.pack_geometry.specs.Homes.{content_at, contents_of, home_of}
 use Rattle.pack_geometry.specs.Content.{bytes_at}
 use Rattle.pack_geometry.proofs.HomeLaws.{home_below}
-use Rattle.hardware_table.specs.declared.Moved.{Moved}
-use Rattle.hardware_table.specs.declared.Moved.TheVariants as verdict
 use Rattle.trace_replay.specs.requests.Requests.{Request, Answer, first_block}
 use Rattle.trace_replay.specs.requests.ServiceOrder.{Waiting as Waiter}
 use Rattle.trace_replay.specs.Script.{Input, Submit, ArriveAt, MoveAt, AttendTo, Drain, Turn, Noise, Arm, SetOnline, SetLocked, Script, Numbered, drives_of, AreApart, IsThere}
 use Rattle.trace_replay.specs.Moments.{Moment, Played, Told, Idle, End, Answered, played, answers_in}
 use Rattle.trace_replay.specs.Service.{in_hand, first_waiting, request_or_none}
 use Rattle.trace_replay.specs.Conversation.{is_waiting, Progress, not_begun}
-use Rattle.trace_replay.specs.Events.{Wish, NoLine, DueLine, Arrival, SectorLine, Interrupt, Attention, Refusal, IdleLine}
+use Rattle.trace_replay.specs.Events.{Wish, Refusal}
 use Rattle.trace_replay.specs.Replay.{Replay, UnitSeen, hand_of, next_wish, Follows, AreLeft, after_moments}
 use Rattle.trace_replay.specs.Runs.{start_of}
 use Rattle.trace_replay.specs.Causes.{AskSome, IsExplained, AreExplained}
@@ -41,10 +39,10 @@ use Rattle.driver_laws.proofs.rules.Steps.{beginning_kept}
 use Rattle.driver_laws.proofs.rules.Once.{times_out, times_among, answers_count, answered_append, once_among, listed_out, nothing_out}
 use Rattle.driver_laws.proofs.rules.LastWrites.{Left, answers_left, each_asked, refusal_left, left_join, found_asked}
 use Rattle.driver_laws.proofs.rules.MachineRuns.{home_marks, left_at, room_at, below_count, script_given, script_ids}
-use Rattle.std.proofs.lemmas.Bool.{eq-eqb, ne_eqb}
+use Rattle.std.proofs.lemmas.Bool.{eq-eqb, ne_eqb, true≢false as no}
 use Rattle.std.proofs.lemmas.Bool.Decides.{eqb_tells}
 use Rattle.driver_laws.specs.rules.Beginnings.{IsBegun, IsUnanswered, HoldsButOne, PromisesSoFar, BeginningsKeep, IsNextSector, with_next, NextBlocksKeep}
-use Rattle.driver_laws.proofs.rules.Few.{done_few, no}
+use Rattle.driver_laws.proofs.rules.Few.{done_few}
 
 -- ---- the front of a script's inputs
 given_ask : (drives : ℕ → Option DriveKind) (ms : List Moment) → AreGiven drives ms → AskSome ms

@@ -1,28 +1,29 @@
 -- Blocks, homes and bytes: what is done of a request, block by block.
 use Rattle.std.proofs.Common.{◌==◌, ◌≡◌, ◌≢◌, ℕ, zero, suc, ◌≤◌, ◌+◌, ◌-◌, ◌*◌, ◌&&◌, nat_le, nat_lt, Bool, true, false, List, [], ◌∷◌, ◌++◌, length, take, drop, replicate, Option, None, Some, refl, ap, arith, length-append, ◌<◌, ◌∙◌}
-use Rattle.std.specs.Prelude.{is_some, IsSome, if◌then◌else◌}
+use Rattle.std.specs.Prelude.{is_some, if◌then◌else◌}
 use Rattle.std.proofs.lemmas.Bool.Decides.{nat_tests}
 use Rattle.std.proofs.lemmas.Bool.{eq-eqb, ne_eqb}
 use Rattle.std.proofs.lemmas.List.{length-take-le, length-replicate}
 use Rattle.trace_replay.specs.requests.Requests.{Request}
-use Rattle.trace_replay.specs.Packs.{size_of_block, sector_of_block, bytes_of_write, flipped_from, read_as, repaired_from}
+use Rattle.trace_replay.specs.Packs.{size_of_block, sector_of_block, bytes_of_write, read_as, repaired_from}
 use Rattle.driver_laws.specs.rules.Machine.{Blocks, bytes_or_none, bytes_of_first, blocks_done}
 use Rattle.driver_laws.specs.rules.Stands.{held_at, size_of_first}
+use Rattle.trace_replay.proofs.ReadBytes.{length_flipped}
 
 -- ---- the test whether a block is done
-not_done : (first n : ℕ) → nat_le first (first + n) && nat_lt (first + n) (first + n) ≡ false
+pub not_done : (first n : ℕ) → nat_le first (first + n) && nat_lt (first + n) (first + n) ≡ false
 not_done first n = grind (arith, nat_tests)
 
-none_done : (first b : ℕ) → nat_le first b && nat_lt b (first + 0) ≡ false
+pub none_done : (first b : ℕ) → nat_le first b && nat_lt b (first + 0) ≡ false
 none_done first b = grind (arith, nat_tests)
 
-next_done : (first n : ℕ) → nat_le first (first + n) && nat_lt (first + n) (first + (n + 1)) ≡ true
+pub next_done : (first n : ℕ) → nat_le first (first + n) && nat_lt (first + n) (first + (n + 1)) ≡ true
 next_done first n = grind (arith, nat_tests)
 
-other_done : (first n b : ℕ) → b ≢ first + n → nat_le first b && nat_lt b (first + (n + 1)) ≡ nat_le first b && nat_lt b (first + n)
+pub other_done : (first n b : ℕ) → b ≢ first + n → nat_le first b && nat_lt b (first + (n + 1)) ≡ nat_le first b && nat_lt b (first + n)
 other_done first n b ne = grind (arith, nat_tests)
 
-and_false : (w : Bool) → w && false ≡ false
+pub and_false : (w : Bool) → w && false ≡ false
 and_false true = refl
 and_false false = refl
 
@@ -63,9 +64,6 @@ not_written (Some bytes) is = absurd (none is)
 
 pub reads_so : (w : Option (List ℕ)) → w ≡ None → is_some w ≡ false
 reads_so w is = ap is_some is
-
-pub some_is : {A : Type 0} (o : Option A) (x : A) → o ≡ Some x → IsSome o
-some_is o x is = ap is_some is
 
 pub held_some : (sectors : ℕ → List ℕ) (home : Option ℕ) (sector : ℕ) → home ≡ Some sector → held_at sectors home ≡ Some (sectors sector)
 held_some sectors home sector is = ap (held_at sectors) is
@@ -112,13 +110,10 @@ whole_size r some = at r.count refl some
         more a n last e = omega (arith, e)
 
 -- ---- reads and repairs give as many bytes
-flipped_length : (i : ℕ) (places bytes : List ℕ) → length (flipped_from i places bytes) ≡ length bytes
-flipped_length i places [] = refl
-flipped_length i places (b ∷ bytes) = ap suc (flipped_length (i + 1) places bytes)
 
 pub read_length : (flips : Option (List ℕ)) (sector : List ℕ) → length (read_as flips sector) ≡ length sector
 read_length None sector = refl
-read_length (Some places) sector = flipped_length 0 places sector
+read_length (Some places) sector = length_flipped 0 places sector
 
 pub repaired_length : (i at q : ℕ) (bytes : List ℕ) → length (repaired_from i at q bytes) ≡ length bytes
 repaired_length i at q [] = refl

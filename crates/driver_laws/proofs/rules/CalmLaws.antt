@@ -1,29 +1,31 @@
 -- A calm replay stays so.
 use Rattle.std.proofs.Common.{◌≡◌, ℕ, ◌==◌, Bool, true, false, List, [], ◌∷◌, None, Some, refl, sym, ap, subst, ◌∙◌}
 use Rattle.std.specs.Prelude.{if◌then◌else◌}
+use Rattle.std.proofs.lemmas.Bool.{false≢true}
 use Rattle.hardware_table.specs.declared.Moved.{Moved}
 use Rattle.hardware_table.specs.Drive.{DriveState, is_writing}
 use Rattle.hardware_table.specs.Events.{turned}
 use Rattle.hardware_table.specs.Moves.{stop_of, IsVerdictBy, was_read, was_written}
 use Rattle.hardware_table.specs.Noise.{LiveNoise, strikes, after_strike}
 use Rattle.trace_replay.specs.requests.Requests.{Request, Answer, Rejection, AtEnd, Beyond, FramesShort, rejection_answer}
-use Rattle.trace_replay.specs.Script.{Input, Submit, ArriveAt, MoveAt, AttendTo, Drain, Turn, Noise, Arm, SetOnline, SetLocked}
-use Rattle.trace_replay.specs.Moments.{Deed, Search, Seek, Recal, Offset, Centre, Clear, Pack, Transfer, Arrive, Sector, Intr, Try, Attn, End, Played, Told, Idle}
+use Rattle.trace_replay.specs.Script.{Input, Submit, Turn, Noise, Arm, SetOnline, SetLocked}
+use Rattle.trace_replay.specs.Moments.{Deed, Sector, End, Played, Told, Idle}
 use Rattle.trace_replay.specs.Packs.{Surface, VerdictMay, flips_at, surface_read, surface_written}
 use Rattle.trace_replay.specs.Service.{head_of, in_hand, target_of}
-use Rattle.trace_replay.specs.Conversation.{Stage, Waiting, Steps, UnderWay, AtOnce, Moving, Saying, Ending}
-use Rattle.trace_replay.specs.Events.{Event, Wish, NoLine, DueLine, Arrival, SectorLine, Interrupt, Attention, Refusal, IdleLine}
+use Rattle.trace_replay.specs.Conversation.{Stage, Waiting}
+use Rattle.trace_replay.specs.Events.{Event, Wish, Refusal}
 use Rattle.trace_replay.specs.Replay.{Replay, UnitSeen, with_state, at_unit, hand_of, next_wish, ToldMay, unit_after, surface_after, replay_told, after_moment, Submission, Refused, Joined, submission, submitted, stage_joined, unit_joined, replay_played}
 use Rattle.trace_replay.proofs.Unchanged.{told_keeps}
 use Rattle.driver_laws.specs.rules.Calm.{IsGood, is_calm_verdict, is_calm_stage, IsCalm, is_calm_input, is_calm_moment, are_calm, IsCalmEnd, is_refused_at_once, StaysCalm, RunsStayCalm, EndsAreCalm}
-use Rattle.driver_laws.proofs.rules.Drives.{no, either_good, IsCalmDeed, after_good}
-use Rattle.driver_laws.proofs.rules.WaitedStages.{first_of, second_of, begun_calm, stage_calm, end_calm}
+use Rattle.driver_laws.proofs.rules.Drives.{either_good, IsCalmDeed, after_good}
+use Rattle.driver_laws.proofs.rules.WaitedStages.{begun_calm, stage_calm, end_calm}
+use Rattle.driver_laws.proofs.rules.Stages.{first_of, second_of}
 
 -- ---- the verdict of a sector that is tried
-stopped_not : (d : DriveState) → IsGood d → stop_of d ≡ None
+pub stopped_not : (d : DriveState) → IsGood d → stop_of d ≡ None
 stopped_not d g = rw (g.0, g.2) refl
 
-verdict_by : (marked write : Bool) (v : Moved) → IsVerdictBy None marked write None v → is_calm_verdict v ≡ true
+pub verdict_by : (marked write : Bool) (v : Moved) → IsVerdictBy None marked write None v → is_calm_verdict v ≡ true
 verdict_by true write v is = rw is refl
 verdict_by false true v is = rw is refl
 verdict_by false false v is = rw is refl
@@ -109,10 +111,10 @@ played_calm s (Turn u sector) is calm = record {
   stages = calm.stages;
   live = calm.live;
 }
-played_calm s (Noise noise) is calm = absurd (no is)
-played_calm s (Arm u kind times) is calm = absurd (no is)
-played_calm s (SetOnline u on) is calm = absurd (no is)
-played_calm s (SetLocked u on) is calm = absurd (no is)
+played_calm s (Noise noise) is calm = absurd (false≢true is)
+played_calm s (Arm u kind times) is calm = absurd (false≢true is)
+played_calm s (SetOnline u on) is calm = absurd (false≢true is)
+played_calm s (SetLocked u on) is calm = absurd (false≢true is)
 played_calm s other is calm = calm
 
 -- ---- ALL OF IT
@@ -130,7 +132,7 @@ runs_stay_calm s (m ∷ ms) follows are calm =
     (stays_calm s m follows.0 (first_of (is_calm_moment m) (are_calm ms) are) calm)
 
 refused_end : (answer : Answer) (why : Rejection) → End answer ≡ End (rejection_answer why) → IsCalmEnd answer
-refused_end answer why is none = absurd (no (sym (subst (λ z. is_refused_at_once z ≡ false) (same answer (rejection_answer why) is) none) ∙ refusal why))
+refused_end answer why is none = absurd (false≢true (sym (subst (λ z. is_refused_at_once z ≡ false) (same answer (rejection_answer why) is) none) ∙ refusal why))
   where
     same : (x y : Answer) → End x ≡ End y → x ≡ y
     same x y e = cc

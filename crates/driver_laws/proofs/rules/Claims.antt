@@ -10,7 +10,7 @@ use Rattle.pack_geometry.specs.Pack as model
 use Rattle.pack_geometry.specs.TableSpelling.{Table}
 use Rattle.pack_geometry.specs.Homes.{home_of}
 use Rattle.trace_replay.specs.requests.Requests.{first_block}
-use Rattle.trace_replay.specs.Script.{Input, Submit, ArriveAt, MoveAt, AttendTo, Drain, Turn, Noise, Arm, SetOnline, SetLocked, Numbered}
+use Rattle.trace_replay.specs.Script.{Input, Noise, Numbered}
 use Rattle.driver_laws.specs.rules.Machine.{kind_of}
 use Rattle.driver_laws.specs.rules.LegalAnswers.{unaliased, IsNoAlias, AreNoAliases, all_claimed}
 use Rattle.driver_laws.specs.rules.Stands.{Setup, home_at}

@@ -5,20 +5,21 @@ use Rattle.std.specs.List.{AllByRecursion}
 use Rattle.std.proofs.lemmas.Option.{none-some, same_Some}
 use Rattle.std.proofs.lemmas.Bool.Decides.{eqb_tells}
 use Rattle.std.proofs.lemmas.List.Elements.{Contains-append_left, Contains-append_right, Contains-push}
+use Rattle.std.proofs.lemmas.Bool.{false≢true}
 use Rattle.pack_geometry.specs.declared.DriveKind.{DriveKind}
 use Rattle.pack_geometry.specs.Geometry.{limit_of}
 use Rattle.pack_geometry.specs.PackTable.{AreTablesOf}
 use Rattle.hardware_table.specs.declared.Moved.{Moved}
 use Rattle.hardware_table.specs.declared.Moved.TheVariants as verdict
 use Rattle.hardware_table.specs.Drive.{DriveState, is_writing}
-use Rattle.trace_replay.specs.requests.Requests.{Request, first_block, Rejection, AtEnd, Beyond, FramesShort, rejection_answer, Answer, ReadOk, WriteOk, OutsidePartition, EndOfPartition, NoFrames, Failed}
+use Rattle.trace_replay.specs.requests.Requests.{Request, first_block, Rejection, AtEnd, rejection_answer, Answer, OutsidePartition, EndOfPartition, NoFrames}
 use Rattle.trace_replay.specs.Script.{Submit, Drain}
-use Rattle.trace_replay.specs.Moments.{Deed, Search, Seek, Recal, Offset, Centre, Clear, Pack, Transfer, Arrive, Sector, Intr, Try, Attn, End, Moment, Played, Told, Idle, Answered, played, answers_in}
+use Rattle.trace_replay.specs.Moments.{Deed, Sector, Intr, End, Moment, Played, Told, Idle, Answered, played, answers_in}
 use Rattle.trace_replay.specs.Packs.{VerdictMay, flips_at, bytes_read}
-use Rattle.hardware_table.specs.Moves.{stop_of, IsVerdictBy, has_bytes, was_read}
+use Rattle.hardware_table.specs.Moves.{IsVerdictBy, has_bytes, was_read}
 use Rattle.hardware_table.specs.Noise.{LiveNoise, strikes}
 use Rattle.trace_replay.specs.Service.{in_hand, target_of}
-use Rattle.trace_replay.specs.Conversation.{Stage, Waiting, Steps as StepsLeft, UnderWay, AtOnce, Moving, Saying, Ending, Progress, not_begun, last_of, progress_tried, progress_interrupted}
+use Rattle.trace_replay.specs.Conversation.{Stage, Progress, not_begun, last_of, progress_tried, progress_interrupted}
 use Rattle.trace_replay.specs.Events.{Wish, NoLine, DueLine, Arrival, SectorLine, Interrupt, Attention, Refusal, IdleLine}
 use Rattle.trace_replay.specs.Replay.{Replay, UnitSeen, next_wish, hand_of, at_unit, LineMay, ToldMay, Follows, after_moment, after_moments, unit_after, Submission, Refused, Joined, submission, submitted, unit_joined}
 use Rattle.trace_replay.proofs.Kept.{after_kind}
@@ -32,14 +33,15 @@ use Rattle.driver_laws.proofs.rules.Homes.{home_is, there_is}
 use Rattle.driver_laws.proofs.rules.Ends.{EndsAs, due_ends}
 use Rattle.driver_laws.proofs.rules.Kept.{moment_kept}
 use Rattle.driver_laws.proofs.rules.Steps.{moment_step}
-use Rattle.driver_laws.specs.rules.Calm.{IsGood, IsCalm, is_calm_verdict, is_calm_stage}
-use Rattle.driver_laws.proofs.rules.CalmLaws.{stays_calm, runs_stay_calm}
+use Rattle.driver_laws.specs.rules.Calm.{IsCalm, is_calm_verdict}
+use Rattle.driver_laws.proofs.rules.CalmLaws.{stays_calm, runs_stay_calm, verdict_by, stopped_not}
 use Rattle.driver_laws.specs.rules.Sessions.{Part, behind, waited, told_in}
 use Rattle.driver_laws.specs.rules.Waited.{map_of, first_in, answer_in, IsWaitedFor}
 use Rattle.driver_laws.specs.rules.Cleans.{MovedClean, done_by, DoneMovesClean}
-use Rattle.driver_laws.proofs.rules.Restful.{no, rest_keeps, rest_stands}
+use Rattle.driver_laws.proofs.rules.Restful.{rest_keeps, rest_stands}
 use Rattle.driver_laws.proofs.rules.Parts.{numbered, PartStep, part_step, step, first_keeps, first_stands}
-use Rattle.driver_laws.proofs.rules.WaitedLaws.{answers_append, lines_calm, begun_calm, is_answered}
+use Rattle.driver_laws.proofs.rules.WaitedLaws.{answers_append, lines_calm, begun_calm, is_answered, cons_never}
+use Rattle.driver_laws.proofs.rules.WaitedStages.{last_calm}
 
 -- ---- lists
 head_there : {A : Type 0} (x : A) (xs : List A) → Contains (x ∷ xs) x
@@ -55,7 +57,7 @@ UnitClean setup all unit u = (k : ℕ) → k < u.progress.done → MovedClean se
 abbrev AreClean : Setup → List Moment → Replay → Type 0
 AreClean setup all s = (unit : ℕ) → UnitClean setup all unit (s.units unit)
 
-none_below : (k : ℕ) → k < 0 → ⊥
+pub none_below : (k : ℕ) → k < 0 → ⊥
 none_below k lt = omega (arith, lt)
 
 one_more : (P : ℕ → Type 0) (n k : ℕ) → k < n + 1 → ((j : ℕ) → j < n → P j) → P n → P k
@@ -69,15 +71,6 @@ kept : (setup : Setup) (all : List Moment) (unit : ℕ) (u : UnitSeen) (d : Driv
     → UnitClean setup all unit (record { drive = d; service = u.service; stage = stage; progress = p; table = u.table })
 kept setup all unit u d stage p kind done clean k lt =
     subst (λ z. MovedClean setup unit (first_block z (in_hand u.service) + k) all) (sym kind) (clean k (subst (λ n. k < n) done lt))
-
--- a sector that is tried is clean or marked
-verdict_by : (marked write : Bool) (v : Moved) → IsVerdictBy None marked write None v → is_calm_verdict v ≡ true
-verdict_by true write v is = rw is refl
-verdict_by false true v is = rw is refl
-verdict_by false false v is = rw is refl
-
-stopped_not : (d : DriveState) → IsGood d → stop_of d ≡ None
-stopped_not d g = rw (g.0, g.2) refl
 
 verdict_calm : (s : Replay) (unit block : ℕ) (v : Moved) → IsCalm s → VerdictMay s.surface unit (s.units unit).drive (Sector block v) → is_calm_verdict v ≡ true
 verdict_calm s unit block v calm may =
@@ -93,16 +86,11 @@ tried_clean : (setup : Setup) (all : List Moment) (line unit id block : ℕ) (v 
     → ((k : ℕ) → k < p.done → MovedClean setup unit (first + k) all) → (k : ℕ) → k < (progress_tried v bytes p).done → MovedClean setup unit (first + k) all
 tried_clean setup all line unit id block verdict.Clean first bytes p calm home there clean k lt =
     one_more (λ j. MovedClean setup unit (first + j) all) p.done k lt clean (record { sector = block; home = home refl; line = line; id = id; moved = there })
-tried_clean setup all line unit id block (verdict.Burst at q) first bytes p calm home there clean k lt = absurd (no calm)
+tried_clean setup all line unit id block (verdict.Burst at q) first bytes p calm home there clean k lt = absurd (false≢true calm)
 tried_clean setup all line unit id block other first bytes p calm home there clean k lt = clean k lt
 
--- an interrupt came
-last_calm : (stage : Stage) → is_calm_stage stage ≡ true → is_calm_verdict (last_of stage) ≡ true
-last_calm (Moving segment left last) calm = calm
-last_calm other calm = refl
-
 interrupted_done : (v : Moved) (p : Progress) → is_calm_verdict v ≡ true → (progress_interrupted v p).done ≡ p.done
-interrupted_done (verdict.Burst at q) p calm = absurd (no calm)
+interrupted_done (verdict.Burst at q) p calm = absurd (false≢true calm)
 interrupted_done other p calm = refl
 
 -- ---- A LINE of a unit
@@ -240,9 +228,6 @@ told_ends : (P : Answered → Type 0) (line unit id : ℕ) (deed : Deed) (ms : L
 told_ends P line unit id (End a) ms here rest = (here a refl, rest)
 told_ends P line unit id other ms here rest = rest
 
-no_played : {A : Type 0} (x : A) (xs : List A) → x ∷ xs ≡ [] → ⊥
-no_played x xs e = cc
-
 -- a moment and those behind it
 module _ (setup : Setup) (all : List Moment) (r : Request) (s : Replay) (m : Machine) (are : AreTablesOf setup.drives setup.packs setup.tables) (keeps : Keeps setup s)
     (stands : StandsFor setup [] s m) (calm : IsCalm s) (only : IsOnly r m.outstanding) (clean : AreClean setup all s) where
@@ -282,7 +267,7 @@ module _ (setup : Setup) (all : List Moment) (r : Request) (s : Replay) (m : Mac
 lines_come : (setup : Setup) (all : List Moment) (r : Request) (s : Replay) (m : Machine) (ms : List Moment) → AreTablesOf setup.drives setup.packs setup.tables → Keeps setup s
     → StandsFor setup [] s m → IsCalm s → IsOnly r m.outstanding → AreClean setup all s → Follows s ms → played ms ≡ [] → ((x : Moment) → Contains ms x → Contains all x) → Come setup all r s ms
 lines_come setup all r s m [] are keeps stands calm only clean follows alone among = record { clean = clean; ends = tt }
-lines_come setup all r s m (Played line input ∷ ms) are keeps stands calm only clean follows alone among = absurd (no_played (record { line = line; input = input }) (played ms) alone)
+lines_come setup all r s m (Played line input ∷ ms) are keeps stands calm only clean follows alone among = absurd (cons_never (record { line = line; input = input }) (played ms) alone)
 lines_come setup all r s m (Told line unit id deed ∷ ms) are keeps stands calm only clean follows alone among =
     line_come setup all r s m are keeps stands calm only clean line unit id deed ms follows alone among
     (λ new k h c o l f a w. lines_come setup all r (after_moment s (Told line unit id deed)) new ms are k h c o l f a w)

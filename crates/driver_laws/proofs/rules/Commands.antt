@@ -5,8 +5,8 @@ use Rattle.trace_replay.specs.requests.ServiceOrder.{Waiting as Waiter}
 use Rattle.trace_replay.specs.requests.Requests.{Request, Answer, NoFrames}
 use Rattle.trace_replay.specs.Moments.{Deed, End, Told}
 use Rattle.trace_replay.specs.Service.{ServiceMay, first_waiting, head_of, in_hand, request_or_none, ids}
-use Rattle.trace_replay.specs.Conversation.{Hand, Stage, Waiting, Steps, UnderWay, AtOnce, Moving, Saying, Ending, is_waiting}
-use Rattle.trace_replay.specs.Events.{Wish, NoLine, DueLine, Arrival, SectorLine, Interrupt, Attention, Refusal, IdleLine}
+use Rattle.trace_replay.specs.Conversation.{Hand, Stage, Waiting, is_waiting}
+use Rattle.trace_replay.specs.Events.{Wish, Refusal}
 use Rattle.trace_replay.specs.Replay.{Replay, UnitSeen, new_replay, next_wish, hand_of, ToldMay, Follows, after_moments}
 use Rattle.trace_replay.specs.History.{is_refusal, lines_behind}
 use Rattle.trace_replay.proofs.Histories.{Fits}
@@ -45,7 +45,7 @@ commands_are_bounded drives tables surface ms unit some follows =
     ((moments_packs (new_replay drives tables surface) ms (λ x. []) some follows (starts drives tables surface) (starts_packs drives tables surface)).counted unit)
 
 -- ---- the end
-id_of : (r : Option Request) (id : ℕ) → ids r ≡ Some id → (request_or_none r).id ≡ id
+pub id_of : (r : Option Request) (id : ℕ) → ids r ≡ Some id → (request_or_none r).id ≡ id
 id_of None id is = absurd (none-some id is)
 id_of (Some r) id is = same_Some r.id id is
 

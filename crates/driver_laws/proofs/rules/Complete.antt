@@ -1,7 +1,7 @@
 -- A request that nothing hinders is answered ok.
 use Rattle.std.proofs.Common.{◌≡◌, inl, inr, ◌⊎◌, ℕ, zero, suc, ◌<◌, ◌≤◌, ◌+◌, Bool, true, false, List, [], ◌∷◌, ◌++◌, append_assoc, length, Option, None, Some, refl, sym, ap, ◌∙◌, subst, arith}
 use Rattle.std.specs.Prelude.{IsSome, is_some, if◌then◌else◌}
-use Rattle.std.proofs.lemmas.Bool.{eq-eqb}
+use Rattle.std.proofs.lemmas.Bool.{eq-eqb, true≢false}
 use Rattle.std.proofs.lemmas.List.{append-nil, length-append}
 use Rattle.pack_geometry.specs.declared.DriveKind.{DriveKind}
 use Rattle.pack_geometry.specs.Pack as model
@@ -144,11 +144,9 @@ cut (a ∷ ahead) m between (n ∷ front) back e = at (cut ahead m between front
     at (inr before) = inr (record { rest = before.rest; ahead_is = ap (λ z. z ∷ ahead) (sym first) ∙ ap (λ z. n ∷ z) before.ahead_is })
 
 -- ---- the request in a legal run
-true_false : true ≡ false → ⊥
-true_false e = grind (arith, e)
 
 none_is_some : {A : Type 0} (x : Option A) → x ≡ None → IsSome x → ⊥
-none_is_some x is some = true_false (sym (subst IsSome is some))
+none_is_some x is some = true≢false (sym (subst IsSome is some))
 
 no_refusal : (why : Rejection) → Refused why ≡ Joined → ⊥
 no_refusal why e = cc
@@ -209,7 +207,7 @@ module _ (laws : Laws) (script : Script) (tables : ℕ → Option Table) (old ne
   stayed done run was = found (cut ahead (Played at (Submit r)) between was.before was.after was.parts)
     where
       found : GoesPast ahead (Played at (Submit r)) between was.before was.after ⊎ EndsBefore ahead was.before → ⊥
-      found (inl past) = true_false (sym (ap (online_behind r.unit true) past.front_is ∙ free.online past.part was.after past.between_is) ∙ was.offline)
+      found (inl past) = true≢false (sym (ap (online_behind r.unit true) past.front_is ∙ free.online past.part was.after past.between_is) ∙ was.offline)
       found (inr before) = twice (Failed Offline done) run was.before (before.rest ++ Played at (Submit r) ∷ between)
           (ap (λ z. z ++ Played at (Submit r) ∷ between) before.ahead_is ∙ append_assoc was.before before.rest (Played at (Submit r) ∷ between))
           (asked_once r was.before was.submitted) (asked_once r (before.rest ++ Played at (Submit r) ∷ between) (played_here r at before.rest between))
@@ -225,7 +223,7 @@ module _ (laws : Laws) (script : Script) (tables : ℕ → Option Table) (old ne
     where
       told : (q : Request) × IsAskedAt q r.unit r.id Before × WasOffline q Before
       told = laws.offline script tables old new Before after line r.unit r.id done run
-  is_ok (Failed Locked done) run = absurd (true_false (sym told.4 ∙ free.unlocked (ap (λ z. is_some z.written) (same (Failed Locked done) run told.0 told.1) ∙ told.2)))
+  is_ok (Failed Locked done) run = absurd (true≢false (sym told.4 ∙ free.unlocked (ap (λ z. is_some z.written) (same (Failed Locked done) run told.0 told.1) ∙ told.2)))
     where
       told : (q : Request) × IsAskedAt q r.unit r.id Before × (is_some q.written ≡ true) × (online_behind r.unit true Before ≡ true) × (locked_behind r.unit false Before ≡ true)
       told = laws.locked script tables old new Before after line r.unit r.id done run

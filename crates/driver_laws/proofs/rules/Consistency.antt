@@ -3,22 +3,23 @@ use Rattle.std.proofs.Common.{◌≡◌, ◌≢◌, ◌⊎◌, inl, inr, ℕ, �
 use Rattle.std.specs.Prelude.{if◌then◌else◌, drop}
 use Rattle.std.proofs.lemmas.Bool.Decides.{eqb_tells}
 use Rattle.std.proofs.lemmas.Nat.Bits.{bit_at-zero}
+use Rattle.std.proofs.lemmas.Bool.{false≢true, true≢false, eqb-true}
 use Rattle.pack_geometry.specs.declared.DriveKind.{DriveKind}
 use Rattle.hardware_table.specs.Drive.{DriveState, is_positioning, is_transferring, on}
 use Rattle.hardware_table.specs.Adapter.{AdapterState, attention_lowered}
 use Rattle.trace_replay.specs.requests.ServiceOrder.{Waiting as Waiter, is_before, put, Service, sweep_for, service_order}
 use Rattle.trace_replay.specs.requests.Requests.{Request}
-use Rattle.trace_replay.specs.Script.{Input, Submit, ArriveAt, MoveAt, AttendTo, Drain, Turn, Noise, Arm, SetOnline, SetLocked}
+use Rattle.trace_replay.specs.Script.{Input, Submit, ArriveAt, MoveAt, AttendTo, Drain}
 use Rattle.trace_replay.specs.Drives.{drive_played}
 use Rattle.trace_replay.specs.Service.{first_waiting, head_of, cylinder_of, service_joined}
-use Rattle.trace_replay.specs.Moments.{Deed, Search, Seek, Recal, Offset, Centre, Clear, Pack, Transfer, Arrive, Sector, Intr, Try, Attn, End, Moment, Played, Told, Idle}
+use Rattle.trace_replay.specs.Moments.{Deed, Transfer, Arrive, Sector, Intr, Try, Attn, Moment, Played, Told, Idle}
 use Rattle.trace_replay.specs.Adapters.{AdapterSeen, adapter_of, drive_of, with_ready, can_move}
-use Rattle.trace_replay.specs.Conversation.{Stage, Waiting, Steps, UnderWay, AtOnce, Moving, Saying, Ending, waits, goes_on, is_under_way, is_waiting}
-use Rattle.trace_replay.specs.Events.{Act, Done, Refusing, Arriving, Trying, Serving, NothingToDo, Wish, NoLine, DueLine, Arrival, SectorLine, Interrupt, Attention, Refusal, IdleLine, wish_of, act_after, is_no_line, wish_in}
+use Rattle.trace_replay.specs.Conversation.{Stage, Waiting, waits, goes_on, is_under_way, is_waiting}
+use Rattle.trace_replay.specs.Events.{Act, Done, Refusing, Arriving, Trying, Serving, NothingToDo, Wish, Attention, Refusal, IdleLine, wish_of, act_after, is_no_line, wish_in}
 use Rattle.trace_replay.specs.Replay.{Replay, UnitSeen, at_unit, with_state, next_wish, LineMay, ToldMay, bytes_of, unit_after, adapter_told, replay_told, drained, act_drained, told_after, act_done, are_at_work, WorkMay, after_moment, after_moments, Follows, new_replay, unit_joined, stage_joined, adapter_joined, joined_by, Submission, Refused, Joined, submission, submitted, conditions_after, act_of, act_submitted}
 use Rattle.driver_laws.specs.rules.Consistent.{is_moving, may_have_errors, is_well_said, Agrees, IsInOrder, serves, IsAct, IsUnderControl, IsConsistent, StaysConsistent, StartsConsistent, IsAlwaysConsistent, Counts, CanServe, IsDue, has_interrupt}
-use Rattle.driver_laws.proofs.rules.Stages.{no, nor, under_way}
-use Rattle.driver_laws.proofs.rules.Queues.{same, others_queued, queued_joined, others_joined, is_same}
+use Rattle.driver_laws.proofs.rules.Stages.{under_way}
+use Rattle.driver_laws.proofs.rules.Queues.{same, others_queued, queued_joined, others_joined}
 use Rattle.driver_laws.proofs.rules.Driven.{stepped_keeps, Untouched, played_drive}
 use Rattle.driver_laws.proofs.rules.Own.{own}
 use Rattle.driver_laws.proofs.rules.Others.{spared, still_agrees, drives_differ, order_after, order_joined}
@@ -113,12 +114,12 @@ module _ (s : Replay) (line unit id : ℕ) (deed : Deed) (may : LineMay s line u
   -- what is still to come
   in_place : (P Q : AdapterSeen → Type 0) (k : ℕ) → (k == adapter_of unit) ≡ true → (P (at_unit s unit) → Q NewAdapter) → P (s.adapters k) → Q (Next.adapters k)
   in_place P Q k is f p =
-      subst (λ z. Q (Next.adapters z)) (sym (is_same k (adapter_of unit) is)) (subst Q (sym (its_own s unit NewAdapter)) (f (subst (λ z. P (s.adapters z)) (is_same k (adapter_of unit) is) p)))
+      subst (λ z. Q (Next.adapters z)) (sym (eqb-true k (adapter_of unit) is)) (subst Q (sym (its_own s unit NewAdapter)) (f (subst (λ z. P (s.adapters z)) (eqb-true k (adapter_of unit) is) p)))
 
   same_due : (act : Act) → serves act (adapter_of unit) ≡ true → (has_interrupt act ≡ true → ⊥)
       → ((i : Bool) (ds : List ℕ) → (i ≡ true → ⊥) → CanServe (at_unit s unit).state i ds → CanServe NewAdapter.state i ds) → IsDue s.units s.adapters act → IsDue Next.units Next.adapters act
-  same_due (Arriving u) is n f due = absurd (no is)
-  same_due (Trying a) is n f due = absurd (no is)
+  same_due (Arriving u) is n f due = absurd (false≢true is)
+  same_due (Trying a) is n f due = absurd (false≢true is)
   same_due (Serving k i ds) is n f due = in_place (λ z. CanServe z.state i ds) (λ z. CanServe z.state i ds) k is (f i ds n) due
   same_due other is n f due = tt
 
@@ -155,17 +156,17 @@ not_ready_stays stage n xs is = ap (λ z. with_ready z n xs) (under_way stage is
 
 intr_due : (s : Replay) (line unit id : ℕ) (may : LineMay s line unit id Intr) (c : IsConsistent s) (act : Act) → serves act (adapter_of unit) ≡ true → IsDue s.units s.adapters act
     → IsDue (replay_told s unit Intr (unit_after s unit Intr)).units (replay_told s unit Intr (unit_after s unit Intr)).adapters (act_after Intr act)
-intr_due s line unit id may c (Arriving u) is due = absurd (no is)
-intr_due s line unit id may c (Trying a) is due = absurd (no is)
+intr_due s line unit id may c (Arriving u) is due = absurd (false≢true is)
+intr_due s line unit id may c (Trying a) is due = absurd (false≢true is)
 intr_due s line unit id may c (Serving k i ds) is due =
-    in_place s line unit id Intr may c (λ z. CanServe z.state i ds) (λ z. CanServe z.state false ds) k is (λ f. record { completed = λ e. absurd (no e); up = f.up }) due
+    in_place s line unit id Intr may c (λ z. CanServe z.state i ds) (λ z. CanServe z.state false ds) k is (λ f. record { completed = λ e. absurd (false≢true e); up = f.up }) due
 intr_due s line unit id may c other is due = tt
 
 attn_due : (s : Replay) (line unit id : ℕ) (may : LineMay s line unit id Attn) (c : IsConsistent s) (act : Act) → serves act (adapter_of unit) ≡ true
     → wish_in s.adapters act ≡ Attention unit → IsAct act → IsDue s.units s.adapters act
     → IsDue (replay_told s unit Attn (unit_after s unit Attn)).units (replay_told s unit Attn (unit_after s unit Attn)).adapters (act_after Attn act)
-attn_due s line unit id may c (Arriving u) is e are due = absurd (no is)
-attn_due s line unit id may c (Trying a) is e are due = absurd (no is)
+attn_due s line unit id may c (Arriving u) is e are due = absurd (false≢true is)
+attn_due s line unit id may c (Trying a) is e are due = absurd (false≢true is)
 attn_due s line unit id may c (Serving k i ds) is e are due =
     in_place s line unit id Attn may c (λ z. CanServe (attention_lowered (drive_of unit) z.state) i (drop 1 ds)) (λ z. CanServe z.state i (drop 1 ds)) k is (λ f. f)
     (attention_served s.adapters k unit i ds e are due)
@@ -175,14 +176,14 @@ line_control : (s : Replay) (line unit id : ℕ) (deed : Deed) → LineMay s lin
 line_control s line unit id (Transfer w b k) may ok =
     due_control s line unit id (Transfer w b k) may ok refl refl refl (λ i ds n f. record { completed = λ e. absurd (n e); up = f.up })
 line_control s line unit id Arrive may ok =
-    controlled s line unit id Arrive may ok (λ on. absurd (nor (sym on ∙ (under_way (s.units unit).stage may.talk).silent)))
-    (foreign_started s line unit id Arrive may ok refl refl (λ free. free) (not_ready_stays (s.units unit).stage unit (at_unit s unit).ready may.talk)) tt (λ on. no on)
+    controlled s line unit id Arrive may ok (λ on. absurd (true≢false (sym on ∙ (under_way (s.units unit).stage may.talk).silent)))
+    (foreign_started s line unit id Arrive may ok refl refl (λ free. free) (not_ready_stays (s.units unit).stage unit (at_unit s unit).ready may.talk)) tt (λ on. false≢true on)
 line_control s line unit id (Sector b v) may ok =
-    controlled s line unit id (Sector b v) may ok (λ on. absurd (no on))
-    (foreign_started s line unit id (Sector b v) may ok refl refl (λ free. sym (stepped_keeps v (at_unit s unit).state).0 ∙ free) refl) tt (λ on. no on)
+    controlled s line unit id (Sector b v) may ok (λ on. absurd (false≢true on))
+    (foreign_started s line unit id (Sector b v) may ok refl refl (λ free. sym (stepped_keeps v (at_unit s unit).state).0 ∙ free) refl) tt (λ on. false≢true on)
 line_control s line unit id Intr may ok =
     served_control s line unit id Intr may ok refl (intr_due s line unit id may ok s.event.act (serving_line s unit Intr ok may.wished refl) ok.event.due)
-    (λ on. nor (sym on ∙ interrupt_gone s.event.act))
+    (λ on. true≢false (sym on ∙ interrupt_gone s.event.act))
 line_control s line unit id (Try b f) may ok = due_control s line unit id (Try b f) may ok refl refl refl (λ i ds n f. f)
 line_control s line unit id Attn may ok =
     served_control s line unit id Attn may ok refl
@@ -228,7 +229,7 @@ done_keeps s w wished is line c = record {
     ];
     act = tt;
     due = tt;
-    first = λ first. absurd (no first);
+    first = λ first. absurd (false≢true first);
     at_work = at_work_still s.event.between s (act_done s) (λ e. e) c.event.at_work;
   };
 }
@@ -261,7 +262,7 @@ record JoinedTo (old new : Stage) (d : DriveState) : Type 0 where
   pub counts : (a : AdapterState) → (is_moving old ≡ true → Counts old a) → is_moving new ≡ true → Counts new a
 
 joined_to : (stage : Stage) (d : DriveState) (r : Request) → JoinedTo stage (stage_joined stage d r) d
-joined_to Waiting d r = record { under = refl; moving = refl; waiting = refl; queued = λ e. absurd (no e); errors = λ e. absurd (no e); said = λ e. refl; counts = λ a f e. absurd (no e) }
+joined_to Waiting d r = record { under = refl; moving = refl; waiting = refl; queued = λ e. absurd (false≢true e); errors = λ e. absurd (false≢true e); said = λ e. refl; counts = λ a f e. absurd (false≢true e) }
 joined_to other d r = record { under = refl; moving = refl; waiting = refl; queued = λ e. e; errors = λ e. e; said = λ e. e; counts = λ a f. f }
 
 joined_agrees : (u : UnitSeen) (a : AdapterSeen) (n : ℕ) (r : Request) → Agrees u a n → Agrees (unit_joined u r) (adapter_joined a n (unit_joined u r).stage) n
@@ -311,13 +312,13 @@ module _ (s : Replay) (r : Request) (c : IsConsistent s) where
     units = join_units;
     adapters = join_adapters;
     event = record {
-      speaker = λ x. one_of (λ y u. goes_on u.stage ≡ true → y ≡ r.unit) s.units r.unit JoinedUnit x (λ on. refl) (λ apart on. absurd (nor (sym on ∙ nobody s c over x)));
+      speaker = λ x. one_of (λ y u. goes_on u.stage ≡ true → y ≡ r.unit) s.units r.unit JoinedUnit x (λ on. refl) (λ apart on. absurd (true≢false (sym on ∙ nobody s c over x)));
       served = λ on. same (adapter_of r.unit);
       started = λ k. one_of (λ x a. a.state.busy ≡ false → a.ready ≡ [] ⊎ ((adapter_of r.unit == x) ≡ true)) s.adapters (adapter_of r.unit) JoinedAdapter k
           (λ free. inr (same (adapter_of r.unit))) (λ apart free. inl (all_started s c over k free));
       act = tt;
-      due = record { completed = λ e. absurd (no e); up = tt };
-      first = λ first. absurd (no first);
+      due = record { completed = λ e. absurd (false≢true e); up = tt };
+      first = λ first. absurd (false≢true first);
       at_work = tt;
     };
   }
@@ -334,8 +335,8 @@ begins s t c over p line drains act speaker is due = record {
   units = p.units;
   adapters = λ k. subst (λ z. IsInOrder z k) (sym (p.adapters k)) (c.adapters k);
   event = record {
-    speaker = λ x on. absurd (nor (sym on ∙ ap goes_on (p.stages x) ∙ nobody s c over x));
-    served = λ on. absurd (nor (sym on ∙ ap goes_on (p.stages speaker) ∙ nobody s c over speaker));
+    speaker = λ x on. absurd (true≢false (sym on ∙ ap goes_on (p.stages x) ∙ nobody s c over x));
+    served = λ on. absurd (true≢false (sym on ∙ ap goes_on (p.stages speaker) ∙ nobody s c over speaker));
     started = λ k free. inl (ap (λ (z : AdapterSeen). z.ready) (p.adapters k) ∙ all_started s c over k (sym (ap (λ (z : AdapterSeen). z.state.busy) (p.adapters k)) ∙ free));
     act = is;
     due = due;
@@ -415,9 +416,9 @@ stays_consistent s (Idle line) may c = done_keeps s IdleLine may.nothing refl re
 
 pub starts_consistent : StartsConsistent
 starts_consistent drives tables surface = record {
-  units = λ unit. record { positions = refl; never_both = refl; transfers = refl; busy = refl; attention = bit_at-zero (drive_of unit); queued = refl; held = refl; errors = λ e. absurd (no e); said = refl; counts = λ e. absurd (no e) };
-  adapters = λ k. record { drive = omega arith; completion = λ e. refl; own = λ m l. absurd (no l); once = tt };
-  event = record { speaker = λ unit on. absurd (no on); served = λ on. absurd (no on); started = λ k free. inl refl; act = tt; due = tt; first = λ first. absurd (no first); at_work = tt };
+  units = λ unit. record { positions = refl; never_both = refl; transfers = refl; busy = refl; attention = bit_at-zero (drive_of unit); queued = refl; held = refl; errors = λ e. absurd (false≢true e); said = refl; counts = λ e. absurd (false≢true e) };
+  adapters = λ k. record { drive = omega arith; completion = λ e. refl; own = λ m l. absurd (false≢true l); once = tt };
+  event = record { speaker = λ unit on. absurd (false≢true on); served = λ on. absurd (false≢true on); started = λ k free. inl refl; act = tt; due = tt; first = λ first. absurd (false≢true first); at_work = tt };
 }
 
 pub moments_consistent : (s : Replay) (ms : List Moment) → Follows s ms → IsConsistent s → IsConsistent (after_moments s ms)

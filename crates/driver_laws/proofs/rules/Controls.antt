@@ -1,6 +1,6 @@
 -- Who speaks in an event, and what is still to come of it, behind a line.
 use Rattle.hardware_table.specs.Adapter.{attention_lowered}
-use Rattle.std.proofs.lemmas.Bool.{or_parts}
+use Rattle.std.proofs.lemmas.Bool.{or_parts, false≢true, true≢false}
 use Rattle.std.proofs.Common.{◌≡◌, ℕ, ◌<◌, ◌==◌, ◌||◌, Bool, true, false, List, [], ◌∷◌, refl, sym, ap, ◌∙◌, subst, arith, bit_and, ◌-◌, ◌^◌, ◌≢◌}
 use Rattle.std.specs.Prelude.{if◌then◌else◌, drop}
 use Rattle.trace_replay.specs.Moments.{Deed, Search, Seek, Recal, Offset, Centre, Clear, Pack, Transfer, Arrive, Sector, Intr, Try, Attn, End}
@@ -9,7 +9,6 @@ use Rattle.trace_replay.specs.Conversation.{goes_on}
 use Rattle.trace_replay.specs.Events.{Act, Done, Refusing, Arriving, Trying, Serving, NothingToDo, Wish, NoLine, DueLine, Arrival, SectorLine, Interrupt, Attention, Refusal, IdleLine, wish_of, wish_in, wish_at_start, first_ready, is_no_line, act_after, wish_in_serving}
 use Rattle.trace_replay.specs.Replay.{Replay, next_wish}
 use Rattle.driver_laws.specs.rules.Consistent.{is_listed, IsInOrder, serves, IsAct, IsConsistent, AreUp, CanServe, has_interrupt, AreDrives}
-use Rattle.driver_laws.proofs.rules.Stages.{no, nor}
 use Rattle.driver_laws.proofs.rules.Queues.{same, lowered_other}
 
 -- ---- whose line a wish is
@@ -41,10 +40,10 @@ is_served IdleLine = false
 -- where the unit that spoke last goes on, its line is next
 due_or : (b : Bool) (u : ℕ) (w : Wish) → b ≡ true → (if b then DueLine u else w) ≡ DueLine u
 due_or true u w e = refl
-due_or false u w e = absurd (no e)
+due_or false u w e = absurd (false≢true e)
 
 in_event : (b : Bool) (u : ℕ) (w : Wish) → b ≡ false → (if b then DueLine u else w) ≡ w
-in_event true u w e = absurd (nor e)
+in_event true u w e = absurd (true≢false e)
 in_event false u w e = refl
 
 pub speaks_next : (s : Replay) (w : Wish) → next_wish s ≡ w → goes_on (s.units s.event.speaker).stage ≡ true → w ≡ DueLine s.event.speaker
@@ -61,45 +60,45 @@ at_start : (a : AdapterSeen) (k : ℕ) → IsInOrder a k → is_served (wish_at_
 at_start a k o is = by a.state.busy is
   where
     first : (xs : List ℕ) → ((m : ℕ) → is_listed m xs ≡ true → adapter_of m ≡ k) → is_served (first_ready xs) ≡ true → adapter_of (unit_in (first_ready xs)) ≡ k
-    first [] own is = absurd (no is)
+    first [] own is = absurd (false≢true is)
     first (x ∷ xs) own is = own x (ap (λ z. z || is_listed x xs) (same x))
 
     by : (b : Bool) → is_served (if b then NoLine else first_ready a.ready) ≡ true → adapter_of (unit_in (if b then NoLine else first_ready a.ready)) ≡ k
-    by true is = absurd (no is)
+    by true is = absurd (false≢true is)
     by false is = first a.ready o.own is
 
 pub serves_its : (adapters : ℕ → AdapterSeen) (act : Act) → ((k : ℕ) → IsInOrder (adapters k) k) → IsAct act → is_served (wish_in adapters act) ≡ true
     → serves act (adapter_of (unit_in (wish_in adapters act))) ≡ true
-serves_its adapters Done o are is = absurd (no is)
-serves_its adapters (Refusing u i why) o are is = absurd (no is)
-serves_its adapters (Arriving u) o are is = absurd (no is)
-serves_its adapters (Trying a) o are is = absurd (no is)
+serves_its adapters Done o are is = absurd (false≢true is)
+serves_its adapters (Refusing u i why) o are is = absurd (false≢true is)
+serves_its adapters (Arriving u) o are is = absurd (false≢true is)
+serves_its adapters (Trying a) o are is = absurd (false≢true is)
 serves_its adapters (Serving a true drives) o are is = subst (λ z. (a == z) ≡ true) (sym (adapter_of_its a (adapters a).state.drive (o a).drive)) (same a)
 serves_its adapters (Serving a false (drive ∷ drives)) o are is = subst (λ z. (a == z) ≡ true) (sym (adapter_of_its a drive are.0)) (same a)
 serves_its adapters (Serving a false []) o are is = subst (λ z. (a == z) ≡ true) (sym (at_start (adapters a) a (o a) is)) (same a)
-serves_its adapters NothingToDo o are is = absurd (no is)
+serves_its adapters NothingToDo o are is = absurd (false≢true is)
 
 -- an event that serves brings no other line
 foreign_at : (a : AdapterSeen) → is_served (wish_at_start a) ≡ false → is_no_line (wish_at_start a) ≡ false → ⊥
 foreign_at a not_served line = by a.state.busy not_served line
   where
     first : (xs : List ℕ) → is_served (first_ready xs) ≡ false → is_no_line (first_ready xs) ≡ false → ⊥
-    first [] n l = nor l
-    first (x ∷ xs) n l = nor n
+    first [] n l = true≢false l
+    first (x ∷ xs) n l = true≢false n
 
     by : (b : Bool) → is_served (if b then NoLine else first_ready a.ready) ≡ false → is_no_line (if b then NoLine else first_ready a.ready) ≡ false → ⊥
-    by true n l = nor l
+    by true n l = true≢false l
     by false n l = first a.ready n l
 
 pub not_serving : (adapters : ℕ → AdapterSeen) (act : Act) (k : ℕ) → is_served (wish_in adapters act) ≡ false → is_no_line (wish_in adapters act) ≡ false → serves act k ≡ true → ⊥
-not_serving adapters Done k n l is = no is
-not_serving adapters (Refusing u i why) k n l is = no is
-not_serving adapters (Arriving u) k n l is = no is
-not_serving adapters (Trying a) k n l is = no is
-not_serving adapters (Serving a true drives) k n l is = nor n
-not_serving adapters (Serving a false (drive ∷ drives)) k n l is = nor n
+not_serving adapters Done k n l is = false≢true is
+not_serving adapters (Refusing u i why) k n l is = false≢true is
+not_serving adapters (Arriving u) k n l is = false≢true is
+not_serving adapters (Trying a) k n l is = false≢true is
+not_serving adapters (Serving a true drives) k n l is = true≢false n
+not_serving adapters (Serving a false (drive ∷ drives)) k n l is = true≢false n
 not_serving adapters (Serving a false []) k n l is = foreign_at (adapters a) n l
-not_serving adapters NothingToDo k n l is = no is
+not_serving adapters NothingToDo k n l is = false≢true is
 
 -- ---- a line that an event brings which serves its adapter
 pub serving_line : (s : Replay) (unit : ℕ) (deed : Deed) → IsConsistent s → next_wish s ≡ wish_of unit deed → is_served (wish_of unit deed) ≡ true
@@ -121,13 +120,13 @@ pub foreign_line : (s : Replay) (w : Wish) (k : ℕ) → next_wish s ≡ w → i
 foreign_line s w k wished not_served line is = by (goes_on (s.units s.event.speaker).stage) refl
   where
     by : (b : Bool) → goes_on (s.units s.event.speaker).stage ≡ b → ⊥
-    by true on = nor (sym (ap is_served (speaks_next s w wished on)) ∙ not_served)
+    by true on = true≢false (sym (ap is_served (speaks_next s w wished on)) ∙ not_served)
     by false off =
         not_serving s.adapters s.event.act k (ap is_served (event_next s w wished off) ∙ not_served) (ap is_no_line (event_next s w wished off) ∙ line) is
 
 -- the unit that spoke last does not go on where another sort of line comes
 pub nobody_goes_on : (s : Replay) (w : Wish) → next_wish s ≡ w → is_served w ≡ false → goes_on (s.units s.event.speaker).stage ≡ true → ⊥
-nobody_goes_on s w wished not_served on = nor (sym (ap is_served (speaks_next s w wished on)) ∙ not_served)
+nobody_goes_on s w wished not_served on = true≢false (sym (ap is_served (speaks_next s w wished on)) ∙ not_served)
 
 -- ---- what a line leaves of an event that serves
 pub still_serves : (act : Act) (k : ℕ) (deed : Deed) (unit : ℕ) → is_served (wish_of unit deed) ≡ true → serves act k ≡ true → serves (act_after deed act) k ≡ true
@@ -139,8 +138,8 @@ still_serves act k Centre unit s is = is
 still_serves act k Clear unit s is = is
 still_serves act k Pack unit s is = is
 still_serves act k (Transfer w b n) unit s is = is
-still_serves act k Arrive unit s is = absurd (no s)
-still_serves act k (Sector b v) unit s is = absurd (no s)
+still_serves act k Arrive unit s is = absurd (false≢true s)
+still_serves act k (Sector b v) unit s is = absurd (false≢true s)
 still_serves act k Intr unit s is = interrupted act is
   where
     interrupted : (act : Act) → serves act k ≡ true → serves (act_after Intr act) k ≡ true
@@ -206,11 +205,11 @@ is_attention wish = false
 
 interrupt_next : (adapters : ℕ → AdapterSeen) (act : Act) → has_interrupt act ≡ true → is_interrupt (wish_in adapters act) ≡ true
 interrupt_next adapters (Serving a true ds) is = refl
-interrupt_next adapters other is = absurd (no is)
+interrupt_next adapters other is = absurd (false≢true is)
 
 pub no_interrupt : (s : Replay) (unit : ℕ) (deed : Deed) → IsConsistent s → next_wish s ≡ wish_of unit deed → is_interrupt (wish_of unit deed) ≡ false → has_interrupt s.event.act ≡ true → ⊥
 no_interrupt s unit deed c wished other is =
-    nor (sym (interrupt_next s.adapters s.event.act is) ∙ ap is_interrupt (event_next s (wish_of unit deed) wished (c.event.first is)) ∙ other)
+    true≢false (sym (interrupt_next s.adapters s.event.act is) ∙ ap is_interrupt (event_next s (wish_of unit deed) wished (c.event.first is)) ∙ other)
 
 pub interrupt_gone : (act : Act) → has_interrupt (act_after Intr act) ≡ false
 interrupt_gone Done = refl
@@ -225,11 +224,11 @@ no_attention_at : (a : AdapterSeen) → is_attention (wish_at_start a) ≡ true 
 no_attention_at a is = by a.state.busy is
   where
     first : (xs : List ℕ) → is_attention (first_ready xs) ≡ true → ⊥
-    first [] e = no e
-    first (x ∷ xs) e = no e
+    first [] e = false≢true e
+    first (x ∷ xs) e = false≢true e
 
     by : (b : Bool) → is_attention (if b then NoLine else first_ready a.ready) ≡ true → ⊥
-    by true e = no e
+    by true e = false≢true e
     by false e = first a.ready e
 
 -- the attentions that are still up after the first one was taken
@@ -239,14 +238,14 @@ up_lowered bits d (e ∷ es) low absent are up =
     (lowered_other bits d e low are.0 apart ∙ up.0, up.1, up_lowered bits d es low (or_parts (e == d) (is_listed d es) absent).1 are.1 up.2)
   where
     apart : e ≢ d
-    apart is = nor (sym (same d) ∙ ap (λ z. z == d) (sym is) ∙ (or_parts (e == d) (is_listed d es) absent).0)
+    apart is = true≢false (sym (same d) ∙ ap (λ z. z == d) (sym is) ∙ (or_parts (e == d) (is_listed d es) absent).0)
 
 pub attention_served : (adapters : ℕ → AdapterSeen) (k unit : ℕ) (interrupt : Bool) (ds : List ℕ) → wish_in_serving k (adapters k) interrupt ds ≡ Attention unit → AreDrives ds
     → CanServe (adapters k).state interrupt ds → CanServe (attention_lowered (drive_of unit) (adapters k).state) interrupt (drop 1 ds)
-attention_served adapters k unit true ds is are f = absurd (no (ap is_attention is))
+attention_served adapters k unit true ds is are f = absurd (false≢true (ap is_attention is))
 attention_served adapters k unit false [] is are f = absurd (no_attention_at (adapters k) (ap is_attention is))
 attention_served adapters k unit false (d ∷ ds) is are f = record {
-  completed = λ e. absurd (no e);
+  completed = λ e. absurd (false≢true e);
   up = subst (λ z. AreUp (bit_and (adapters k).state.attentions (255 - 2 ^ z)) ds) (sym its) (up_lowered (adapters k).state.attentions d ds are.0 f.up.1 are.1 f.up.2);
 }
   where
@@ -260,5 +259,5 @@ pub attention_next : (s : Replay) (unit : ℕ) → next_wish s ≡ Attention uni
 attention_next s unit wished = by (goes_on (s.units s.event.speaker).stage) refl
   where
     by : (b : Bool) → goes_on (s.units s.event.speaker).stage ≡ b → wish_in s.adapters s.event.act ≡ Attention unit
-    by true on = absurd (nor (ap is_attention (speaks_next s (Attention unit) wished on)))
+    by true on = absurd (true≢false (ap is_attention (speaks_next s (Attention unit) wished on)))
     by false off = event_next s (Attention unit) wished off

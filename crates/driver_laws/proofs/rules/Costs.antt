@@ -4,6 +4,7 @@ use Rattle.std.specs.Prelude.{if◌then◌else◌}
 use Rattle.std.specs.Option.{option_map_or}
 use Rattle.std.proofs.lemmas.Option.{same_Some, none-some}
 use Rattle.std.proofs.lemmas.Bool.Decides.{nat_tests}
+use Rattle.std.proofs.lemmas.Bool.{eqb-false}
 use Rattle.pack_geometry.specs.Geometry.{place_at}
 use Rattle.drive_registers.specs.Codes.{offset_field}
 use Rattle.drive_registers.specs.declared.OffsetCode.{OffsetCode}
@@ -14,9 +15,9 @@ use Rattle.retry_offsets.specs.Schedule.{offset_after, recalibrates_after}
 use Rattle.retry_offsets.specs.declared.Step.TheVariants as retry
 use Rattle.trace_replay.specs.requests.Requests.{Request, Failed, Offline}
 use Rattle.trace_replay.specs.Moments.{Deed, Search, Seek, Recal, Offset, Centre, Clear, Pack, Transfer, Sector, Intr, Try, Attn, End}
-use Rattle.trace_replay.specs.Conversation.{Positioning, SearchFor, Recalibrate, SeekTo, OffsetBy, Segment, OwnBlocks, Replacement, Hand, is_write, start_of, length_of, transfer_of, command_of, needs_unlocked, guarded, due, entry_of}
+use Rattle.trace_replay.specs.Conversation.{Positioning, SearchFor, SeekTo, Segment, OwnBlocks, Replacement, Hand, is_write, start_of, length_of, transfer_of, command_of, needs_unlocked, guarded, due, entry_of}
 use Rattle.trace_replay.specs.Conversation.{Stage, Waiting, Steps, UnderWay, AtOnce, Moving, Saying, Ending, Progress, saying, retried, failed, forwarded, marked, continued, ok_answer, interrupted_by, stage_after, is_under_way, is_clean, last_of, sector_may, intr_may, progress_tried, progress_interrupted, offset_steps}
-use Rattle.trace_replay.proofs.Histories.{Fits, AreSaid, Open, MoveFits, guard_holds, interrupted}
+use Rattle.trace_replay.proofs.Histories.{Fits, AreSaid, Open, MoveFits, guard_holds, interrupted, length_some}
 use Rattle.trace_replay.proofs.Kept.{no}
 use Rattle.driver_laws.specs.rules.Measure.{tries_left, steps_left, events_from, events_while_clean, events_of_step, events_at}
 use Rattle.driver_laws.specs.rules.Drains.{event_by}
@@ -69,9 +70,6 @@ AfterCosts b b' d h next stage (End answer) = Unit {0}
 AfterCosts b b' d h next stage deed = Costs b b' h.request.count h.progress stage deed h.progress (stage_after stage deed d h next)
 
 -- ---- a transfer
-some_left : (h : Hand) (segment : Segment) (lines : List Deed) → Open h segment 1 lines → 1 ≤ length_of segment h
-some_left h OwnBlocks lines o = omega (arith, o.room)
-some_left h (Replacement block) lines o = omega arith
 
 clean_events : (segment : Segment) (n count : ℕ) (p : Progress) → 1 ≤ n → events_while_clean segment n count p ≡ events_from segment count p
 clean_events segment zero count p some = absurd (omega (arith, some))
@@ -84,8 +82,8 @@ clean_cost segment (suc n) count p some = refl
 transfer_costs : (b b' : Bool) (h : Hand) (segment : Segment) (lines : List Deed) → Open h segment 1 lines
     → Costs b b' h.request.count h.progress (AtOnce segment) (transfer_of segment h) h.progress (Moving segment (length_of segment h) verdict.Clean)
 transfer_costs b b' h segment lines o = record {
-  events = omega (arith, clean_events segment (length_of segment h) h.request.count h.progress (some_left h segment lines o));
-  commands = omega (arith, clean_cost segment (length_of segment h) h.request.count h.progress (some_left h segment lines o), some_tries segment h.progress.failures o.small);
+  events = omega (arith, clean_events segment (length_of segment h) h.request.count h.progress (length_some h segment lines o));
+  commands = omega (arith, clean_cost segment (length_of segment h) h.request.count h.progress (length_some h segment lines o), some_tries segment h.progress.failures o.small);
 }
 
 waited_costs : (b b' : Bool) (h : Hand) (segment : Segment) (lines : List Deed) → Open h segment 1 lines
@@ -234,12 +232,6 @@ said_costs b b' count before moving p lines next n e c few left kept l = record 
 zero_or : (n : ℕ) → (n == 0) || false ≡ true → n ≡ 0
 zero_or n h = grind (arith, nat_tests)
 
-equal : (a c : ℕ) → a == c ≡ true → a ≡ c
-equal a c h = grind (arith, nat_tests)
-
-unequal : (a c : ℕ) → a == c ≡ false → a ≡ c → ⊥
-unequal a c h e = grind (arith, nat_tests)
-
 -- where a segment is done, the blocks behind it are left
 continued_leaves : (h : Hand) → h.progress.done ≤ h.request.count → h.progress.failures ≡ 0
     → Leaves h.request.count h.progress (continued h) (184 * (h.request.count - h.progress.done)) (296 * (h.request.count - h.progress.done))
@@ -258,8 +250,8 @@ continued_leaves h room fresh = at (h.progress.done == h.request.count) refl
         → Leaves h.request.count h.progress (if b then Ending (ok_answer h) else AtOnce OwnBlocks) (184 * (h.request.count - h.progress.done)) (296 * (h.request.count - h.progress.done))
     at true is = record { events = omega arith; commands = omega arith }
     at false is = record {
-      events = omega (arith, own_tries, own_steps, below h.progress.done h.request.count room (unequal h.progress.done h.request.count is));
-      commands = omega (arith, own_tries, own_steps, below h.progress.done h.request.count room (unequal h.progress.done h.request.count is));
+      events = omega (arith, own_tries, own_steps, below h.progress.done h.request.count room (eqb-false h.progress.done h.request.count is));
+      commands = omega (arith, own_tries, own_steps, below h.progress.done h.request.count room (eqb-false h.progress.done h.request.count is));
     }
 
 -- the lines that come behind an interrupt
@@ -337,7 +329,7 @@ failed_leaves h segment small = at (h.progress.failures + 1 == 28) refl
         (place_at h.kind (start_of segment (once_more h))).cylinder segment h.progress.done)
       where
         few : h.progress.failures + 1 < 28
-        few = below h.progress.failures small (unequal (h.progress.failures + 1) 28 is)
+        few = below h.progress.failures small (eqb-false (h.progress.failures + 1) 28 is)
 
         at_last : Leaves h.request.count (once_more h).progress (retried (if recalibrates_after (h.progress.failures + 1) then retry.Recalibrate (offset_after (h.progress.failures + 1) (not (is_write h)))
             else option_map_or retry.Offset (offset_after (h.progress.failures + 1) (not (is_write h))) retry.Again)

@@ -10,11 +10,11 @@ use Rattle.hardware_table.specs.Drive.{DriveState, is_positioning}
 use Rattle.hardware_table.specs.Adapter.{AdapterState}
 use Rattle.hardware_table.specs.Events.{arrived_from}
 use Rattle.trace_replay.specs.requests.Requests.{Request, Rejection, rejection_answer}
-use Rattle.trace_replay.specs.Script.{Input, Submit, ArriveAt, MoveAt, AttendTo, Drain, Turn, Noise, Arm, SetOnline, SetLocked}
+use Rattle.trace_replay.specs.Script.{Input, Submit, ArriveAt, MoveAt, AttendTo, Drain}
 use Rattle.trace_replay.specs.Moments.{Deed, Arrive, End, Moment, Played, Told, Idle, played}
 use Rattle.trace_replay.specs.Drives.{DriveMay, drive_after}
 use Rattle.trace_replay.specs.Service.{in_hand, target_of}
-use Rattle.trace_replay.specs.Events.{Wish, NoLine, DueLine, Arrival, SectorLine, Interrupt, Attention, Refusal, IdleLine}
+use Rattle.trace_replay.specs.Events.{Wish, Refusal}
 use Rattle.trace_replay.specs.Replay.{Replay, UnitSeen, with_state, next_wish, at_unit, LineMay, ToldMay, Follows, after_moment, after_moments, unit_after, bytes_of, told_after, replay_told, Submission, Refused, Joined, submission, submitted, unit_joined, replay_played}
 use Rattle.trace_replay.specs.History.{with_deed, lines_after, lines_behind}
 use Rattle.trace_replay.specs.Causes.{AskSome, AsksSome}

@@ -1,7 +1,7 @@
 -- What a line does to a drive, as far as what is under way, the attention and the errors go.
 use Rattle.std.proofs.Common.{◌≡◌, ℕ, ◌==◌, ◌&&◌, ◌||◌, Bool, true, false, not, refl, sym, ap, ◌∙◌, subst}
 use Rattle.std.specs.Prelude.{if◌then◌else◌}
-use Rattle.std.proofs.lemmas.Bool.{cond-true}
+use Rattle.std.proofs.lemmas.Bool.{cond-true, false≢true}
 use Rattle.drive_registers.specs.declared.Function.{Function}
 use Rattle.drive_registers.specs.declared.Function.TheVariants as function
 use Rattle.drive_registers.specs.Codes.{function_code}
@@ -10,7 +10,7 @@ use Rattle.hardware_table.specs.declared.Work.TheVariants as work
 use Rattle.hardware_table.specs.Drive.{DriveState, is_ready, is_positioning, is_transferring, has_error}
 use Rattle.hardware_table.specs.Functions.{performed, refusals, effect, refused, needs_online}
 use Rattle.pack_geometry.specs.declared.DriveKind.{DriveKind}
-use Rattle.pack_geometry.specs.declared.DriveKind.TheVariants.{Rp06, Rm03, Rm05}
+use Rattle.pack_geometry.specs.declared.DriveKind.TheVariants.{Rp06}
 use Rattle.hardware_table.specs.declared.FaultKind.{FaultKind}
 use Rattle.hardware_table.specs.declared.FaultKind.TheVariants as fault
 use Rattle.hardware_table.specs.declared.Moved.{Moved}
@@ -18,10 +18,10 @@ use Rattle.hardware_table.specs.declared.Moved.TheVariants as verdict
 use Rattle.hardware_table.specs.Adapter.{AdapterState, drive_stepped, stepped, next_block}
 use Rattle.hardware_table.specs.Events.{arrived_from, transfer_ended, turned, fault_armed, online_set, locked_set}
 use Rattle.hardware_table.specs.Moves.{after_move, with_fault_bits, fault_used, with_mark_bits}
-use Rattle.trace_replay.specs.Script.{Input, Submit, ArriveAt, MoveAt, AttendTo, Drain, Turn, Noise, Arm, SetOnline, SetLocked}
+use Rattle.trace_replay.specs.Script.{Input, Turn, Arm, SetOnline, SetLocked}
 use Rattle.trace_replay.specs.Conversation.{is_clean}
 use Rattle.trace_replay.specs.Drives.{takes, transfer_function, drive_played}
-use Rattle.driver_laws.proofs.rules.Stages.{no, second_of}
+use Rattle.driver_laws.proofs.rules.Stages.{second_of}
 
 pub record DriveIs (d : DriveState) (positioning transferring attention : Bool) : Type 0 where
   pub positions : is_positioning d.work ≡ positioning
@@ -64,7 +64,7 @@ transfer_is false d is f = subst (λ z. DriveIs z false true false × (has_error
 -- ---- the end of a positioning
 pub arrived_is : (w : Work) (d : DriveState) → is_positioning w ≡ true → DriveIs (arrived_from w d) false false true × (has_error (arrived_from w d) ≡ has_error d)
 arrived_is (work.Positioning c y) d is = (record { positions = refl; transfers = refl; calls = refl }, refl)
-arrived_is other d is = absurd (no is)
+arrived_is other d is = absurd (false≢true is)
 
 -- ---- a sector
 fault_keeps : (k : FaultKind) (d : DriveState) → ((with_fault_bits k (fault_used k d)).work ≡ d.work) × ((with_fault_bits k (fault_used k d)).attention ≡ d.attention)
@@ -99,7 +99,7 @@ error_of_either false x = refl
 
 pub clean_sector : (v : Moved) (a : AdapterState) (d : DriveState) → is_clean v ≡ true → has_error (drive_stepped v a d) ≡ has_error d
 clean_sector verdict.Clean a d is = error_of_either (stepped verdict.Clean a).completion (after_move verdict.Clean (next_block a) d)
-clean_sector other a d is = absurd (no is)
+clean_sector other a d is = absurd (false≢true is)
 
 -- ---- an adapter over a sector
 pub stepped_keeps : (v : Moved) (a : AdapterState) → ((stepped v a).busy ≡ a.busy) × ((stepped v a).drive ≡ a.drive) × ((stepped v a).attentions ≡ a.attentions)

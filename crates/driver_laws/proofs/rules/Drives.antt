@@ -1,6 +1,7 @@
 -- What a line leaves of a good drive.
-use Rattle.std.proofs.Common.{◌≡◌, ℕ, ◌==◌, Bool, true, false, refl, arith}
+use Rattle.std.proofs.Common.{◌≡◌, ℕ, ◌==◌, Bool, true, false, refl}
 use Rattle.std.specs.Prelude.{if◌then◌else◌}
+use Rattle.std.proofs.lemmas.Bool.{false≢true}
 use Rattle.pack_geometry.specs.declared.DriveKind.{DriveKind}
 use Rattle.pack_geometry.specs.declared.DriveKind.TheVariants.{Rp06, Rm03, Rm05}
 use Rattle.pack_geometry.specs.declared.Place.{Place}
@@ -18,12 +19,9 @@ use Rattle.hardware_table.specs.Adapter.{AdapterState, drive_stepped, stepped, n
 use Rattle.hardware_table.specs.Events.{arrived_from, transfer_ended}
 use Rattle.hardware_table.specs.Functions.{performed, refusals, effect, refused}
 use Rattle.hardware_table.specs.Moves.{after_move}
-use Rattle.trace_replay.specs.Moments.{Deed, Search, Seek, Recal, Offset, Centre, Clear, Pack, Transfer, Arrive, Sector, Intr, Try, Attn, End}
+use Rattle.trace_replay.specs.Moments.{Deed, Search, Seek, Recal, Offset, Centre, Clear, Pack, Transfer, Arrive, Sector}
 use Rattle.trace_replay.specs.Drives.{drive_after, addressed, search_place, offset_written}
 use Rattle.driver_laws.specs.rules.Calm.{IsGood, is_calm_verdict}
-
-pub no : false ≡ true → ⊥
-no e = grind (arith, e)
 
 pub either_good : (b : Bool) (x y : DriveState) → IsGood x → IsGood y → IsGood (if b then x else y)
 either_good true x y one other = one
@@ -44,13 +42,13 @@ arrived_good other d g = g
 
 moved_good : (kind : DriveKind) (v : Moved) (block : ℕ) (d : DriveState) → d.kind ≡ kind → is_calm_verdict v ≡ true → IsGood d → IsGood (after_move v block d)
 moved_good kind verdict.Clean block d is calm g = g
-moved_good kind (verdict.Burst at q) block d is calm g = absurd (no calm)
-moved_good kind verdict.Hard block d is calm g = absurd (no calm)
-moved_good kind (verdict.Faulted k) block d is calm g = absurd (no calm)
+moved_good kind (verdict.Burst at q) block d is calm g = absurd (false≢true calm)
+moved_good kind verdict.Hard block d is calm g = absurd (false≢true calm)
+moved_good kind (verdict.Faulted k) block d is calm g = absurd (false≢true calm)
 moved_good Rp06 verdict.Marked block d is calm g = rw is g
 moved_good Rm03 verdict.Marked block d is calm g = rw is g
 moved_good Rm05 verdict.Marked block d is calm g = rw is g
-moved_good kind verdict.Offline block d is calm g = absurd (no calm)
+moved_good kind verdict.Offline block d is calm g = absurd (false≢true calm)
 
 stepped_good : (v : Moved) (a : AdapterState) (d : DriveState) → is_calm_verdict v ≡ true → IsGood d → IsGood (drive_stepped v a d)
 stepped_good v a d calm g =

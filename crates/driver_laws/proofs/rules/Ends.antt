@@ -5,9 +5,9 @@ use Rattle.hardware_table.specs.Drive.{DriveState}
 use Rattle.hardware_table.specs.declared.Work.{Work}
 use Rattle.pack_geometry.specs.Pack as model
 use Rattle.pack_geometry.specs.Homes.{home_of}
-use Rattle.trace_replay.specs.requests.Requests.{IsRequest, Request, first_block, Answer, ReadOk, WriteOk, Failed, Cause, Offline, Locked, Unforwarded, Fault, OutsidePartition, EndOfPartition, NoFrames}
+use Rattle.trace_replay.specs.requests.Requests.{IsRequest, Request, first_block, Answer, ReadOk, WriteOk, Failed, Cause, Unforwarded}
 use Rattle.trace_replay.specs.Moments.{Deed, Centre, Clear, Try, End}
-use Rattle.trace_replay.specs.Conversation.{Hand, Stage, Waiting, Steps, UnderWay, AtOnce, Moving, Saying, Ending, Segment, Positioning, SearchFor, Recalibrate, SeekTo, OffsetBy, Progress, not_begun, due, guarded, transfer_of, command_of, needs_unlocked, is_write, begun}
+use Rattle.trace_replay.specs.Conversation.{Hand, Stage, Waiting, Steps, UnderWay, AtOnce, Moving, Saying, Ending, Segment, Positioning, SearchFor, Progress, not_begun, due, guarded, transfer_of, command_of, needs_unlocked, is_write, begun}
 use Rattle.trace_replay.proofs.Histories.{Fits, Open, AreSaid, guard_holds, EndFits, EndsFailed, WasMarked}
 use Rattle.trace_replay.proofs.Unusable.{no_home}
 use Rattle.driver_laws.specs.rules.Machine.{Blocks, AreUsable, bytes_of_first, blocks_done, done_in, IsCause, MayAnswer}

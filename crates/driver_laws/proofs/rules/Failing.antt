@@ -1,8 +1,8 @@
 -- What is armed at a unit, what is live there and what failed is never more than the lines of the script brought.
-use Rattle.std.proofs.Common.{◌≡◌, ◌⊎◌, inl, inr, ℕ, ◌+◌, ◌<◌, ◌≤◌, ◌==◌, Bool, true, false, not, List, [], ◌∷◌, ◌++◌, Option, None, Some, option_map, refl, sym, ap, ◌∙◌, subst, arith}
+use Rattle.std.proofs.Common.{◌≡◌, ◌⊎◌, inl, inr, ℕ, ◌+◌, ◌<◌, ◌≤◌, ◌==◌, Bool, true, false, not, List, [], ◌∷◌, ◌++◌, Option, None, Some, refl, sym, ap, ◌∙◌, subst, arith}
 use Rattle.std.specs.Prelude.{if◌then◌else◌, unwrap_or}
 use Rattle.std.proofs.lemmas.Bool.Decides.{eqb_tells}
-use Rattle.std.proofs.lemmas.Option.{same_Some, none-some}
+use Rattle.std.proofs.lemmas.Bool.{eqb-false}
 use Rattle.pack_geometry.specs.declared.DriveKind.TheVariants.{Rp06}
 use Rattle.fire_code.specs.Noise.{Classes}
 use Rattle.fire_code.specs.declared.NoiseClass.TheVariants.{Shown}
@@ -29,7 +29,7 @@ use Rattle.trace_replay.specs.Replay.{Replay, at_unit, this_or, LineMay, ToldMay
 use Rattle.trace_replay.specs.Runs.{start_of}
 use Rattle.trace_replay.proofs.Unchanged.{drained_keeps}
 use Rattle.trace_replay.proofs.Following.{follow_on}
-use Rattle.driver_laws.proofs.rules.Armed.{performed_armed, hard_verdict, tags_apart}
+use Rattle.driver_laws.proofs.rules.Armed.{performed_armed, hard_verdict, hard_stop}
 use Rattle.driver_laws.specs.rules.Strikes.{strikes_by, strikes_in, failures_in, FailuresAreFew}
 use Rattle.driver_laws.proofs.rules.Totals.{total, total_more, line_less, fault_strikes}
 use Rattle.driver_laws.proofs.rules.Lives.{left_in, armed_more, struck_less, strikes_one}
@@ -39,18 +39,12 @@ tag : Moved → ℕ
 tag verdict.Hard = 1
 tag v = 0
 
-stops_never_hard : (b : Bool) (f : Option FaultKind) → (if b then option_map verdict.Faulted f else Some verdict.Offline) ≡ Some verdict.Hard → ⊥
-unfolding tag
-stops_never_hard true None is = none-some verdict.Hard is
-stops_never_hard true (Some j) is = tags_apart 0 1 refl (ap tag (same_Some (verdict.Faulted j) verdict.Hard is))
-stops_never_hard false f is = tags_apart 0 1 refl (ap tag (same_Some verdict.Offline verdict.Hard is))
-
 -- and a write has no verdict of that sort
 write_stops : (stop : Option Moved) (marked : Bool) (places : Option (List ℕ)) → IsVerdictBy stop marked true places verdict.Hard → stop ≡ Some verdict.Hard
 unfolding tag
 write_stops (Some stop) marked places is = ap Some (sym is)
-write_stops None true places is = absurd (tags_apart 1 0 refl (ap tag is))
-write_stops None false places is = absurd (tags_apart 1 0 refl (ap tag is))
+write_stops None true places is = absurd (eqb-false 1 0 refl (ap tag is))
+write_stops None false places is = absurd (eqb-false 1 0 refl (ap tag is))
 
 module _ (shows : List ℕ → Bool) (tells : (places : List ℕ) → Classes Shown places → shows places ≡ true) (x : ℕ) where
   -- so much is armed, live or has failed
@@ -136,7 +130,7 @@ module _ (shows : List ℕ → Bool) (tells : (places : List ℕ) → Classes Sh
 
       at : (w : Bool) → is_writing (s.units x).drive.work ≡ w
           → sum_of (drive_then s (Sector b verdict.Hard)) (surface_written w (surface_read (not w) s.surface x (s.units x).drive b) x b (in_hand (s.units x).service) (s.units x).progress.done).live (Sector b verdict.Hard ∷ lines) ≤ n
-      at true writes = absurd (stops_never_hard (s.units x).drive.online (first_armed (s.units x).drive.armed) (write_stops (stop_of (s.units x).drive) (s.surface.is_marked x b) (flips_at s.surface x (s.units x).drive b)
+      at true writes = absurd (hard_stop (s.units x).drive.online (first_armed (s.units x).drive.armed) (write_stops (stop_of (s.units x).drive) (s.surface.is_marked x b) (flips_at s.surface x (s.units x).drive b)
           (subst (λ w. IsVerdictBy (stop_of (s.units x).drive) (s.surface.is_marked x b) w (flips_at s.surface x (s.units x).drive b) verdict.Hard) writes is)))
       at false reads = struck (strikes_one shows x b (s.units x).drive.offset s.surface.live found.0 found.1 (tells found.0 found.2))
 
@@ -260,9 +254,6 @@ module _ (shows : List ℕ → Bool) (tells : (places : List ℕ) → Classes Sh
   script_under s (SetLocked u on) lines n under = same_armed s (if x == u then locked_set on (s.units x).drive else (s.units x).drive) lines n (either (x == u) (locked_set on (s.units x).drive) (s.units x).drive refl) under
 
   -- ---- all moments
-  at_first : (n a b : ℕ) → n + (a + b) < 28 → n < 28
-  at_first n a b e = omega (arith, e)
-
   none_yet : (n b : ℕ) → n + b < 28 → n < 28
   none_yet n b e = omega (arith, e)
 

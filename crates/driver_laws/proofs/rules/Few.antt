@@ -1,5 +1,6 @@
 -- What is done of a request in hand is some of it.
-use Rattle.std.proofs.Common.{◌≡◌, ℕ, zero, suc, ◌<◌, ◌≤◌, ◌+◌, ◌&&◌, Bool, true, false, List, [], ◌∷◌, sym, arith}
+use Rattle.std.proofs.Common.{◌≡◌, ℕ, zero, suc, ◌<◌, ◌≤◌, ◌+◌, true, false, List, [], ◌∷◌, sym, arith}
+use Rattle.std.proofs.lemmas.Bool.{true≢false}
 use Rattle.hardware_table.specs.declared.Moved.{Moved}
 use Rattle.hardware_table.specs.declared.Moved.TheVariants as verdict
 use Rattle.trace_replay.specs.requests.Requests.{Answer, ReadOk, WriteOk, OutsidePartition, EndOfPartition, NoFrames, Failed}
@@ -7,9 +8,7 @@ use Rattle.trace_replay.specs.Moments.{Deed}
 use Rattle.trace_replay.specs.Conversation.{Hand, Segment, Stage, Waiting, Steps, UnderWay, AtOnce, Moving, Saying, Ending, is_waiting}
 use Rattle.trace_replay.proofs.Histories.{Fits, Open, Stopped, said_onto, CleanFits, MoveFits, EndFits}
 use Rattle.driver_laws.specs.rules.Consistent.{are_behind_interrupt, follows_lines, is_well_said}
-
-pub no : true ≡ false → ⊥
-no e = grind (arith, e)
+use Rattle.driver_laws.proofs.rules.Stages.{second_of}
 
 clean_few : (h : Hand) (segment : Segment) (left : ℕ) (lines : List Deed) → CleanFits h segment left lines → h.progress.done ≤ h.request.count
 clean_few h segment zero lines f = f.room
@@ -49,18 +48,14 @@ next_few : (h : Hand) (stage : Stage) (lines : List Deed) → follows_lines stag
 next_few h (Steps left segment) lines is f = open_few h segment lines f
 next_few h (AtOnce segment) lines is f = open_few h segment lines f
 next_few h (Ending answer) lines is f = end_few h answer lines f
-next_few h other lines is f = absurd (no (sym is))
-
-second : (a b : Bool) → a && b ≡ true → b ≡ true
-second true b e = e
-second false b e = absurd (no (sym e))
+next_few h other lines is f = absurd (true≢false (sym is))
 
 pub done_few : (h : Hand) (stage : Stage) (lines : List Deed) → is_well_said stage ≡ true → is_waiting stage ≡ false → Fits h stage lines → h.progress.done ≤ h.request.count
-done_few h Waiting lines said held f = absurd (no held)
+done_few h Waiting lines said held f = absurd (true≢false held)
 done_few h (Steps left segment) lines said held f = open_few h segment lines f
 done_few h (UnderWay left segment) lines said held f = open_few h segment lines f
 done_few h (AtOnce segment) lines said held f = open_few h segment lines f
 done_few h (Moving segment left last) lines said held f = move_few h segment left last lines f
-done_few h (Saying [] next) lines said held f = absurd (no (sym said))
-done_few h (Saying (line ∷ rest) next) lines said held f = next_few h next (said_onto (line ∷ rest) lines) (second (are_behind_interrupt (line ∷ rest)) (follows_lines next) said) f.1
+done_few h (Saying [] next) lines said held f = absurd (true≢false (sym said))
+done_few h (Saying (line ∷ rest) next) lines said held f = next_few h next (said_onto (line ∷ rest) lines) (second_of (are_behind_interrupt (line ∷ rest)) (follows_lines next) said) f.1
 done_few h (Ending answer) lines said held f = end_few h answer lines f

@@ -9,7 +9,7 @@ use Rattle.trace_replay.proofs.Following.{follow_on}
 use Rattle.driver_laws.specs.rules.Beginnings.{IsBegun, BeginningsKeep, FrontsKeep}
 use Rattle.driver_laws.proofs.rules.Quiet.{quiet_moments_keep}
 
-played_append : (xs ys : List Moment) → played (xs ++ ys) ≡ played xs ++ played ys
+pub played_append : (xs ys : List Moment) → played (xs ++ ys) ≡ played xs ++ played ys
 played_append [] ys = refl
 played_append (Played line input ∷ xs) ys = ap (λ (ns : List Numbered). record { line = line; input = input } ∷ ns) (played_append xs ys)
 played_append (Told line unit id deed ∷ xs) ys = played_append xs ys

@@ -1,12 +1,12 @@
 -- Homes of blocks.
-use Rattle.std.proofs.Common.{◌≡◌, ℕ, ◌<◌, ◌≤◌, ◌+◌, true, false, List, length, Option, None, Some, refl, sym, ap, ◌∙◌, arith}
+use Rattle.std.proofs.Common.{◌≡◌, ℕ, ◌<◌, ◌≤◌, ◌+◌, true, false, List, Option, None, Some, refl, sym, ap, ◌∙◌, arith}
 use Rattle.std.proofs.lemmas.Option.{none-some}
 use Rattle.pack_geometry.specs.declared.DriveKind.{DriveKind}
 use Rattle.pack_geometry.specs.declared.DriveKind.TheVariants.{Rp06}
 use Rattle.pack_geometry.specs.Geometry.{limit_of, place_at, replacement_at}
 use Rattle.pack_geometry.specs.Pack as model
 use Rattle.pack_geometry.specs.TableSpelling.{Table}
-use Rattle.pack_geometry.specs.PackTable.{IsTableAt, AreTablesOf, places_of}
+use Rattle.pack_geometry.specs.PackTable.{IsTableAt, AreTablesOf}
 use Rattle.pack_geometry.specs.Homes.{home_of, index_in}
 use Rattle.pack_geometry.proofs.HomeLaws.{homes_apart}
 use Rattle.pack_geometry.proofs.PackTableLaws.{table_room}
@@ -21,9 +21,6 @@ use Rattle.trace_replay.specs.Conversation.{Hand, Segment, OwnBlocks, Replacemen
 use Rattle.trace_replay.proofs.Histories.{Open, WasMarked}
 
 -- ---- no two blocks of a unit share a home
-room_at : (drive : Option DriveKind) (pack : model.Pack) (table : Option Table) → IsTableAt drive pack table → length (places_of table) ≤ 126
-room_at None pack table is = rw is (omega arith)
-room_at (Some kind) pack table is = table_room kind pack table is
 
 apart_at : (drive : Option DriveKind) (pack : model.Pack) (table : Option Table) (block other home : ℕ) → IsTableAt drive pack table
     → home_at drive table pack block ≡ Some home → home_at drive table pack other ≡ Some home → block ≡ other

@@ -2,6 +2,7 @@
 use Rattle.std.proofs.Common.{◌≡◌, ◌⊎◌, inl, inr, ℕ, ◌≤◌, ◌+◌, ◌==◌, nat_le, Bool, true, false, List, Option, None, Some, refl, sym, ap, ◌∙◌, subst, arith}
 use Rattle.std.specs.Prelude.{if◌then◌else◌, unwrap_or}
 use Rattle.std.proofs.lemmas.Bool.Decides.{nat_tests}
+use Rattle.std.proofs.lemmas.Bool.{false≢true}
 use Rattle.pack_geometry.specs.declared.DriveKind.{DriveKind}
 use Rattle.pack_geometry.specs.declared.DriveKind.TheVariants.{Rp06}
 use Rattle.pack_geometry.specs.Geometry.{limit_of}
@@ -14,11 +15,11 @@ use Rattle.hardware_table.specs.Drive.{DriveState}
 use Rattle.hardware_table.specs.Events.{turned, fault_armed, online_set, locked_set}
 use Rattle.trace_replay.proofs.requests.ServiceOrderRuns.{after_join-waiting}
 use Rattle.trace_replay.specs.requests.Requests.{Request, first_block}
-use Rattle.trace_replay.specs.Script.{Input, Submit, ArriveAt, MoveAt, AttendTo, Drain, Turn, Noise, Arm, SetOnline, SetLocked, IsThere}
+use Rattle.trace_replay.specs.Script.{Input, Turn, Arm, SetOnline, SetLocked, IsThere}
 use Rattle.trace_replay.specs.Moments.{Deed}
 use Rattle.trace_replay.specs.Drives.{drive_played}
 use Rattle.trace_replay.specs.Service.{first_waiting, request_or_none, in_hand, cylinder_of, service_joined}
-use Rattle.trace_replay.specs.Conversation.{Stage, Waiting, Steps, UnderWay, AtOnce, Moving, Saying, Ending, Progress, not_begun, is_waiting}
+use Rattle.trace_replay.specs.Conversation.{Stage, Moving, Saying, Ending, Progress, not_begun, is_waiting}
 use Rattle.trace_replay.specs.Replay.{UnitSeen, Submission, Refused, Joined, submission_by, stage_joined, unit_joined}
 use Rattle.trace_replay.proofs.Kept.{UnitFits, head_stays}
 use Rattle.driver_laws.specs.rules.Machine.{Blocks, blocks_done}
@@ -26,7 +27,6 @@ use Rattle.driver_laws.specs.rules.Stands.{HandStands, LastStands, StageStands, 
 use Rattle.driver_laws.proofs.rules.Blocks.{begun_blocks}
 use Rattle.partitions.proofs.Ends.{part_ends}
 use Rattle.driver_laws.proofs.rules.Hands.{begins, fewer_sure}
-use Rattle.driver_laws.proofs.rules.Tried.{no}
 
 -- ---- a request that joins lies inside its partition, so among the data blocks
 joined_number : Submission → ℕ
@@ -81,7 +81,7 @@ joined_stands sure homes u sectors blocks r lines f s = record {
       where
         at : (u.progress ≡ not_begun) ⊎ (is_waiting u.stage ≡ false) → u.progress ≡ not_begun
         at (inl is) = is
-        at (inr held) = absurd (no (sym held ∙ waits))
+        at (inr held) = absurd (false≢true (sym held ∙ waits))
 
     hand : (b : Bool) → is_waiting u.stage ≡ b → HandStands sure homes (first_block u.drive.kind (in_hand (service_joined u.drive.kind r u.service))) (in_hand (service_joined u.drive.kind r u.service)) u.progress sectors blocks
     hand true waits =

@@ -3,39 +3,28 @@ use Rattle.std.proofs.Common.{◌≡◌, ◌≢◌, ◌⊎◌, inl, inr, ℕ, �
 use Rattle.std.specs.Prelude.{if◌then◌else◌, find, option_map}
 use Rattle.std.proofs.lemmas.Option.{same_Some, none-some}
 use Rattle.std.proofs.lemmas.Bool.Decides.{eqb_tells}
+use Rattle.std.proofs.lemmas.Bool.{false≢true}
 use Rattle.pack_geometry.specs.Pack as model
 use Rattle.hardware_table.specs.declared.FaultKind.{FaultKind}
 use Rattle.hardware_table.specs.declared.Moved.{Moved}
 use Rattle.hardware_table.specs.declared.Moved.TheVariants as verdict
 use Rattle.hardware_table.specs.Adapter.{AdapterState}
-use Rattle.hardware_table.specs.Drive.{DriveState, is_writing, is_positioning}
-use Rattle.hardware_table.specs.Moves.{stop_of, first_armed, IsVerdict, IsVerdictBy, IsReadVerdict}
+use Rattle.hardware_table.specs.Drive.{is_positioning}
+use Rattle.hardware_table.specs.Moves.{IsVerdict, IsVerdictBy}
 use Rattle.trace_replay.specs.requests.Requests.{Rejection, rejection_answer}
-use Rattle.trace_replay.specs.Moments.{Deed, Search, Seek, Recal, Offset, Centre, Clear, Pack, Transfer, Arrive, Sector, Intr, Try, Attn, End, Told}
+use Rattle.trace_replay.specs.Moments.{Deed, Search, Arrive, Sector, Intr, Try, Attn, End, Told}
 use Rattle.trace_replay.specs.Adapters.{AdapterSeen, can_move}
 use Rattle.trace_replay.specs.Packs.{VerdictMay, flips_at}
 use Rattle.trace_replay.specs.Conversation.{goes_on}
 use Rattle.trace_replay.specs.Events.{Act, Done, Refusing, Arriving, Trying, Serving, NothingToDo, Event, Wish, NoLine, DueLine, Arrival, SectorLine, Interrupt, Attention, Refusal, IdleLine, wish_of, wanted, act_after, act_of_arrival, act_of_move, act_of_attend, can_attend, adapters_there, is_no_line}
 use Rattle.trace_replay.specs.Replay.{Replay, UnitSeen, with_state, next_wish, LineMay, ToldMay, unit_after, replay_told, drained, act_drained}
-use Rattle.trace_replay.specs.History.{is_refusal, with_deed, lines_after}
-use Rattle.trace_replay.proofs.Unchanged.{either}
+use Rattle.trace_replay.specs.History.{with_deed, lines_after}
+use Rattle.trace_replay.proofs.Unchanged.{either, with_other}
 use Rattle.trace_replay.proofs.Kept.{refused_is}
 use Rattle.driver_laws.specs.rules.Stands.{Setup}
-use Rattle.driver_laws.proofs.rules.Tried.{no}
 use Rattle.driver_laws.proofs.rules.MachineUnits.{IsFirst}
 use Rattle.trace_replay.proofs.Histories.{WasMarked}
-
-pub with_other : {T : Type 0} (states : ℕ → T) (k : ℕ) (state : T) (x : ℕ) → x ≢ k → with_state states k state x ≡ states x
-with_other states k state x apart = elim (eqb_tells x k) [
-  | inl same ↦ absurd (apart same.1)
-  | inr other ↦ rw other.0 refl
-]
-
-pub with_same : {T : Type 0} (states : ℕ → T) (k : ℕ) (state : T) → with_state states k state k ≡ state
-with_same states k state = elim (eqb_tells k k) [
-  | inl same ↦ rw same.0 refl
-  | inr other ↦ absurd (other.1 refl)
-]
+use Rattle.trace_replay.proofs.Unusable.{read_is_none, marked_only, was_told}
 
 -- what holds of one state and of all others holds of all after one of them changed
 pub with_each : {T : Type 0} (P : ℕ → T → Type 0) (states : ℕ → T) (k : ℕ) (state : T) → P k state → ((x : ℕ) → x ≢ k → P x (states x)) → (x : ℕ) → P x (with_state states k state x)
@@ -87,7 +76,7 @@ pub calm_line : (adapters : ℕ → AdapterSeen) (line : ℕ) (drains between : 
     → wanted adapters (record { line = line; drains = drains; between = between; act = act; speaker = speaker }) goes ≡ wish_of unit deed → IsCalm act
 unfolding unit_in sort_in
 calm_line adapters line drains between speaker Done goes unit deed first is = tt
-calm_line adapters line drains between speaker (Refusing u i why) true unit deed first is = absurd (no (sym first))
+calm_line adapters line drains between speaker (Refusing u i why) true unit deed first is = absurd (false≢true (sym first))
 calm_line adapters line drains between speaker (Refusing u i why) false unit deed first is = absurd (not_two (sort_in (wish_of unit deed)) (wish_unit unit deed).1 (sym (ap sort_in is)))
 calm_line adapters line drains between speaker (Arriving u) goes unit deed first is = tt
 calm_line adapters line drains between speaker (Trying a) goes unit deed first is = tt
@@ -156,40 +145,12 @@ stop_sort true None stop is three = none-some stop is
 stop_sort true (Some k) stop is three = omega (arith, three, ap sort (same_Some (verdict.Faulted k) stop is))
 stop_sort false armed stop is three = omega (arith, three, ap sort (same_Some verdict.Offline stop is))
 
-read_sort : (places : Option (List ℕ)) → IsReadVerdict places verdict.Marked → ⊥
-unfolding sort
-read_sort None is = omega (arith, ap sort is)
-read_sort (Some places) is = is
-
 marked_by : (stop : Option Moved) (marked write : Bool) (places : Option (List ℕ)) → ((v : Moved) → stop ≡ Some v → sort v ≡ 3 → ⊥) → IsVerdictBy stop marked write places verdict.Marked → marked ≡ true
 unfolding sort
 marked_by (Some stop) marked write places never is = absurd (never stop refl (ap sort (sym is)))
 marked_by None true write places never is = refl
 marked_by None false true places never is = absurd (omega (arith, ap sort is))
-marked_by None false false places never is = absurd (read_sort places is)
-
-marked_only : (d : DriveState) (marked : Bool) (places : Option (List ℕ)) → IsVerdict d marked places verdict.Marked → marked ≡ true
-marked_only d marked places is = marked_by (stop_of d) marked (is_writing d.work) places (λ v stop three. stop_sort d.online (first_armed d.armed) v stop three) is
-
-was_told : (deed : Deed) (lines : List Deed) (b : ℕ) → WasMarked b (with_deed deed lines) → (deed ≡ Sector b verdict.Marked) ⊎ WasMarked b lines
-was_told (Search c y) lines b w = w
-was_told (Seek c) lines b w = w
-was_told Recal lines b w = w
-was_told (Offset o) lines b w = w
-was_told Centre lines b w = w
-was_told Clear lines b w = w
-was_told Pack lines b w = w
-was_told (Transfer k l m) lines b w = w
-was_told Arrive lines b w = w
-was_told (Sector k v) lines b w = w
-was_told Intr lines b w = w
-was_told (Try k t) lines b w = w
-was_told Attn lines b w = w
-was_told (End answer) lines b w = at (is_refusal answer) w
-  where
-    at : (r : Bool) → WasMarked b (if r then lines else []) → (End answer ≡ Sector b verdict.Marked) ⊎ WasMarked b lines
-    at true w = inr w
-    at false w = absurd w
+marked_by None false false places never is = absurd (read_is_none places is)
 
 abbrev AreTrue : Setup → (ℕ → List Deed) → Type 0
 AreTrue setup lines = (unit block : ℕ) → WasMarked block (lines unit) → model.is_marked (setup.packs unit) block ≡ true

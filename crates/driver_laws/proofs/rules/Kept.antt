@@ -1,31 +1,32 @@
 -- Each moment that may come keeps what every reached state keeps.
-use Rattle.std.proofs.Common.{◌≡◌, inl, inr, ℕ, ◌==◌, Bool, true, false, List, [], Option, None, Some, refl, ap, ◌∙◌, arith}
+use Rattle.std.proofs.Common.{◌≡◌, inl, inr, ℕ, ◌==◌, Bool, true, false, List, [], Option, Some, refl, ap, ◌∙◌, arith}
 use Rattle.std.specs.Prelude.{if◌then◌else◌}
 use Rattle.std.proofs.lemmas.Bool.Decides.{eqb_tells}
 use Rattle.pack_geometry.specs.declared.DriveKind.{DriveKind}
 use Rattle.pack_geometry.specs.Pack as model
 use Rattle.drive_registers.specs.declared.Function.TheVariants as function
-use Rattle.hardware_table.specs.Drive.{is_positioning, new_drive}
-use Rattle.hardware_table.specs.Functions.{performed}
-use Rattle.trace_replay.specs.requests.Requests.{Request, IsRequest}
-use Rattle.trace_replay.specs.Script.{Input, Submit, ArriveAt, MoveAt, AttendTo, Drain, Turn, Noise, Arm, SetOnline, SetLocked, IsThere, IsInput}
+use Rattle.hardware_table.specs.Drive.{is_positioning}
+use Rattle.trace_replay.specs.requests.Requests.{Request}
+use Rattle.trace_replay.specs.Script.{Input, Submit, ArriveAt, MoveAt, AttendTo, Drain, IsInput}
 use Rattle.trace_replay.specs.Moments.{Deed, Moment, Played, Told, Idle}
 use Rattle.trace_replay.specs.Adapters.{AdapterSeen, can_move}
 use Rattle.trace_replay.specs.Drives.{attached}
 use Rattle.trace_replay.specs.Packs.{surface_of}
 use Rattle.trace_replay.specs.Service.{in_hand, target_of}
 use Rattle.trace_replay.specs.Conversation.{goes_on}
-use Rattle.trace_replay.specs.Events.{Arriving, Trying, NothingToDo, Event, Wish, NoLine, DueLine, Arrival, SectorLine, Interrupt, Attention, Refusal, IdleLine, wanted, can_attend, serving}
+use Rattle.trace_replay.specs.Events.{Arriving, Trying, NothingToDo, Event, Wish, NoLine, DueLine, Refusal, wanted, can_attend, serving}
 use Rattle.trace_replay.specs.Replay.{Replay, UnitSeen, next_wish, at_unit, ToldMay, InputMay, MayCome, after_moment, unit_after, replay_told, told_after, act_drained, Submission, Refused, Joined, submission, submitted, unit_joined, replay_played, event_of, act_submitted}
 use Rattle.trace_replay.specs.History.{lines_after}
 use Rattle.trace_replay.specs.Causes.{AsksSome}
-use Rattle.trace_replay.proofs.Unchanged.{told_keeps, surface_marks}
-use Rattle.trace_replay.proofs.Kept.{AllFit, told_all, played_all, starts, after_kind, played_kind, performed_kind}
+use Rattle.trace_replay.proofs.Unchanged.{told_keeps, surface_marks, with_other}
+use Rattle.trace_replay.proofs.Kept.{AllFit, told_all, played_all, starts, after_kind, played_kind}
 use Rattle.driver_laws.specs.rules.Machine.{kind_of}
 use Rattle.driver_laws.specs.rules.Stands.{Setup, start_over, IsGiven}
 use Rattle.driver_laws.proofs.rules.MachineUnits.{Keeps}
-use Rattle.driver_laws.proofs.rules.Keeping.{with_each, with_other, Events, line_events, told_true, calm_first, calm_drain, calm_either}
+use Rattle.driver_laws.proofs.rules.Keeping.{with_each, Events, line_events, told_true, calm_first, calm_drain, calm_either}
 use Rattle.trace_replay.proofs.Histories.{WasMarked}
+use Rattle.trace_replay.proofs.Asking.{there_asks}
+use Rattle.trace_replay.proofs.Unusable.{attached_kind}
 
 -- ---- kinds, tables and marks stay
 pub record Steady (setup : Setup) (s : Replay) : Type 0 where
@@ -112,9 +113,6 @@ played_events s line Drain rest = record {
 played_events s line other rest = record { quiet = λ x apart. rest x; refusing = tt }
 
 -- ---- inputs ask for some blocks
-there_asks : (drive : Option DriveKind) (r : Request) → IsThere drive (λ kind. IsRequest r) → AsksSome (Submit r)
-there_asks None r is = absurd is
-there_asks (Some kind) r is = is.some
 
 pub input_asks : (drives : ℕ → Option DriveKind) (input : Input) → IsInput drives input → AsksSome input
 input_asks drives (Submit r) is = there_asks (drives r.unit) r is
@@ -165,9 +163,6 @@ moment_kept setup s (Idle line) k given may = record {
   quiet = k.quiet;
   refusing = tt;
 }
-
-attached_kind : (kind : DriveKind) (unit : ℕ) → (attached kind unit).kind ≡ kind
-attached_kind kind unit = performed_kind function.Pack (performed function.Preset (new_drive kind unit)) ∙ performed_kind function.Preset (new_drive kind unit)
 
 pub start_kept : (setup : Setup) → Keeps setup (start_over setup)
 start_kept setup = record {

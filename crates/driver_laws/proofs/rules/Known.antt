@@ -15,7 +15,7 @@ use Rattle.hardware_table.proofs.NoiseLaws.{among_struck}
 use Rattle.trace_replay.specs.requests.ServiceOrder.{Waiting as Waiter, Service}
 use Rattle.trace_replay.specs.requests.Requests.{Request}
 use Rattle.trace_replay.specs.Script.{Input, Submit, ArriveAt, MoveAt, AttendTo, Drain, Turn, Noise, Arm, SetOnline, SetLocked}
-use Rattle.trace_replay.specs.Moments.{Deed, Search, Seek, Recal, Offset, Centre, Clear, Pack, Transfer, Arrive, Sector, Intr, Try, Attn, End, Moment, Played, Told, Idle}
+use Rattle.trace_replay.specs.Moments.{Deed, Sector, End, Moment, Played, Told, Idle}
 use Rattle.trace_replay.specs.Packs.{Surface, surface_written, surface_read}
 use Rattle.trace_replay.specs.Service.{first_waiting, in_hand, request_or_none, service_after}
 use Rattle.trace_replay.specs.History.{lines_after, lines_behind, Tried, Untried, TriedAt, last_tried, fails}
@@ -136,7 +136,7 @@ alike live ms n all a =
 pub all_alike : (live new : List LiveNoise) (ms : List Moment) → LiveKnown live ms → All (IsAmong live) new → LiveKnown new ms
 all_alike live new ms all are = All-weaker (IsAmong live) (λ (n : LiveNoise). WasPlayed (ArmsLike n) ms) (λ n a. alike live ms n all a) new are
 
-written_live : (b : Bool) (s : Surface) (unit block : ℕ) (r : Request) (k : ℕ) → (surface_written b s unit block r k).live ≡ s.live
+pub written_live : (b : Bool) (s : Surface) (unit block : ℕ) (r : Request) (k : ℕ) → (surface_written b s unit block r k).live ≡ s.live
 written_live true s unit block r k = refl
 written_live false s unit block r k = refl
 

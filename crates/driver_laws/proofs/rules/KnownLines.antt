@@ -2,6 +2,7 @@
 use Rattle.std.proofs.Common.{◌≡◌, inl, inr, ℕ, ◌==◌, true, false, List, [], ◌∷◌, ◌++◌, Some, refl, sym, ap, ◌∙◌, subst, nat_lt}
 use Rattle.std.specs.Prelude.{if◌then◌else◌}
 use Rattle.std.proofs.lemmas.Bool.Decides.{eqb_tells}
+use Rattle.std.proofs.lemmas.Bool.{false≢true, eqb-false, eqb-true}
 use Rattle.hardware_table.specs.declared.FaultKind.{FaultKind}
 use Rattle.hardware_table.specs.declared.Moved.{Moved}
 use Rattle.hardware_table.specs.declared.Moved.TheVariants as verdict
@@ -13,7 +14,7 @@ use Rattle.fire_code.specs.Burst.{IsUncorrectable}
 use Rattle.hardware_table.specs.Noise.{LiveNoise, is_at}
 use Rattle.trace_replay.specs.requests.Requests.{Answer}
 use Rattle.trace_replay.specs.Script.{Input, Submit, ArriveAt, MoveAt, AttendTo, Drain, Turn, Noise, Arm, SetOnline, SetLocked}
-use Rattle.trace_replay.specs.Moments.{Deed, Search, Seek, Recal, Offset, Centre, Clear, Pack, Transfer, Arrive, Sector, Intr, Try, Attn, End, Moment, Told}
+use Rattle.trace_replay.specs.Moments.{Deed, Sector, End, Moment, Told}
 use Rattle.trace_replay.specs.Packs.{flips_at}
 use Rattle.trace_replay.specs.Service.{in_hand, service_after, target_of}
 use Rattle.trace_replay.specs.Conditions.{online_behind}
@@ -21,10 +22,9 @@ use Rattle.trace_replay.specs.History.{is_refusal, with_deed, lines_after, last_
 use Rattle.trace_replay.specs.Replay.{Replay, UnitSeen, hand_of, at_unit, with_state, LineMay, unit_after, surface_after}
 use Rattle.trace_replay.proofs.Kept.{UnitFits, held_by, end_kept}
 use Rattle.driver_laws.specs.rules.Grounds.{WasPlayed, Submits, ArmsFault, ArmsShownNoise, WasOffline}
-use Rattle.driver_laws.proofs.rules.Stages.{no, first_of}
-use Rattle.driver_laws.proofs.rules.Queues.{is_same}
-use Rattle.driver_laws.proofs.rules.Armed.{line_arms_none, offline_verdict, faulted_verdict, hard_verdict, struck_by, tags_apart}
+use Rattle.driver_laws.proofs.rules.Armed.{line_arms_none, offline_verdict, faulted_verdict, hard_verdict, struck_by}
 use Rattle.driver_laws.proofs.rules.Known.{more, weaker, offline_more, ArmsLike, AnyFails, Ground, AreAsked, OffAt, ArmedAt, FailedAt, Known, asked_more, ground_more, live_more, line_live, head_asked, line_asked, tried_tag, verdict_of}
+use Rattle.driver_laws.proofs.rules.Stages.{first_of}
 
 -- ---- A LINE OF A UNIT
 module _ (s : Replay) (line unit id : ℕ) (ms : List Moment) (lines : ℕ → List Deed) (k : Known s.units s.surface.live ms lines)
@@ -53,7 +53,7 @@ module _ (s : Replay) (line unit id : ℕ) (ms : List Moment) (lines : ℕ → L
       asked = head_asked unit ms (s.units unit).service.waiting (held_by (s.units unit).service.waiting id may.service) (k.asked unit)
 
   end_off : (a : Answer) → LineMay s line unit id (End a) → OffAt (unit_after s unit (End a)) (with_deed (End a) (lines unit)) (Longer (End a))
-  end_off a may block e = absurd (tags_apart 0 1 refl (ap tried_tag (sym (ap (λ z. last_tried (if z then lines unit else [])) kept) ∙ e)))
+  end_off a may block e = absurd (eqb-false 0 1 refl (ap tried_tag (sym (ap (λ z. last_tried (if z then lines unit else [])) kept) ∙ e)))
     where
       kept : is_refusal a ≡ false
       kept = end_kept (s.units unit).drive (hand_of (s.units unit)) (s.units unit).stage (End a) (lines unit) may.talk fit.fits
@@ -74,7 +74,7 @@ module _ (s : Replay) (line unit id : ℕ) (ms : List Moment) (lines : ℕ → L
       n = struck_by (λ (z : LiveNoise). WasPlayed (ArmsLike z) ms) unit b (s.units unit).drive.offset s.surface.live h.0 k.noise h.1
 
       here : n.0.unit ≡ unit
-      here = is_same n.0.unit unit (first_of (n.0.unit == unit) (n.0.block == b) n.2)
+      here = eqb-true n.0.unit unit (first_of (n.0.unit == unit) (n.0.block == b) n.2)
 
       fits : (input : Input) → ArmsLike n.0 input → ArmsShownNoise unit input
       fits (Noise q) like = (like.0 ∙ here, subst (λ z. IsUncorrectable (remainder z)) (sym (like.2 ∙ n.3)) h.2)
@@ -89,15 +89,15 @@ module _ (s : Replay) (line unit id : ℕ) (ms : List Moment) (lines : ℕ → L
       fits (SetLocked u on) like = like
 
   struck : (b : ℕ) (v : Moved) → IsVerdict (s.units unit).drive (s.surface.is_marked unit b) (flips_at s.surface unit (s.units unit).drive b) v → fails v ≡ true → Ground unit ms
-  struck b verdict.Clean is f = absurd (no f)
-  struck b (verdict.Burst at q) is f = absurd (no f)
+  struck b verdict.Clean is f = absurd (false≢true f)
+  struck b (verdict.Burst at q) is f = absurd (false≢true f)
   struck b verdict.Hard is f = shown_noise b is
   struck b (verdict.Faulted kind) is f = inl (k.armed unit j.0 j.1)
     where
       j : (j : FaultKind) × (nat_lt 0 (times_armed j (s.units unit).drive.armed) ≡ true)
       j = faulted_verdict (s.units unit).drive kind (s.surface.is_marked unit b) (is_writing (s.units unit).drive.work) (flips_at s.surface unit (s.units unit).drive b) is
-  struck b verdict.Marked is f = absurd (no f)
-  struck b verdict.Offline is f = absurd (no f)
+  struck b verdict.Marked is f = absurd (false≢true f)
+  struck b verdict.Offline is f = absurd (false≢true f)
 
   old_failed : (deed : Deed) → AnyFails (lines unit) → Ground unit (Longer deed)
   old_failed deed any = ground_more unit ms (Told line unit id deed) (k.failed unit any)

@@ -4,6 +4,7 @@ use Rattle.std.specs.Prelude.{if◌then◌else◌, unwrap_or}
 use Rattle.std.proofs.lemmas.Bool.Decides.{eqb_tells}
 use Rattle.std.proofs.lemmas.List.{append_assoc, append-nil}
 use Rattle.std.proofs.lemmas.List.Elements.{All-cons}
+use Rattle.std.proofs.lemmas.Bool.{false≢true, eqb-false, eqb-true}
 use Rattle.pack_geometry.specs.declared.DriveKind.{DriveKind}
 use Rattle.hardware_table.specs.declared.FaultKind.{FaultKind}
 use Rattle.hardware_table.specs.declared.FaultKind.TheVariants as fault
@@ -18,7 +19,7 @@ use Rattle.trace_replay.specs.Script.{Input, Submit, ArriveAt, MoveAt, AttendTo,
 use Rattle.trace_replay.specs.Moments.{Deed, End, Moment, Played, Told, Idle}
 use Rattle.trace_replay.specs.Drives.{drive_played}
 use Rattle.trace_replay.specs.Packs.{Surface, surface_of, surface_played}
-use Rattle.trace_replay.specs.Events.{Wish, NoLine, DueLine, Arrival, SectorLine, Interrupt, Attention, Refusal, IdleLine}
+use Rattle.trace_replay.specs.Events.{Wish, Refusal}
 use Rattle.trace_replay.specs.Causes.{AskSome}
 use Rattle.trace_replay.proofs.Unchanged.{drained_keeps}
 use Rattle.trace_replay.proofs.Following.{follow_on}
@@ -30,15 +31,13 @@ use Rattle.pack_geometry.specs.declared.DriveKind.TheVariants.{Rp06}
 use Rattle.drive_registers.specs.declared.Function.TheVariants as function
 use Rattle.hardware_table.specs.Functions.{performed}
 use Rattle.trace_replay.specs.Service.{first_waiting, in_hand, request_or_none, cylinder_of}
-use Rattle.trace_replay.specs.Conversation.{Hand, Stage, Waiting, Steps, UnderWay, AtOnce, Moving, Saying, Ending, is_waiting}
+use Rattle.trace_replay.specs.Conversation.{Hand, Stage, Waiting, is_waiting}
 use Rattle.trace_replay.specs.Conditions.{online_behind}
 use Rattle.trace_replay.specs.History.{with_deed, lines_after, lines_of, last_tried}
 use Rattle.trace_replay.specs.Replay.{Replay, UnitSeen, hand_of, with_state, LineMay, ToldMay, MayCome, Follows, unit_after, unit_joined, conditions_after, Submission, Refused, Joined, submission, submitted, replay_played, drained, replay_told, told_after, after_moment, after_moments, new_replay, next_wish}
 use Rattle.trace_replay.proofs.Kept.{UnitFits, AllFit, head_stays, refused_is, moments_all, starts}
 use Rattle.driver_laws.specs.rules.Grounds.{WasPlayed, Submits, ArmsFault, WasOffline}
-use Rattle.driver_laws.proofs.rules.Stages.{no}
-use Rattle.driver_laws.proofs.rules.Queues.{is_same}
-use Rattle.driver_laws.proofs.rules.Armed.{tags_apart, performed_armed}
+use Rattle.driver_laws.proofs.rules.Armed.{performed_armed}
 use Rattle.driver_laws.proofs.rules.Known.{more, newest, offline_more, lines_on, ArmsLike, AnyFails, IsAsked, AreAsked, OffAt, ArmedAt, LiveKnown, Known, asked_more, ground_more, live_more, known_more, all_alike, tried_tag}
 use Rattle.driver_laws.proofs.rules.KnownLines.{line_known}
 
@@ -54,7 +53,7 @@ online_armed false d = refl
 arm_known : (b : Bool) (x u : ℕ) (k j : FaultKind) (n line : ℕ) (d : DriveState) (ms : List Moment) → (x == u) ≡ b
     → ((kind : FaultKind) → nat_lt 0 (times_armed kind d.armed) ≡ true → WasPlayed (ArmsFault x) ms)
     → nat_lt 0 (times_armed j (if b then fault_armed k n d else d).armed) ≡ true → WasPlayed (ArmsFault x) (ms ++ Played line (Arm u k n) ∷ [])
-arm_known true x u k j n line d ms is old e = newest (ArmsFault x) ms line (Arm u k n) (sym (is_same x u is))
+arm_known true x u k j n line d ms is old e = newest (ArmsFault x) ms line (Arm u k n) (sym (eqb-true x u is))
 arm_known false x u k j n line d ms is old e = more (ArmsFault x) ms (Played line (Arm u k n)) (old j e)
 
 said_armed : (x line : ℕ) (d : DriveState) (input : Input) (ms : List Moment) → ((kind : FaultKind) → nat_lt 0 (times_armed kind d.armed) ≡ true → WasPlayed (ArmsFault x) ms)
@@ -88,13 +87,13 @@ conditions_known s input line ms lines k = record {
 -- ---- a request joins
 waiting_none : (stage : Stage) (h : Hand) (lines : List Deed) → is_waiting stage ≡ true → Fits h stage lines → lines ≡ []
 waiting_none Waiting h lines is f = f
-waiting_none other h lines is f = absurd (no is)
+waiting_none other h lines is f = absurd (false≢true is)
 
 joined_off : (u : UnitSeen) (r : Request) (lines : List Deed) (ms : List Moment) (m : Moment) → UnitFits u lines → OffAt u lines ms → OffAt (unit_joined u r) lines (ms ++ m ∷ [])
 joined_off u r lines ms m fit off block e = at (is_waiting u.stage) refl
   where
     at : (b : Bool) → is_waiting u.stage ≡ b → WasOffline (in_hand (unit_joined u r).service) (ms ++ m ∷ [])
-    at true is = absurd (tags_apart 0 1 refl (ap tried_tag (sym (ap last_tried (waiting_none u.stage (hand_of u) lines is fit.fits)) ∙ e)))
+    at true is = absurd (eqb-false 0 1 refl (ap tried_tag (sym (ap last_tried (waiting_none u.stage (hand_of u) lines is fit.fits)) ∙ e)))
     at false is =
         subst (λ z. WasOffline (request_or_none z) (ms ++ m ∷ []))
         (sym (ap first_waiting (after_join-waiting (cylinder_of u.drive.kind) r u.service fit.order)
@@ -180,7 +179,7 @@ moment_known s (Told line unit id deed) ms lines may fit said k = told_known (ne
 moment_known s (Idle line) ms lines may fit said k = known_more s.units s.surface.live ms (Idle line) lines k
 
 -- ---- all moments, from the start
-last_of : (s : Replay) (ms : List Moment) (m : Moment) → after_moments s (ms ++ m ∷ []) ≡ after_moment (after_moments s ms) m
+pub last_of : (s : Replay) (ms : List Moment) (m : Moment) → after_moments s (ms ++ m ∷ []) ≡ after_moment (after_moments s ms) m
 last_of s [] m = refl
 last_of s (n ∷ ms) m = last_of (after_moment s n) ms m
 
@@ -191,7 +190,7 @@ module _ (drives : ℕ → Option DriveKind) (tables : ℕ → Option Table) (pa
   start_known : KnownIn Start [] (λ x. [])
   start_known = record {
     asked = λ x. tt;
-    offline = λ x block e. absurd (tags_apart 0 1 refl (ap tried_tag e));
+    offline = λ x block e. absurd (eqb-false 0 1 refl (ap tried_tag e));
     armed = λ x kind e. absurd (no_times x kind e);
     noise = λ k d lt. absurd (omega (arith, lt));
     failed = λ x any. absurd any;
@@ -208,7 +207,7 @@ module _ (drives : ℕ → Option DriveKind) (tables : ℕ → Option Table) (pa
       attached_none x = performed_armed function.Pack (performed function.Preset (new_drive (unwrap_or (drives x) Rp06) x)) ∙ performed_armed function.Preset (new_drive (unwrap_or (drives x) Rp06) x)
 
       no_times : (x : ℕ) (kind : FaultKind) → nat_lt 0 (times_armed kind (Start.units x).drive.armed) ≡ true → ⊥
-      no_times x kind e = no (sym (ap (λ z. nat_lt 0 (times_armed kind z)) (attached_none x) ∙ ap (nat_lt 0) (none kind)) ∙ e)
+      no_times x kind e = false≢true (sym (ap (λ z. nat_lt 0 (times_armed kind z)) (attached_none x) ∙ ap (nat_lt 0) (none kind)) ∙ e)
 
   abbrev pub KnownBehind : List Moment → Type 0
   KnownBehind ms = KnownIn (after_moments Start ms) ms (λ x. lines_of x ms)

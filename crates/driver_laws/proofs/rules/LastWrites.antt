@@ -1,16 +1,16 @@
 -- Reads give what the writes that were answered before them left.
-use Rattle.std.proofs.Common.{◌≡◌, inl, inr, ℕ, ◌==◌, ◌||◌, Bool, true, false, List, [], ◌∷◌, ◌++◌, Option, None, Some, refl, sym, ap, ◌∙◌, subst, arith}
+use Rattle.std.proofs.Common.{◌≡◌, inl, inr, ℕ, ◌==◌, Bool, true, false, List, [], ◌∷◌, ◌++◌, Option, None, Some, refl, sym, ap, ◌∙◌, subst}
 use Rattle.std.specs.Prelude.{if◌then◌else◌}
 use Rattle.std.specs.List.{AllByRecursion, list_any}
 use Rattle.std.proofs.lemmas.Option.{none-some}
-use Rattle.std.proofs.lemmas.Bool.{ne_eqb}
-use Rattle.std.proofs.lemmas.Bool.Decides.{eqb_tells, nat_tests}
+use Rattle.std.proofs.lemmas.Bool.{ne_eqb, or_parts, eqb-false}
+use Rattle.std.proofs.lemmas.Bool.Decides.{eqb_tells}
 use Rattle.pack_geometry.specs.declared.DriveKind.{DriveKind}
 use Rattle.pack_geometry.specs.Pack as model
 use Rattle.pack_geometry.specs.TableSpelling.{Table}
 use Rattle.pack_geometry.specs.Homes.{contents_of}
 use Rattle.trace_replay.specs.requests.Requests.{Request, first_block, Answer, ReadOk, WriteOk, Failed, OutsidePartition, EndOfPartition, NoFrames, Rejection, AtEnd, Beyond, FramesShort, rejection_answer}
-use Rattle.trace_replay.specs.Script.{Input, Submit, ArriveAt, MoveAt, AttendTo, Drain, Turn, Noise, Arm, SetOnline, SetLocked, Numbered, AreApart, Script, drives_of, inputs_of}
+use Rattle.trace_replay.specs.Script.{Input, Submit, Numbered, AreApart, Script, drives_of, inputs_of}
 use Rattle.trace_replay.specs.Moments.{Moment, Answered, answers_in}
 use Rattle.trace_replay.specs.Replay.{Submission, Refused, Joined}
 use Rattle.trace_replay.specs.Runs.{IsLegalRun}
@@ -154,18 +154,12 @@ answers_left drives claims all m (n ∷ inputs) answers new are asked is =
         (steps_left drives claims all n.line (after_input drives m n.input) is.4.later is.2 first.asked is.4.steps))
 
 -- ---- inputs whose ids are apart ask each for its own
-parts : (a b : Bool) → a || b ≡ false → (a ≡ false) × (b ≡ false)
-parts true b is = absurd (grind (arith, is))
-parts false b is = (refl, is)
-
-differ : (a b : ℕ) → a == b ≡ false → a ≡ b → ⊥
-differ a b is e = grind (arith, nat_tests)
 
 other_asked : (r : Request) (line : ℕ) (ns : List Numbered) (input : Input) (ids : List ℕ) → list_any (λ other. other == r.id) (with_asked input ids) ≡ false → IsAskedAs ns input
     → IsAskedAs (record { line = line; input = Submit r } ∷ ns) input × (list_any (λ other. other == r.id) ids ≡ false)
 other_asked r line ns (Submit x) ids apart is =
-    let both : (x.id == r.id ≡ false) × (list_any (λ other. other == r.id) ids ≡ false) = parts (x.id == r.id) (list_any (λ other. other == r.id) ids) apart in
-    (rw (ne_eqb r.id x.id (λ e. differ x.id r.id both.0 (sym e))) is, both.1)
+    let both : (x.id == r.id ≡ false) × (list_any (λ other. other == r.id) ids ≡ false) = or_parts (x.id == r.id) (list_any (λ other. other == r.id) ids) apart in
+    (rw (ne_eqb r.id x.id (λ e. eqb-false x.id r.id both.0 (sym e))) is, both.1)
 other_asked r line ns it ids apart is = (tt, apart)
 
 others_asked : (r : Request) (line : ℕ) (ns xs : List Numbered) → list_any (λ other. other == r.id) (ids_asked xs) ≡ false → AllByRecursion (λ (n : Numbered). IsAskedAs ns n.input) xs

@@ -9,11 +9,11 @@ use Rattle.pack_geometry.specs.PackTable.{AreTablesOf}
 use Rattle.hardware_table.specs.Noise.{LiveNoise}
 use Rattle.trace_replay.specs.requests.ServiceOrder.{Waiting as Waiter, Service, after_leave}
 use Rattle.trace_replay.specs.requests.Requests.{Request, first_block, Answer, Rejection, rejection_answer}
-use Rattle.trace_replay.specs.Moments.{Deed, Search, Seek, Recal, Offset, Centre, Clear, Pack, Transfer, Arrive, Sector, Intr, Try, Attn, End, Told, Answered}
+use Rattle.trace_replay.specs.Moments.{Deed, Sector, End, Told, Answered}
 use Rattle.trace_replay.specs.Adapters.{AdapterSeen}
 use Rattle.trace_replay.specs.Service.{first_waiting, request_or_none, ids, in_hand, head_of, service_after, frames_needed}
 use Rattle.trace_replay.specs.Conversation.{goes_on, not_begun}
-use Rattle.trace_replay.specs.Events.{Act, Done, Refusing, Arriving, Trying, Serving, NothingToDo, Event, Wish, NoLine, DueLine, Arrival, SectorLine, Interrupt, Attention, Refusal, IdleLine, wanted, wish_in, wish_in_serving, first_ready, is_no_line}
+use Rattle.trace_replay.specs.Events.{Act, Done, Refusing, Serving, Event, Wish, NoLine, Refusal, wanted, wish_in, wish_in_serving, first_ready, is_no_line}
 use Rattle.trace_replay.specs.Replay.{Replay, UnitSeen, next_wish, hand_of, LineMay, RefusalMay, ToldMay, after_moment, unit_after, surface_after, replay_told, told_after, drained, act_drained, act_done, frames_after, outstanding_after}
 use Rattle.trace_replay.proofs.Unchanged.{drained_keeps, either}
 use Rattle.driver_laws.specs.rules.Machine.{Blocks, Machine, request_of, without, frames_of, kind_of, blocks_done, done_in, MayAnswer, blocks_after, after_answer, Step, Steps}

@@ -3,12 +3,13 @@ use Rattle.std.proofs.Common.{◌≡◌, ◌⊎◌, inl, inr, ℕ, ◌+◌, ◌-
 use Rattle.std.specs.Prelude.{if◌then◌else◌, nat_le, filter}
 use Rattle.std.proofs.lemmas.Option.{same_Some, none-some}
 use Rattle.std.proofs.lemmas.Bool.Decides.{nat_tests}
+use Rattle.std.proofs.lemmas.Bool.{eqb-true}
 use Rattle.hardware_table.specs.declared.NoiseSpan.{NoiseSpan}
 use Rattle.hardware_table.specs.declared.NoiseSpan.TheVariants.{Times, Until}
 use Rattle.hardware_table.specs.Noise.{LiveNoise, is_at, oldest, flips, is_ended_by, is_spent, is_behind, sector_number, with_noise, span_left, noise_left, after_strike}
-use Rattle.driver_laws.proofs.rules.Stages.{first_of}
-use Rattle.driver_laws.proofs.rules.Queues.{same, is_same}
+use Rattle.driver_laws.proofs.rules.Queues.{same}
 use Rattle.driver_laws.specs.rules.Strikes.{strikes_while}
+use Rattle.driver_laws.proofs.rules.Stages.{first_of}
 
 -- live noise strikes once more at least
 abbrev pub left_while : NoiseSpan → ℕ
@@ -138,7 +139,7 @@ module _ (shows : List ℕ → Bool) (x : ℕ) where
   strict word (Until code) = inl (omega arith)
 
   own : (noise : LiveNoise) (block : ℕ) → is_at x block noise ≡ true → shows noise.places ≡ true → (x == noise.unit) && shows noise.places ≡ true
-  own noise block here shown = rw shown (rw (← is_same noise.unit x (first_of (noise.unit == x) (noise.block == block) here)) (rw (same noise.unit) refl))
+  own noise block here shown = rw shown (rw (← eqb-true noise.unit x (first_of (noise.unit == x) (noise.block == block) here)) (rw (same noise.unit) refl))
 
   flips_is : (b : Bool) (places shown : List ℕ) → (if b then None else Some places) ≡ Some shown → places ≡ shown
   flips_is true places shown is = absurd (none-some shown is)

@@ -22,7 +22,7 @@ tells unit block e = elim (eqb_tells unit e.unit) [
   | inr nu ↦ inr (rw nu.0 refl)
 ]
 
-true_false : {b : Bool} → b ≡ true → b ≡ false → ⊥
+pub true_false : {b : Bool} → b ≡ true → b ≡ false → ⊥
 true_false one other = cc
 
 pub is_key : (unit block : ℕ) (e : Entry) → is_of unit block e ≡ true → IsKey unit block e

@@ -5,7 +5,7 @@ use Rattle.std.specs.List.{AllByRecursion}
 use Rattle.std.proofs.lemmas.Option.{none-some}
 use Rattle.std.proofs.lemmas.List.Elements.{All-head, All-tail}
 use Rattle.pack_geometry.specs.declared.DriveKind.{DriveKind}
-use Rattle.pack_geometry.specs.declared.DriveKind.TheVariants.{Rp06, Rm03, Rm05}
+use Rattle.pack_geometry.specs.declared.DriveKind.TheVariants.{Rp06}
 use Rattle.pack_geometry.specs.Geometry.{block_count, copy_at, sectors_of}
 use Rattle.pack_geometry.specs.Pack as model
 use Rattle.pack_geometry.specs.Content.{bytes_at}
@@ -17,7 +17,7 @@ use Rattle.pack_geometry.proofs.PackTableLaws.{table_room, table_same}
 use Rattle.hardware_table.specs.Noise.{LiveNoise}
 use Rattle.trace_replay.specs.requests.ServiceOrder.{Waiting as Waiter}
 use Rattle.trace_replay.specs.requests.Requests.{Request, first_block}
-use Rattle.trace_replay.specs.Script.{IsScript, Input, Submit, ArriveAt, MoveAt, AttendTo, Drain, Turn, Noise, Arm, SetOnline, SetLocked, Numbered, Script, Line, Statement, Declares, Plays, with_input, inputs_before, inputs_of, drives_of, with_id, ids_of, IsInput, IsStatement, AreApart}
+use Rattle.trace_replay.specs.Script.{IsScript, Input, Submit, Drain, Noise, Numbered, Script, Line, Statement, Declares, Plays, with_input, inputs_before, inputs_of, drives_of, with_id, ids_of, IsInput, IsStatement, AreApart}
 use Rattle.trace_replay.specs.Moments.{Moment, Played, Told, Idle, Answered, played, answers_in}
 use Rattle.trace_replay.specs.Service.{in_hand, first_waiting, request_or_none}
 use Rattle.trace_replay.specs.Replay.{after_moment, Replay, next_wish, Follows, after_moments}
@@ -157,14 +157,14 @@ run_goes claims script tables old new ms run covered =
     (subst AreApart (sym (ap ids_asked run.inputs ∙ script_ids script)) run.good.ids) run.trace.follows (subst (AreCovered (SetupOf script tables old) claims) (sym run.inputs) covered)
 
 -- at the end nothing is outstanding
-no_length : {A : Type 0} (xs : List A) → 0 ≡ length xs → xs ≡ []
+pub no_length : {A : Type 0} (xs : List A) → 0 ≡ length xs → xs ≡ []
 no_length [] is = refl
 no_length (x ∷ xs) is = absurd (omega (arith, is))
 
 none_out : (setup : Setup) (armed : List LiveNoise) (s : Replay) (m : Machine) → StandsFor setup armed s m → s.outstanding ≡ 0 → m.outstanding ≡ []
 none_out setup armed s m h over = no_length m.outstanding (sym over ∙ h.counted)
 
-no_one_waits : (drives : ℕ → Option DriveKind) (unit : ℕ) (outstanding : List Request) (waiting : List (Waiter Request)) → outstanding ≡ [] → QueueStands drives unit outstanding waiting → waiting ≡ []
+pub no_one_waits : (drives : ℕ → Option DriveKind) (unit : ℕ) (outstanding : List Request) (waiting : List (Waiter Request)) → outstanding ≡ [] → QueueStands drives unit outstanding waiting → waiting ≡ []
 no_one_waits drives unit outstanding [] none q = refl
 no_one_waits drives unit outstanding (w ∷ ws) none q = absurd (none-some w.request (ap (request_of w.request.id) (sym none) ∙ q.each.0.listed))
 

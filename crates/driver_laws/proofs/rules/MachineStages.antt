@@ -3,6 +3,7 @@ use Rattle.std.proofs.Common.{◌≡◌, ℕ, zero, suc, ◌≤◌, ◌+◌, ◌
 use Rattle.std.specs.Prelude.{if◌then◌else◌, is_some}
 use Rattle.std.proofs.lemmas.Option.{same_Some, none-some}
 use Rattle.std.proofs.lemmas.Bool.Decides.{nat_tests}
+use Rattle.std.proofs.lemmas.Bool.{false≢true}
 use Rattle.hardware_table.specs.declared.Moved.{Moved}
 use Rattle.hardware_table.specs.declared.Moved.TheVariants as verdict
 use Rattle.hardware_table.specs.declared.Work.{Work}
@@ -14,13 +15,12 @@ use Rattle.pack_geometry.specs.Geometry.{place_at}
 use Rattle.trace_replay.specs.requests.Requests.{Request, ReadOk, WriteOk}
 use Rattle.trace_replay.specs.Moments.{Deed, Centre, Clear, Transfer, Try, End}
 use Rattle.trace_replay.specs.Packs.{repaired_from}
-use Rattle.trace_replay.specs.Conversation.{Hand, Stage, Waiting, Steps, UnderWay, AtOnce, Moving, Saying, Ending, Segment, OwnBlocks, Replacement, Positioning, SearchFor, Recalibrate, SeekTo, OffsetBy, Progress, due, guarded, transfer_of, command_of, needs_unlocked, is_write, step_taken, step_ended, said, saying, sector_may, is_under_way, progress_interrupted, outcome, interrupted_by, continued, ok_answer, retried, marked, forwarded, entry_of, start_of, clear_lines, centre_lines, try_lines, last_of}
+use Rattle.trace_replay.specs.Conversation.{Hand, Stage, Waiting, Steps, UnderWay, AtOnce, Moving, Saying, Ending, Segment, OwnBlocks, Replacement, Positioning, SearchFor, Progress, due, guarded, transfer_of, command_of, needs_unlocked, is_write, step_taken, step_ended, said, saying, sector_may, is_under_way, progress_interrupted, outcome, interrupted_by, continued, ok_answer, retried, marked, forwarded, entry_of, start_of, clear_lines, centre_lines, try_lines, last_of}
 use Rattle.trace_replay.proofs.Histories.{Fits, Open, AreSaid, guard_holds}
 use Rattle.driver_laws.specs.rules.Machine.{Blocks}
 use Rattle.driver_laws.specs.rules.Stands.{HandStands, LastStands, AnswerStands, RestStands, StageStands}
 use Rattle.driver_laws.proofs.rules.Blocks.{not_written, repaired_length}
 use Rattle.driver_laws.proofs.rules.Hands.{same_hand, read_more}
-use Rattle.driver_laws.proofs.rules.Tried.{no}
 
 -- ---- a stage behind lines
 pub rest_stands : (sure : ℕ → Type 0) (homes : ℕ → Option ℕ) (first : ℕ) (r : Request) (p : Progress) (blocks : Blocks) (work : Work) (next : Stage) → RestStands r p next → StageStands sure homes first r p blocks work next
@@ -60,12 +60,12 @@ said_stands sure homes first r p blocks was now d h deed other is st = tt
 pub arrive_stands : (sure : ℕ → Type 0) (homes : ℕ → Option ℕ) (first : ℕ) (r : Request) (p : Progress) (blocks : Blocks) (now : Work) (stage : Stage)
     → is_under_way stage ≡ true → StageStands sure homes first r p blocks now stage
 arrive_stands sure homes first r p blocks now (UnderWay left segment) is = tt
-arrive_stands sure homes first r p blocks now other is = absurd (no is)
+arrive_stands sure homes first r p blocks now other is = absurd (false≢true is)
 
 pub attn_stands : (sure : ℕ → Type 0) (homes : ℕ → Option ℕ) (first : ℕ) (r : Request) (p : Progress) (blocks : Blocks) (now : Work) (stage : Stage)
     → is_under_way stage ≡ true → StageStands sure homes first r p blocks now (step_ended stage)
 attn_stands sure homes first r p blocks now (UnderWay left segment) is = tt
-attn_stands sure homes first r p blocks now other is = absurd (no is)
+attn_stands sure homes first r p blocks now other is = absurd (false≢true is)
 
 -- ---- a transfer that is commanded goes in the request's direction
 abbrev pub Goes : Hand → Deed → Type 0
@@ -105,27 +105,27 @@ pub record MaySector (h : Hand) (stage : Stage) (block : ℕ) (lines : List Deed
   pub block_is : block ≡ start_of segment h
 
 pub may_sector : (h : Hand) (stage : Stage) (block : ℕ) (lines : List Deed) → sector_may h stage block ≡ true → Fits h stage lines → MaySector h stage block lines
-may_sector h Waiting block lines is f = absurd (no is)
-may_sector h (Steps left segment) block lines is f = absurd (no is)
-may_sector h (UnderWay left segment) block lines is f = absurd (no is)
-may_sector h (AtOnce segment) block lines is f = absurd (no is)
-may_sector h (Moving segment zero verdict.Clean) block lines is f = absurd (no is)
+may_sector h Waiting block lines is f = absurd (false≢true is)
+may_sector h (Steps left segment) block lines is f = absurd (false≢true is)
+may_sector h (UnderWay left segment) block lines is f = absurd (false≢true is)
+may_sector h (AtOnce segment) block lines is f = absurd (false≢true is)
+may_sector h (Moving segment zero verdict.Clean) block lines is f = absurd (false≢true is)
 may_sector h (Moving segment (suc n) verdict.Clean) block lines is f = record { segment = segment; left = suc n; some = omega arith; open_now = f; block_is = same n block (start_of segment h) is }
   where
     same : (n a b : ℕ) → nat_lt 0 (suc n) && (a == b) ≡ true → a ≡ b
     same n a b is = grind (arith, nat_tests)
-may_sector h (Moving segment left (verdict.Burst at q)) block lines is f = absurd (no is)
-may_sector h (Moving segment left verdict.Hard) block lines is f = absurd (no is)
-may_sector h (Moving segment left (verdict.Faulted k)) block lines is f = absurd (no is)
-may_sector h (Moving segment left verdict.Marked) block lines is f = absurd (no is)
-may_sector h (Moving segment left verdict.Offline) block lines is f = absurd (no is)
-may_sector h (Saying rest next) block lines is f = absurd (no is)
-may_sector h (Ending answer) block lines is f = absurd (no is)
+may_sector h (Moving segment left (verdict.Burst at q)) block lines is f = absurd (false≢true is)
+may_sector h (Moving segment left verdict.Hard) block lines is f = absurd (false≢true is)
+may_sector h (Moving segment left (verdict.Faulted k)) block lines is f = absurd (false≢true is)
+may_sector h (Moving segment left verdict.Marked) block lines is f = absurd (false≢true is)
+may_sector h (Moving segment left verdict.Offline) block lines is f = absurd (false≢true is)
+may_sector h (Saying rest next) block lines is f = absurd (false≢true is)
+may_sector h (Ending answer) block lines is f = absurd (false≢true is)
 
 pub sector_goes : (sure : ℕ → Type 0) (homes : ℕ → Option ℕ) (first : ℕ) (r : Request) (p : Progress) (blocks : Blocks) (now : Work) (h : Hand) (stage : Stage) (block : ℕ)
     → sector_may h stage block ≡ true → StageStands sure homes first r p blocks now stage → is_transferring now ≡ true → is_writing now ≡ is_some r.written
 sector_goes sure homes first r p blocks now h (Moving segment left last) block is st = st.0
-sector_goes sure homes first r p blocks now h other block is st = absurd (no is)
+sector_goes sure homes first r p blocks now h other block is st = absurd (false≢true is)
 
 -- ---- the interrupt
 pub interrupted_hand : (sure : ℕ → Type 0) (homes : ℕ → Option ℕ) (first : ℕ) (r : Request) (p : Progress) (sectors : ℕ → List ℕ) (blocks : Blocks) (last : Moved)

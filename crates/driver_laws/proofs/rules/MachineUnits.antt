@@ -2,6 +2,7 @@
 use Rattle.std.proofs.Common.{◌≡◌, ◌≢◌, ℕ, ◌<◌, ◌≤◌, ◌+◌, ◌-◌, ◌==◌, ◌&&◌, ◌||◌, Bool, true, false, not, List, [], ◌∷◌, Option, Some, refl, sym, ap, ◌∙◌, subst, arith}
 use Rattle.std.specs.Prelude.{if◌then◌else◌, is_some}
 use Rattle.std.proofs.lemmas.Option.{same_Some, none-some}
+use Rattle.std.proofs.lemmas.Bool.{false≢true}
 use Rattle.pack_geometry.specs.declared.DriveKind.{DriveKind}
 use Rattle.pack_geometry.specs.declared.DriveKind.TheVariants.{Rp06, Rm03, Rm05}
 use Rattle.pack_geometry.specs.Geometry.{place_at, limit_of}
@@ -20,7 +21,7 @@ use Rattle.hardware_table.specs.Moves.{after_move, was_read}
 use Rattle.hardware_table.specs.Noise.{LiveNoise}
 use Rattle.trace_replay.specs.requests.ServiceOrder.{Waiting as Waiter}
 use Rattle.trace_replay.specs.requests.Requests.{Request, first_block}
-use Rattle.trace_replay.specs.Moments.{Deed, Search, Seek, Recal, Offset, Centre, Clear, Pack, Transfer, Arrive, Sector, Intr, Try, Attn, End}
+use Rattle.trace_replay.specs.Moments.{Deed, Centre, Clear, Pack, Transfer, Arrive, Sector, Intr, Try, Attn, End}
 use Rattle.trace_replay.specs.Drives.{takes, transfer_function, drive_after, addressed}
 use Rattle.trace_replay.specs.Packs.{flips_at, bytes_read}
 use Rattle.trace_replay.specs.Service.{first_waiting, request_or_none, ids, in_hand, target_of}
@@ -34,7 +35,7 @@ use Rattle.driver_laws.specs.rules.Stands.{Setup, home_in, HandStands, LastStand
 use Rattle.driver_laws.proofs.rules.Blocks.{size_small}
 use Rattle.driver_laws.proofs.rules.Noises.{struck_harmless}
 use Rattle.driver_laws.proofs.rules.Homes.{tried_home, home_is, there_is, homes_differ}
-use Rattle.driver_laws.proofs.rules.Tried.{no, TryOf, tried, verdict_moved}
+use Rattle.driver_laws.proofs.rules.Tried.{TryOf, tried, verdict_moved}
 use Rattle.driver_laws.proofs.rules.MachineStages.{MaySector, may_sector, sector_goes, due_goes, pack_stands, step_stands, said_stands, arrive_stands, attn_stands, interrupted_hand, interrupted_stage, last_stands}
 use Rattle.trace_replay.proofs.Histories.{WasMarked}
 
@@ -74,8 +75,8 @@ plain sure homes sectors blocks u d stage p is h st = record {
 -- ---- what is under way after a transfer command, and after a sector
 third : (a b c : Bool) → a && (b && c) ≡ true → c ≡ true
 third true true c is = is
-third true false c is = absurd (no is)
-third false b c is = absurd (no is)
+third true false c is = absurd (false≢true is)
+third false b c is = absurd (false≢true is)
 
 taken : (f : Function) (d : DriveState) → takes f d ≡ true → refusals f d == 0 ≡ true
 taken f d is = third (is_ready d.work) (not (needs_online f) || d.online) (refusals f d == 0) is
@@ -103,7 +104,7 @@ stepped_goes v a d w is = at (stepped v a).completion
   where
     at : (b : Bool) → is_transferring (if b then transfer_ended (after_move v (next_block a) d) else after_move v (next_block a) d).work ≡ true
         → is_writing (if b then transfer_ended (after_move v (next_block a) d) else after_move v (next_block a) d).work ≡ w
-    at true moves = absurd (no moves)
+    at true moves = absurd (false≢true moves)
     at false moves = ap is_writing (moved_work d.kind v (next_block a) d refl) ∙ is
 
 -- ---- A LINE

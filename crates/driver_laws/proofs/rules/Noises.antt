@@ -20,6 +20,7 @@ use Rattle.fire_code.specs.Burst.{places_of}
 use Rattle.hardware_table.specs.declared.Moved.{Moved}
 use Rattle.hardware_table.specs.declared.Moved.TheVariants as verdict
 use Rattle.hardware_table.specs.Moves.{IsReadVerdict}
+use Rattle.driver_laws.proofs.rules.Armed.{flips_of}
 
 -- ---- the noise that strikes is live
 found_in : (test : LiveNoise → Bool) (P : LiveNoise → Type 0) (live : List LiveNoise) (n : LiveNoise) → All P live → find test live ≡ Some n → P n × (test n ≡ true)
@@ -38,15 +39,11 @@ pub record Harmless (claimed : Type 0) (places : List ℕ) : Type 0 where
 placed : (unit block : ℕ) (n : LiveNoise) → is_at unit block n ≡ true → (n.unit ≡ unit) × (n.block ≡ block)
 placed unit block n is = grind (arith, nat_tests)
 
-ended_or : (b : Bool) (places other : List ℕ) → (if b then None else Some places) ≡ Some other → places ≡ other
-ended_or true places other is = absurd (none-some other is)
-ended_or false places other is = same_Some places other is
-
 flipped_by : (armed : List LiveNoise) (unit block word : ℕ) (o : Option LiveNoise) (places : List ℕ)
     → ((n : LiveNoise) → o ≡ Some n → IsLive armed n × (is_at unit block n ≡ true)) → flips word o ≡ Some places → Harmless (is_sure_among armed unit block) places
 flipped_by armed unit block word None places live is = absurd (none-some places is)
 flipped_by armed unit block word (Some n) places live is =
-    subst (λ z. Harmless (is_sure_among armed unit block) z) (ended_or (is_ended_by word n.span) n.places places is)
+    subst (λ z. Harmless (is_sure_among armed unit block) z) (flips_of (is_ended_by word n.span) n.places places is)
     (at (live n refl))
   where
     at : IsLive armed n × (is_at unit block n ≡ true) → Harmless (is_sure_among armed unit block) n.places

@@ -6,7 +6,7 @@ use Rattle.std.proofs.lemmas.Option.{none-some}
 use Rattle.std.proofs.lemmas.Bool.Decides.{eqb_tells}
 use Rattle.pack_geometry.specs.declared.DriveKind.{DriveKind}
 use Rattle.trace_replay.specs.requests.Requests.{Request}
-use Rattle.trace_replay.specs.Script.{Input, Submit, ArriveAt, MoveAt, AttendTo, Drain, Turn, Noise, Arm, SetOnline, SetLocked, Numbered, AreApart}
+use Rattle.trace_replay.specs.Script.{Input, Submit, Numbered, AreApart}
 use Rattle.trace_replay.specs.Moments.{Answered}
 use Rattle.trace_replay.specs.Replay.{Submission, Refused, Joined}
 use Rattle.driver_laws.specs.rules.Machine.{Machine, request_of, without, meets, after_input, answers_of_input, answers_at_once, Steps}

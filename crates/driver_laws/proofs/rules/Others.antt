@@ -2,16 +2,17 @@
 use Rattle.std.proofs.Common.{◌≡◌, ◌≢◌, inl, inr, ℕ, ◌<◌, ◌==◌, ◌&&◌, Bool, true, false, not, refl, sym, ap, ◌∙◌, subst, arith}
 use Rattle.std.specs.Int.{bit_at}
 use Rattle.std.proofs.lemmas.Bool.Decides.{eqb_tells}
+use Rattle.std.proofs.lemmas.Bool.{true≢false, ne_eqb, eqb-true}
 use Rattle.hardware_table.specs.Adapter.{AdapterState, stepped}
-use Rattle.trace_replay.specs.Moments.{Deed, Search, Seek, Recal, Offset, Centre, Clear, Pack, Transfer, Arrive, Sector, Intr, Try, Attn, End}
+use Rattle.trace_replay.specs.Moments.{Deed, Transfer, Arrive, Sector, Intr, Attn}
 use Rattle.trace_replay.specs.Adapters.{AdapterSeen, AdapterMay, adapter_after, ready_after, with_ready, is_busy_for, can_move, adapter_of, drive_of}
 use Rattle.trace_replay.specs.Conversation.{Stage}
 use Rattle.trace_replay.specs.Replay.{UnitSeen}
 use Rattle.driver_laws.specs.rules.Consistent.{is_moving, is_listed, Counts, Agrees, IsInOrder}
-use Rattle.driver_laws.proofs.rules.Stages.{nor, first_of, second_of}
-use Rattle.driver_laws.proofs.rules.Queues.{differ, is_same, raised_other, lowered_other, others_queued, others_joined, once_after, once_joined}
+use Rattle.driver_laws.proofs.rules.Queues.{raised_other, lowered_other, others_queued, others_joined, once_after, once_joined}
 use Rattle.driver_laws.proofs.rules.Driven.{stepped_keeps}
 use Rattle.driver_laws.proofs.rules.Own.{drive_below}
+use Rattle.driver_laws.proofs.rules.Stages.{first_of, second_of}
 
 -- an adapter's state has not changed for a unit
 pub record Spared (a b : AdapterState) (m : ℕ) : Type 0 where
@@ -26,8 +27,8 @@ untouched a m = record { busy = refl; bit = refl; completion = λ e. refl; bytes
 -- busy for one drive, it is not for another
 not_for : (a : AdapterState) (n m : ℕ) → drive_of m ≢ drive_of n → is_busy_for a n ≡ true → is_busy_for a m ≡ false
 not_for a n m apart busy =
-    ap (λ z. a.busy && (z == drive_of m)) (is_same a.drive (drive_of n) (second_of a.busy (a.drive == drive_of n) busy))
-    ∙ ap (λ z. a.busy && z) (differ (drive_of n) (drive_of m) (λ is. apart (sym is))) ∙ never a.busy
+    ap (λ z. a.busy && (z == drive_of m)) (eqb-true a.drive (drive_of n) (second_of a.busy (a.drive == drive_of n) busy))
+    ∙ ap (λ z. a.busy && z) (ne_eqb (drive_of n) (drive_of m) (λ is. apart (sym is))) ∙ never a.busy
   where
     never : (b : Bool) → b && false ≡ false
     never true = refl
@@ -35,23 +36,23 @@ not_for a n m apart busy =
 
 pub spared : (a : AdapterState) (n m : ℕ) (deed : Deed) → drive_of m ≢ drive_of n → AdapterMay a n deed → Spared a (adapter_after a n deed) m
 spared a n m (Transfer w b k) apart may = record {
-  busy = differ (drive_of n) (drive_of m) (λ is. apart (sym is)) ∙ sym (ap (λ z. z && (a.drive == drive_of m)) may);
+  busy = ne_eqb (drive_of n) (drive_of m) (λ is. apart (sym is)) ∙ sym (ap (λ z. z && (a.drive == drive_of m)) may);
   bit = refl;
-  completion = λ e. absurd (nor (sym e ∙ ap (λ z. z && (a.drive == drive_of m)) may));
-  bytes = λ e. absurd (nor (sym e ∙ ap (λ z. z && (a.drive == drive_of m)) may));
+  completion = λ e. absurd (true≢false (sym e ∙ ap (λ z. z && (a.drive == drive_of m)) may));
+  bytes = λ e. absurd (true≢false (sym e ∙ ap (λ z. z && (a.drive == drive_of m)) may));
 }
 spared a n m Arrive apart may = record { busy = refl; bit = raised_other a.attentions (drive_of n) (drive_of m) (drive_below n) apart; completion = λ e. refl; bytes = λ e. refl }
 spared a n m (Sector b v) apart may = record {
   busy = ap (λ z. z && ((stepped v a).drive == drive_of m)) (stepped_keeps v a).0 ∙ ap (λ z. a.busy && (z == drive_of m)) (stepped_keeps v a).1;
   bit = ap (λ z. bit_at z (drive_of m)) (stepped_keeps v a).2;
-  completion = λ e. absurd (nor (sym e ∙ not_for a n m apart (first_of (is_busy_for a n) (can_move a) may.0)));
-  bytes = λ e. absurd (nor (sym e ∙ not_for a n m apart (first_of (is_busy_for a n) (can_move a) may.0)));
+  completion = λ e. absurd (true≢false (sym e ∙ not_for a n m apart (first_of (is_busy_for a n) (can_move a) may.0)));
+  bytes = λ e. absurd (true≢false (sym e ∙ not_for a n m apart (first_of (is_busy_for a n) (can_move a) may.0)));
 }
 spared a n m Intr apart may = record {
   busy = sym (not_for a n m apart (first_of (is_busy_for a n) a.completion may));
   bit = refl;
-  completion = λ e. absurd (nor (sym e ∙ not_for a n m apart (first_of (is_busy_for a n) a.completion may)));
-  bytes = λ e. absurd (nor (sym e ∙ not_for a n m apart (first_of (is_busy_for a n) a.completion may)));
+  completion = λ e. absurd (true≢false (sym e ∙ not_for a n m apart (first_of (is_busy_for a n) a.completion may)));
+  bytes = λ e. absurd (true≢false (sym e ∙ not_for a n m apart (first_of (is_busy_for a n) a.completion may)));
 }
 spared a n m Attn apart may = record { busy = refl; bit = lowered_other a.attentions (drive_of n) (drive_of m) (drive_below n) (drive_below m) apart; completion = λ e. refl; bytes = λ e. refl }
 spared a n m other apart may = untouched a m
@@ -88,9 +89,9 @@ drives_differ n m apart at is = apart (omega (arith, at, is))
 -- ---- the adapter
 state_in_order : (a : AdapterState) (n : ℕ) (deed : Deed) → AdapterMay a n deed → a.drive < 8 → (a.busy ≡ false → a.completion ≡ false)
     → ((adapter_after a n deed).drive < 8) × ((adapter_after a n deed).busy ≡ false → (adapter_after a n deed).completion ≡ false)
-state_in_order a n (Transfer w b k) may low free = (drive_below n, λ e. absurd (nor e))
+state_in_order a n (Transfer w b k) may low free = (drive_below n, λ e. absurd (true≢false e))
 state_in_order a n (Sector b v) may low free =
-    (subst (λ z. z < 8) (sym (stepped_keeps v a).1) low, λ e. absurd (nor (sym (first_of a.busy (a.drive == drive_of n) (first_of (is_busy_for a n) (can_move a) may.0)) ∙ sym (stepped_keeps v a).0 ∙ e)))
+    (subst (λ z. z < 8) (sym (stepped_keeps v a).1) low, λ e. absurd (true≢false (sym (first_of a.busy (a.drive == drive_of n) (first_of (is_busy_for a n) (can_move a) may.0)) ∙ sym (stepped_keeps v a).0 ∙ e)))
 state_in_order a n Intr may low free = (low, λ e. refl)
 state_in_order a n other may low free = (low, free)
 

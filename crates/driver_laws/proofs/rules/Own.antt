@@ -4,6 +4,7 @@ use Rattle.std.specs.Prelude.{if◌then◌else◌}
 use Rattle.std.specs.Int.{bit_at}
 use Rattle.std.proofs.lemmas.Bool.Decides.{nat_tests}
 use Rattle.std.proofs.lemmas.Option.{none-some}
+use Rattle.std.proofs.lemmas.Bool.{false≢true, true≢false, false_from_ne_true, or_parts, eqb-true}
 use Rattle.pack_geometry.specs.declared.Place.{Place}
 use Rattle.pack_geometry.specs.Geometry.{place_at}
 use Rattle.drive_registers.specs.declared.Function.TheVariants as function
@@ -24,8 +25,8 @@ use Rattle.trace_replay.specs.Service.{ServiceMay, service_after, head_of, ids, 
 use Rattle.trace_replay.specs.Conversation.{Moving, UnderWay, OwnBlocks, TalkMay, progress_after, stage_after, segment_of, last_of, is_waiting, waits, is_under_way, is_clean, said, step_ended, step_taken, begun, due, Segment, left_of}
 use Rattle.trace_replay.specs.Replay.{UnitSeen, hand_of, adapter_told}
 use Rattle.driver_laws.specs.rules.Consistent.{is_moving, may_have_errors, is_well_said, is_listed, Counts, is_cleared_next, Agrees}
-use Rattle.driver_laws.proofs.rules.Stages.{nor, first_of, second_of, sort_of, allowed, Positions, Says, due_allowed, Quiet, quiet_before, Stepping, step_begins, Quieted, Ended, said_on, step_over, first_said, transfers_clear, ends_clear, under_way, WasMoving, sector_moving, WasMoved, intr_moving, interrupted_quiet, cleared_first, begun_waits, begun_still, no}
-use Rattle.driver_laws.proofs.rules.Queues.{queued_after, same, is_same, raised_same, lowered_same}
+use Rattle.driver_laws.proofs.rules.Stages.{sort_of, allowed, Positions, Says, due_allowed, Quiet, quiet_before, Stepping, step_begins, Quieted, Ended, said_on, step_over, first_said, transfers_clear, ends_clear, under_way, WasMoving, sector_moving, WasMoved, intr_moving, interrupted_quiet, cleared_first, begun_waits, begun_still, first_of, second_of}
+use Rattle.driver_laws.proofs.rules.Queues.{queued_after, same, raised_same, lowered_same}
 use Rattle.driver_laws.proofs.rules.Driven.{DriveIs, search_is, seek_is, recal_is, offset_is, centre_is, pack_is, clear_is, transfer_is, arrived_is, sector_is, clean_sector, stepped_keeps}
 
 -- from what is known of its parts
@@ -47,15 +48,11 @@ settled {u} {a} {n} p t c d under never trans busy bit queued held errors well c
 }
 
 -- where nothing is under way
-nothing_of : (x y : Bool) → x || y ≡ false → (x ≡ false) × (y ≡ false)
-nothing_of true y e = absurd (nor e)
-nothing_of false y e = (refl, e)
-
 pub at_rest : {u : UnitSeen} {a : AdapterSeen} {n : ℕ} → Agrees u a n → is_under_way u.stage ≡ false → is_moving u.stage ≡ false → DriveIs u.drive false false false
 at_rest {u} {a} g under moving = record {
-  positions = (nothing_of (is_positioning u.drive.work) u.drive.attention (sym g.positions ∙ under)).0;
+  positions = (or_parts (is_positioning u.drive.work) u.drive.attention (sym g.positions ∙ under)).0;
   transfers = g.transfers ∙ ap (λ b. b && not a.state.completion) moving;
-  calls = (nothing_of (is_positioning u.drive.work) u.drive.attention (sym g.positions ∙ under)).1;
+  calls = (or_parts (is_positioning u.drive.work) u.drive.attention (sym g.positions ∙ under)).1;
 }
 
 -- THE UNIT AFTER A LINE, over its parts
@@ -79,7 +76,7 @@ stepping : {u u' : UnitSeen} {a a' : AdapterSeen} {n : ℕ} → Agrees u a n →
 stepping {u} {u'} {a} {a'} {n} g st d errors state busy bit queued held =
     settled true false false d st.under refl (sym (ap (λ b. b && not a'.state.completion) st.moving)) (ap (λ z. is_busy_for z n) state ∙ busy ∙ sym st.moving)
     (ap (λ (z : AdapterState). bit_at z.attentions (drive_of n)) state ∙ bit) queued (st.waiting ∙ sym (ap not held))
-    (λ e. absurd (nor (sym (g.errors (sym errors ∙ e)) ∙ st.clear))) st.said (λ e. absurd (nor (sym e ∙ st.moving)))
+    (λ e. absurd (true≢false (sym (g.errors (sym errors ∙ e)) ∙ st.clear))) st.said (λ e. absurd (true≢false (sym e ∙ st.moving)))
 
 -- ---- a line behind which nothing is under way
 resting : {u' : UnitSeen} {a' : AdapterSeen} {n : ℕ} → Quiet u'.stage → DriveIs u'.drive false false false → (has_error u'.drive ≡ true → may_have_errors u'.stage ≡ true)
@@ -87,7 +84,7 @@ resting : {u' : UnitSeen} {a' : AdapterSeen} {n : ℕ} → Quiet u'.stage → Dr
     → is_some (head_of u'.service) ≡ true → Agrees u' a' n
 resting {u'} {a'} {n} q d errors busy bit queued held =
     settled false false false d q.under refl (sym (ap (λ b. b && not a'.state.completion) q.moving)) (busy ∙ sym q.moving) bit queued (q.waiting ∙ sym (ap not held)) errors q.said
-    (λ e. absurd (nor (sym e ∙ q.moving)))
+    (λ e. absurd (true≢false (sym e ∙ q.moving)))
 
 there_is : (next : Option Request) (id : ℕ) → ids next ≡ Some id → is_some next ≡ true
 there_is None id is = absurd (none-some id is)
@@ -111,12 +108,8 @@ before {u} {a} {n} g q = record {
 again : {d e : DriveState} {p t c : Bool} → e.work ≡ d.work → e.attention ≡ d.attention → DriveIs d p t c → DriveIs e p t c
 again w c f = record { positions = ap is_positioning w ∙ f.positions; transfers = ap is_transferring w ∙ f.transfers; calls = c ∙ f.calls }
 
-not_so : (b : Bool) → (b ≡ true → ⊥) → b ≡ false
-not_so true h = absurd (h refl)
-not_so false h = refl
-
 first_not : (x y : Bool) → y ≡ true → x && y ≡ false → x ≡ false
-first_not true y is e = absurd (nor (sym is ∙ e))
+first_not true y is e = absurd (true≢false (sym is ∙ e))
 first_not false y is e = refl
 
 pub drive_below : (n : ℕ) → drive_of n < 8
@@ -144,11 +137,11 @@ none_left left is = omega (arith, is)
 
 sector_counts : (v : Moved) (a : AdapterState) (segment : Segment) (left : ℕ) → a.byte_count ≡ 512 * left → nat_lt 0 left ≡ true → Counts (Moving segment (left - 1) v) (stepped v a)
 sector_counts verdict.Clean a segment left is some = record {
-  stopped = λ e. absurd (no e);
+  stopped = λ e. absurd (false≢true e);
   counted = λ e. one_less a.byte_count left is some;
-  finished = λ e c. none_left (left - 1) (sym (one_less a.byte_count left is some) ∙ is_same (a.byte_count - min 512 a.byte_count) 0 c);
+  finished = λ e c. none_left (left - 1) (sym (one_less a.byte_count left is some) ∙ eqb-true (a.byte_count - min 512 a.byte_count) 0 c);
 }
-sector_counts other a segment left is some = record { stopped = λ e. refl; counted = λ e. absurd (nor e); finished = λ e. absurd (nor e) }
+sector_counts other a segment left is some = record { stopped = λ e. refl; counted = λ e. absurd (true≢false e); finished = λ e. absurd (true≢false e) }
 
 -- ---- each line
 module _ (u : UnitSeen) (a : AdapterSeen) (n id : ℕ) (bytes : List ℕ) (g : Agrees u a n) (serves : ServiceMay u.service id) where
@@ -166,7 +159,7 @@ module _ (u : UnitSeen) (a : AdapterSeen) (n id : ℕ) (bytes : List ℕ) (g : A
 
   -- a unit that was not ready
   was_not : (w : Bool) → waits u.stage ≡ false → is_listed n a.ready ≡ true → w ≡ true
-  was_not w free l = absurd (nor (sym l ∙ g.queued ∙ free))
+  was_not w free l = absurd (true≢false (sym l ∙ g.queued ∙ free))
 
   steps : (deed : Deed) → allowed u.stage Positions ≡ true
       → DriveIs (UnitNext u a deed bytes).drive true false false × (has_error (UnitNext u a deed bytes).drive ≡ has_error u.drive)
@@ -205,7 +198,7 @@ module _ (u : UnitSeen) (a : AdapterSeen) (n id : ℕ) (bytes : List ℕ) (g : A
       → DriveIs (UnitNext u a deed bytes).drive false false false → (has_error (UnitNext u a deed bytes).drive ≡ false)
       → (UnitNext u a deed bytes).stage ≡ said u.stage → (AdapterNext u a n deed bytes).state ≡ a.state → service_after u.service deed ≡ u.service → Goal deed
   speaks deed comes sort d clear stage state service =
-      resting q.quiet d (λ e. absurd (nor (sym e ∙ clear))) (ap (λ z. is_busy_for z n) state ∙ b.busy) (ap (λ (z : AdapterState). bit_at z.attentions (drive_of n)) state ∙ b.bit)
+      resting q.quiet d (λ e. absurd (true≢false (sym e ∙ clear))) (ap (λ z. is_busy_for z n) state ∙ b.busy) (ap (λ (z : AdapterState). bit_at z.attentions (drive_of n)) state ∙ b.bit)
       (queued_after (waits (UnitNext u a deed bytes).stage) n deed a.ready (λ e. was_not (waits (UnitNext u a deed bytes).stage) q.free))
       (ap (λ z. is_some (head_of z)) service ∙ there)
     where
@@ -217,7 +210,7 @@ module _ (u : UnitSeen) (a : AdapterSeen) (n id : ℕ) (bytes : List ℕ) (g : A
 
   faultless : (deed : Deed) → due u.drive (hand_of u) u.stage ≡ Some deed → sort_of deed ≡ Says → ((rest : List Deed) → is_cleared_next (deed ∷ rest) ≡ false) → has_error u.drive ≡ false
   faultless deed comes sort other =
-      not_so (has_error u.drive) (λ e. nor (sym (g.errors e) ∙ first_said u.drive (hand_of u) u.stage deed comes (subst (λ z. allowed u.stage z ≡ true) sort (allows deed comes)) other))
+      false_from_ne_true (has_error u.drive) (λ e. true≢false (sym (g.errors e) ∙ first_said u.drive (hand_of u) u.stage deed comes (subst (λ z. allowed u.stage z ≡ true) sort (allows deed comes)) other))
 
   own_centre : Comes Centre → DriveMay u.drive Target Centre → Goal Centre
   own_centre comes may = speaks Centre comes refl (again refl refl d.0) (d.1 ∙ faultless Centre comes refl (λ rest. refl)) refl refl refl
@@ -248,9 +241,9 @@ module _ (u : UnitSeen) (a : AdapterSeen) (n id : ℕ) (bytes : List ℕ) (g : A
   -- a transfer is commanded
   own_transfer : (write : Bool) (block count : ℕ) → Comes (Transfer write block count) → DriveMay u.drive Target (Transfer write block count) → Goal (Transfer write block count)
   own_transfer write block count comes may =
-      settled false true false d.0 refl refl refl (same (drive_of n)) b.bit (queued_after false n (Transfer write block count) a.ready (λ e. absurd (nor e)))
-      (sym (ap not there)) (λ e. absurd (nor (sym (g.errors (sym d.1 ∙ e)) ∙ transfers_clear u.stage (allows (Transfer write block count) comes)))) refl
-      (λ e. record { stopped = λ e. absurd (no e); counted = λ e. whole count; finished = λ e c. absurd (no c) })
+      settled false true false d.0 refl refl refl (same (drive_of n)) b.bit (queued_after false n (Transfer write block count) a.ready (λ e. absurd (true≢false e)))
+      (sym (ap not there)) (λ e. absurd (true≢false (sym (g.errors (sym d.1 ∙ e)) ∙ transfers_clear u.stage (allows (Transfer write block count) comes)))) refl
+      (λ e. record { stopped = λ e. absurd (false≢true e); counted = λ e. whole count; finished = λ e c. absurd (false≢true c) })
     where
       b : Before u a n
       b = calm (Transfer write block count) comes
@@ -264,7 +257,7 @@ module _ (u : UnitSeen) (a : AdapterSeen) (n id : ℕ) (bytes : List ℕ) (g : A
       settled false false true d.0 w.under refl (sym (ap (λ b. b && not a.state.completion) w.moving)) g.busy
       (raised_same a.state.attentions (drive_of n) (drive_below n))
       (queued_after (waits u.stage) n Arrive a.ready (λ e l. sym g.queued ∙ l)) (w.waiting ∙ sym (ap not there)) (λ e. g.errors (sym d.1 ∙ e)) g.said
-      (λ e. absurd (nor (sym e ∙ w.moving)))
+      (λ e. absurd (true≢false (sym e ∙ w.moving)))
     where
       w : Stepping (UnderWay [] OwnBlocks) u.stage
       w = under_way u.stage comes
@@ -275,7 +268,7 @@ module _ (u : UnitSeen) (a : AdapterSeen) (n id : ℕ) (bytes : List ℕ) (g : A
   own_attn : Comes Attn → DriveMay u.drive Target Attn → Goal Attn
   own_attn comes may =
       resting q.quiet (record { positions = first_not (is_positioning u.drive.work) u.drive.attention may g.never_both; transfers = g.transfers ∙ ap (λ b. b && not a.state.completion) w.moving; calls = refl })
-      (λ e. absurd (nor (sym (g.errors e) ∙ (step_over u.stage comes).clear))) (g.busy ∙ w.moving) (lowered_same a.state.attentions (drive_of n) (drive_below n))
+      (λ e. absurd (true≢false (sym (g.errors e) ∙ (step_over u.stage comes).clear))) (g.busy ∙ w.moving) (lowered_same a.state.attentions (drive_of n) (drive_below n))
       (queued_after (waits (step_ended u.stage)) n Attn a.ready (λ e. was_not (waits (step_ended u.stage)) q.free)) there
     where
       w : Stepping (UnderWay [] OwnBlocks) u.stage
@@ -302,9 +295,9 @@ module _ (u : UnitSeen) (a : AdapterSeen) (n id : ℕ) (bytes : List ℕ) (g : A
 
       was : DriveIs u.drive false true false
       was = record {
-        positions = (nothing_of (is_positioning u.drive.work) u.drive.attention (sym g.positions ∙ m.under)).0;
+        positions = (or_parts (is_positioning u.drive.work) u.drive.attention (sym g.positions ∙ m.under)).0;
         transfers = g.transfers ∙ ap (λ b. b && not a.state.completion) m.moving ∙ second_of a.state.busy (not a.state.completion) moves;
-        calls = (nothing_of (is_positioning u.drive.work) u.drive.attention (sym g.positions ∙ m.under)).1;
+        calls = (or_parts (is_positioning u.drive.work) u.drive.attention (sym g.positions ∙ m.under)).1;
       }
 
       busy : is_busy_for (stepped v a.state) n ≡ true
@@ -314,7 +307,7 @@ module _ (u : UnitSeen) (a : AdapterSeen) (n id : ℕ) (bytes : List ℕ) (g : A
       errors e = at (is_clean v) refl
         where
           at : (b : Bool) → is_clean v ≡ b → not (is_clean v) ≡ true
-          at true c = absurd (nor (sym (g.errors (sym (clean_sector v a.state u.drive c) ∙ e)) ∙ m.clean))
+          at true c = absurd (true≢false (sym (g.errors (sym (clean_sector v a.state u.drive c) ∙ e)) ∙ m.clean))
           at false c = ap not c
 
   own_intr : Comes Intr → AdapterMay a.state n Intr → Goal Intr
@@ -327,9 +320,9 @@ module _ (u : UnitSeen) (a : AdapterSeen) (n id : ℕ) (bytes : List ℕ) (g : A
 
       was : DriveIs u.drive false false false
       was = record {
-        positions = (nothing_of (is_positioning u.drive.work) u.drive.attention (sym g.positions ∙ m.under)).0;
+        positions = (or_parts (is_positioning u.drive.work) u.drive.attention (sym g.positions ∙ m.under)).0;
         transfers = g.transfers ∙ ap (λ b. b && not a.state.completion) m.moving ∙ ap not (second_of (is_busy_for a.state n) a.state.completion may);
-        calls = (nothing_of (is_positioning u.drive.work) u.drive.attention (sym g.positions ∙ m.under)).1;
+        calls = (or_parts (is_positioning u.drive.work) u.drive.attention (sym g.positions ∙ m.under)).1;
       }
 
       errors : has_error u.drive ≡ true → may_have_errors (UnitNext u a Intr bytes).stage ≡ true
@@ -338,10 +331,10 @@ module _ (u : UnitSeen) (a : AdapterSeen) (n id : ℕ) (bytes : List ℕ) (g : A
   own_end : (answer : Answer) → Comes (End answer) → Goal (End answer)
   own_end answer comes =
       settled false false false b.rest s.0 refl (sym (ap (λ z. z && not a.state.completion) s.1)) (b.busy ∙ sym s.1) b.bit
-      (queued_after (waits (begun u.drive (head_of (service_after u.service (End answer))))) n (End answer) a.ready (λ e. absurd (nor e)))
+      (queued_after (waits (begun u.drive (head_of (service_after u.service (End answer))))) n (End answer) a.ready (λ e. absurd (true≢false e)))
       (begun_waits u.drive (head_of (service_after u.service (End answer))))
-      (λ e. absurd (nor (sym (g.errors e) ∙ ends_clear u.stage (allows (End answer) comes)))) s.2
-      (λ e. absurd (nor (sym e ∙ s.1)))
+      (λ e. absurd (true≢false (sym (g.errors e) ∙ ends_clear u.stage (allows (End answer) comes)))) s.2
+      (λ e. absurd (true≢false (sym e ∙ s.1)))
     where
       b : Before u a n
       b = calm (End answer) comes

@@ -3,15 +3,16 @@ use Rattle.std.proofs.Common.{◌≡◌, inl, inr, ℕ, ◌+◌, ◌≤◌, ◌=
 use Rattle.std.specs.Prelude.{if◌then◌else◌}
 use Rattle.std.specs.List.{list_any}
 use Rattle.std.proofs.lemmas.Option.{same_Some, none-some}
-use Rattle.std.proofs.lemmas.Bool.Decides.{eqb_tells, nat_tests}
+use Rattle.std.proofs.lemmas.Bool.Decides.{eqb_tells}
+use Rattle.std.proofs.lemmas.Bool.{eqb-true}
 use Rattle.pack_geometry.specs.declared.DriveKind.{DriveKind}
 use Rattle.pack_geometry.specs.TableSpelling.{Table}
 use Rattle.hardware_table.specs.Drive.{DriveState}
 use Rattle.trace_replay.specs.requests.Requests.{Failed, Offline, Locked, Rejection, rejection_answer}
-use Rattle.trace_replay.specs.Moments.{Deed, Search, Seek, Recal, Offset, Centre, Clear, Pack, Transfer, Arrive, Sector, Intr, Try, Attn, End, Moment, Played, Told, Idle}
+use Rattle.trace_replay.specs.Moments.{Deed, Search, Seek, Recal, Offset, Pack, Transfer, Arrive, Sector, Intr, Attn, End, Moment, Played, Told, Idle}
 use Rattle.trace_replay.specs.Adapters.{AdapterSeen, adapter_of, with_ready}
 use Rattle.trace_replay.specs.Packs.{Surface}
-use Rattle.trace_replay.specs.Conversation.{Positioning, SearchFor, Recalibrate, SeekTo, OffsetBy, Segment, Hand, is_write, transfer_of, command_of, needs_unlocked, guarded, due, Stage, Waiting, Steps, UnderWay, AtOnce, Moving, Saying, Ending, TalkMay, goes_on}
+use Rattle.trace_replay.specs.Conversation.{Positioning, SearchFor, Segment, Hand, is_write, transfer_of, command_of, needs_unlocked, guarded, due, Stage, Waiting, Steps, UnderWay, AtOnce, Moving, Saying, Ending, TalkMay, goes_on}
 use Rattle.trace_replay.specs.Events.{Act, Done, Refusing, Arriving, Trying, Serving, NothingToDo, Event, Wish, NoLine, DueLine, Arrival, SectorLine, Interrupt, Attention, Refusal, IdleLine, wish_of, wish_in, wanted, first_ready, is_no_line}
 use Rattle.trace_replay.specs.Replay.{Replay, new_replay, with_state, next_wish, hand_of, act_drained, drained, LineMay, ToldMay, Follows, after_moment, after_moments, unit_after, adapter_told, told_after, replay_told}
 use Rattle.trace_replay.specs.History.{with_deed, lines_after, lines_behind}
@@ -20,6 +21,7 @@ use Rattle.trace_replay.proofs.Histories.{Fits, AreSaid}
 use Rattle.trace_replay.proofs.Kept.{AllFit, EndKept, end_kept, told_all, played_all, refused_is, no}
 use Rattle.driver_laws.specs.rules.Commands.{command_by, commands_in}
 use Rattle.driver_laws.proofs.rules.Costs.{cost_by, cost_in}
+use Rattle.driver_laws.proofs.rules.Queues.{same as its_test}
 
 -- the last line is PACK
 abbrev pub pack_last : List Deed → ℕ
@@ -187,12 +189,6 @@ waits_on adapters unit segment (Serving a false []) is = elim (eqb_tells a (adap
   | inr other ↦ rw other.0 is
 ]
 
-equal : (a c : ℕ) → a == c ≡ true → a ≡ c
-equal a c h = grind (arith, nat_tests)
-
-its_test : (x : ℕ) → x == x ≡ true
-its_test x = grind (arith, nat_tests)
-
 -- whose line comes next, by the stages of the speaker
 speaks_by : (adapters : ℕ → AdapterSeen) (e : Event) (speaker_stage stage : Stage) (unit : ℕ) → wanted adapters e (goes_on speaker_stage) ≡ DueLine unit
     → (e.speaker ≡ unit → speaker_stage ≡ stage) → wants_command stage ≡ true
@@ -286,7 +282,7 @@ line_packs s line unit id deed lines may all p = record { packed = packed_of; co
     packed_by x false is same last = absurd (other_packed x is last)
 
     packed_of : (x : ℕ) → pack_last (lines_after x (Told line unit id deed) (lines x)) ≡ 1 → Packed (drained (replay_told s unit deed (unit_after s unit deed))) x
-    packed_of x last = packed_by x (x == unit) refl (λ is. equal x unit is) last
+    packed_of x last = packed_by x (x == unit) refl (λ is. eqb-true x unit is) last
 
     counted_of : (x : ℕ) → commands_in (lines_after x (Told line unit id deed) (lines x)) ≤ cost_in (lines_after x (Told line unit id deed) (lines x)) + pack_last (lines_after x (Told line unit id deed) (lines x))
     counted_of x = elim (eqb_tells x unit) [

@@ -4,7 +4,7 @@ use Rattle.std.proofs.lemmas.Bool.Decides.{nat_tests}
 use Rattle.pack_geometry.specs.PackTable.{AreTablesOf}
 use Rattle.hardware_table.specs.Noise.{LiveNoise}
 use Rattle.trace_replay.specs.requests.Requests.{Request}
-use Rattle.trace_replay.specs.Script.{Input, Submit, ArriveAt, MoveAt, AttendTo, Drain, Turn, Noise, Arm, SetOnline, SetLocked, IsInput, AreApart}
+use Rattle.trace_replay.specs.Script.{Input, Submit, IsInput, AreApart}
 use Rattle.trace_replay.specs.Moments.{Moment, Played, Told, Idle, played, answers_in, Answered}
 use Rattle.trace_replay.specs.Events.{Event}
 use Rattle.trace_replay.specs.Replay.{Replay, Submission, Refused, Joined, submission, submitted, event_of, InputMay, Follows, after_moment, after_moments}
@@ -36,7 +36,7 @@ same_behind s n line other = refl
 numbered_keeps : (setup : Setup) (s : Replay) (n : ℕ) → Keeps setup s → Keeps setup (numbered n s)
 numbered_keeps setup s n k = record { lines = k.lines; fits = k.fits; marked = k.marked; kinds = k.kinds; tables = k.tables; marks = k.marks; quiet = k.quiet; refusing = k.refusing }
 
-may_input : (s : Replay) (line : ℕ) → 1 ≤ line → MayPlay s → InputMay (numbered 0 s) line
+pub may_input : (s : Replay) (line : ℕ) → 1 ≤ line → MayPlay s → InputMay (numbered 0 s) line
 may_input s line some may = record { later = below line some; over = may.over; finished = may.finished; at_work = may.at_work }
   where
     below : (n : ℕ) → 1 ≤ n → nat_lt 0 n ≡ true

@@ -1,12 +1,12 @@
 -- No id is asked for twice, so the line that submits a request is the only one with its id.
-use Rattle.std.proofs.Common.{◌≡◌, inl, inr, ◌⊎◌, ℕ, ◌≤◌, ◌+◌, ◌==◌, ◌||◌, Bool, true, false, List, [], ◌∷◌, ◌++◌, refl, sym, ap, ◌∙◌, subst, arith}
+use Rattle.std.proofs.Common.{◌≡◌, inl, inr, ◌⊎◌, ℕ, ◌≤◌, ◌+◌, ◌==◌, false, List, [], ◌∷◌, ◌++◌, refl, sym, ap, ◌∙◌, subst, arith}
 use Rattle.std.specs.Prelude.{if◌then◌else◌}
 use Rattle.std.specs.List.{list_any}
 use Rattle.std.proofs.lemmas.Bool.Decides.{eqb_tells}
-use Rattle.std.proofs.lemmas.Bool.{eq-eqb}
+use Rattle.std.proofs.lemmas.Bool.{eq-eqb, or_parts}
 use Rattle.trace_replay.specs.requests.Requests.{Request}
 use Rattle.trace_replay.specs.Service.{no_request}
-use Rattle.trace_replay.specs.Script.{Input, Submit, ArriveAt, MoveAt, AttendTo, Drain, Turn, Noise, Arm, SetOnline, SetLocked, AreApart}
+use Rattle.trace_replay.specs.Script.{Input, Submit, AreApart}
 use Rattle.trace_replay.specs.Moments.{Moment, Played, Told, Idle, played}
 use Rattle.driver_laws.specs.rules.Grounds.{WasPlayed, Submits}
 use Rattle.driver_laws.specs.rules.LegalAnswers.{with_asked, ids_asked}
@@ -36,9 +36,6 @@ sort (Submit r) = inl (record { request = r; is = refl })
 sort other = inr (record { none = λ id. refl; same = λ ids. refl })
 
 -- ---- ids that stand apart are asked for once at most
-parts : (a b : Bool) → a || b ≡ false → (a ≡ false) × (b ≡ false)
-parts true b is = absurd (grind (arith, is))
-parts false b is = (refl, is)
 
 nothing : (n : ℕ) → n ≡ 0 → 0 + n ≡ 0
 nothing n e = omega (arith, e)
@@ -54,7 +51,7 @@ not_in id (Played line input ∷ ms) none = at (not_in id ms) (sort input)
     at before (inl s) = subst (λ z. asks id z + times id ms ≡ 0) (sym s.is) (rw both.0 (nothing (times id ms) (before both.1)))
       where
         both : (s.request.id == id ≡ false) × (list_any (λ other. other == id) (ids_asked (played ms)) ≡ false)
-        both = parts (s.request.id == id) (list_any (λ other. other == id) (ids_asked (played ms))) (subst (λ z. list_any (λ other. other == id) (with_asked z (ids_asked (played ms))) ≡ false) s.is none)
+        both = or_parts (s.request.id == id) (list_any (λ other. other == id) (ids_asked (played ms))) (subst (λ z. list_any (λ other. other == id) (with_asked z (ids_asked (played ms))) ≡ false) s.is none)
     at before (inr quiet) = ap (λ z. z + times id ms) (quiet.none id) ∙ nothing (times id ms) (before (subst (λ z. list_any (λ other. other == id) z ≡ false) (quiet.same (ids_asked (played ms))) none))
 
 zero_more : (n : ℕ) → n ≤ 1 → 0 + n ≤ 1

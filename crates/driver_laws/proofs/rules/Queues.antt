@@ -5,29 +5,17 @@ use Rattle.std.specs.Int.{bit_at}
 use Rattle.std.proofs.lemmas.Bool.Decides.{eqb_tells}
 use Rattle.std.proofs.lemmas.Nat.{one_shl}
 use Rattle.std.proofs.lemmas.Nat.Bits.{bit_at_set_same, bit_at_set_other, bit_at_clear_same, bit_at_clear_other}
+use Rattle.std.proofs.lemmas.Bool.{false≢true, true≢false, ne_eqb, eqb-true}
 use Rattle.trace_replay.specs.Script.{AreApart}
 use Rattle.trace_replay.specs.Moments.{Deed}
 use Rattle.trace_replay.specs.Adapters.{without, with_ready, ready_after, leaves}
 use Rattle.driver_laws.specs.rules.Consistent.{is_listed}
-use Rattle.driver_laws.proofs.rules.Stages.{no, nor}
 
 -- ---- without a unit
 pub same : (n : ℕ) → (n == n) ≡ true
 same n = elim (eqb_tells n n) [
   | inl is ↦ is.0
   | inr other ↦ absurd (other.1 refl)
-]
-
-pub differ : (n m : ℕ) → n ≢ m → (n == m) ≡ false
-differ n m apart = elim (eqb_tells n m) [
-  | inl is ↦ absurd (apart is.1)
-  | inr other ↦ other.0
-]
-
-pub is_same : (n m : ℕ) → (n == m) ≡ true → n ≡ m
-is_same n m e = elim (eqb_tells n m) [
-  | inl is ↦ is.1
-  | inr other ↦ absurd (no (sym other.0 ∙ e))
 ]
 
 pub gone : (n : ℕ) (xs : List ℕ) → is_listed n (without n xs) ≡ false
@@ -44,7 +32,7 @@ others_stay n m (x ∷ xs) apart = at (x == n) refl (others_stay n m xs apart)
   where
     at : (b : Bool) → (x == n) ≡ b → is_listed m (without n xs) ≡ is_listed m xs
         → is_listed m (if not (x == n) then x ∷ without n xs else without n xs) ≡ (x == m) || is_listed m xs
-    at true e rest = rw e (rest ∙ ap (λ b. b || is_listed m xs) (sym (differ x m (λ is. apart (sym is ∙ is_same x n e)))))
+    at true e rest = rw e (rest ∙ ap (λ b. b || is_listed m xs) (sym (ne_eqb x m (λ is. apart (sym is ∙ eqb-true x n e)))))
     at false e rest = rw e (ap (λ b. (x == m) || b) rest)
 
 -- ---- with a unit behind all others
@@ -68,17 +56,6 @@ joined_self true n xs = at (is_listed n xs) refl
     at true e = rw e e
     at false e = rw e (listed_behind n xs n ∙ rw (same n, e) refl)
 
-joined_other : (w : Bool) (n m : ℕ) (xs : List ℕ) → m ≢ n → is_listed m (with_ready w n xs) ≡ is_listed m xs
-joined_other w n m xs apart = at (w && not (is_listed n xs))
-  where
-    or_false : (b : Bool) → b || false ≡ b
-    or_false true = refl
-    or_false false = refl
-
-    at : (b : Bool) → is_listed m (if b then xs ++ n ∷ [] else xs) ≡ is_listed m xs
-    at false = refl
-    at true = listed_behind m xs n ∙ ap (λ b. is_listed m xs || b) (differ n m (λ is. apart (sym is))) ∙ or_false (is_listed m xs)
-
 left_self : (b : Bool) (n : ℕ) (xs : List ℕ) (w : Bool) → (b ≡ false → is_listed n xs ≡ true → w ≡ true) → w || is_listed n (if b then without n xs else xs) ≡ w
 left_self true n xs true stays = refl
 left_self true n xs false stays = gone n xs
@@ -86,26 +63,34 @@ left_self false n xs true stays = refl
 left_self false n xs false stays = at (is_listed n xs) (stays refl)
   where
     at : (b : Bool) → (b ≡ true → false ≡ true) → b ≡ false
-    at true h = absurd (no (h refl))
+    at true h = absurd (false≢true (h refl))
     at false h = refl
 
 left_other : (b : Bool) (n m : ℕ) (xs : List ℕ) → m ≢ n → is_listed m (if b then without n xs else xs) ≡ is_listed m xs
 left_other true n m xs apart = others_stay n m xs apart
 left_other false n m xs apart = refl
 
+pub others_joined : (w : Bool) (n m : ℕ) (xs : List ℕ) → m ≢ n → is_listed m (with_ready w n xs) ≡ is_listed m xs
+others_joined w n m xs apart = at (w && not (is_listed n xs))
+  where
+    or_false : (b : Bool) → b || false ≡ b
+    or_false true = refl
+    or_false false = refl
+
+    at : (b : Bool) → is_listed m (if b then xs ++ n ∷ [] else xs) ≡ is_listed m xs
+    at false = refl
+    at true = listed_behind m xs n ∙ ap (λ b. is_listed m xs || b) (ne_eqb n m (λ is. apart (sym is))) ∙ or_false (is_listed m xs)
+
 -- a unit is listed after a line of its own exactly where it then waits; and no other one comes or goes
 pub queued_after : (w : Bool) (n : ℕ) (deed : Deed) (xs : List ℕ) → (leaves deed ≡ false → is_listed n xs ≡ true → w ≡ true) → is_listed n (ready_after w n deed xs) ≡ w
 queued_after w n deed xs stays = joined_self w n (if leaves deed then without n xs else xs) ∙ left_self (leaves deed) n xs w stays
 
 pub others_queued : (w : Bool) (n m : ℕ) (deed : Deed) (xs : List ℕ) → m ≢ n → is_listed m (ready_after w n deed xs) ≡ is_listed m xs
-others_queued w n m deed xs apart = joined_other w n m (if leaves deed then without n xs else xs) apart ∙ left_other (leaves deed) n m xs apart
+others_queued w n m deed xs apart = others_joined w n m (if leaves deed then without n xs else xs) apart ∙ left_other (leaves deed) n m xs apart
 
 -- as it joins
 pub queued_joined : (w : Bool) (n : ℕ) (xs : List ℕ) → (is_listed n xs ≡ true → w ≡ true) → is_listed n (with_ready w n xs) ≡ w
 queued_joined w n xs stays = joined_self w n xs ∙ left_self false n xs w (λ e. stays)
-
-pub others_joined : (w : Bool) (n m : ℕ) (xs : List ℕ) → m ≢ n → is_listed m (with_ready w n xs) ≡ is_listed m xs
-others_joined w n m xs apart = joined_other w n m xs apart
 
 -- ---- each stands once
 once_without : (n : ℕ) (xs : List ℕ) → AreApart xs → AreApart (without n xs)
@@ -113,7 +98,7 @@ once_without n [] once = tt
 once_without n (x ∷ xs) once = at (x == n) refl (once_without n xs once.1)
   where
     absent : (x == n) ≡ false → is_listed x (without n xs) ≡ false
-    absent e = others_stay n x xs (λ is. nor (sym (same n) ∙ ap (λ z. z == n) (sym is) ∙ e)) ∙ once.0
+    absent e = others_stay n x xs (λ is. true≢false (sym (same n) ∙ ap (λ z. z == n) (sym is) ∙ e)) ∙ once.0
 
     at : (b : Bool) → (x == n) ≡ b → AreApart (without n xs) → AreApart (if not (x == n) then x ∷ without n xs else without n xs)
     at true e rest = rw e rest
@@ -121,20 +106,20 @@ once_without n (x ∷ xs) once = at (x == n) refl (once_without n xs once.1)
 
 once_behind : (n : ℕ) (xs : List ℕ) → is_listed n xs ≡ false → AreApart xs → AreApart (xs ++ n ∷ [])
 once_behind n [] absent once = (refl, tt)
-once_behind n (x ∷ xs) absent once = (listed_behind x xs n ∙ ap (λ b. is_listed x xs || b) (differ n x apart) ∙ or_false (is_listed x xs) ∙ once.0, once_behind n xs rest once.1)
+once_behind n (x ∷ xs) absent once = (listed_behind x xs n ∙ ap (λ b. is_listed x xs || b) (ne_eqb n x apart) ∙ or_false (is_listed x xs) ∙ once.0, once_behind n xs rest once.1)
   where
     or_false : (b : Bool) → b || false ≡ b
     or_false true = refl
     or_false false = refl
 
     apart : n ≢ x
-    apart is = nor (sym (ap (λ z. (z == n) || is_listed n xs) (sym is) ∙ ap (λ b. b || is_listed n xs) (same n)) ∙ absent)
+    apart is = true≢false (sym (ap (λ z. (z == n) || is_listed n xs) (sym is) ∙ ap (λ b. b || is_listed n xs) (same n)) ∙ absent)
 
     rest : is_listed n xs ≡ false
     rest = at (x == n) (is_listed n xs) absent
       where
         at : (b c : Bool) → b || c ≡ false → c ≡ false
-        at true c e = absurd (nor e)
+        at true c e = absurd (true≢false e)
         at false c e = e
 
 pub once_joined : (w : Bool) (n : ℕ) (xs : List ℕ) → AreApart xs → AreApart (with_ready w n xs)

@@ -1,12 +1,13 @@
 -- A refusal is answered directly behind the line that submits its request.
 use Rattle.std.proofs.Common.{◌≡◌, inl, inr, ◌⊎◌, ℕ, ◌==◌, true, false, List, [], ◌∷◌, ◌++◌, length, refl, sym, ap, ◌∙◌, subst, arith}
+use Rattle.std.proofs.lemmas.Bool.{false≢true}
 use Rattle.hardware_table.specs.Drive.{is_positioning}
 use Rattle.trace_replay.specs.requests.Requests.{Request, Answer, OutsidePartition, Rejection, AtEnd, rejection_answer}
-use Rattle.trace_replay.specs.Script.{Input, Submit, ArriveAt, MoveAt, AttendTo, Drain, Turn, Noise, Arm, SetOnline, SetLocked, drives_of}
+use Rattle.trace_replay.specs.Script.{Input, Submit, ArriveAt, MoveAt, AttendTo, Drain, drives_of}
 use Rattle.trace_replay.specs.Moments.{Deed, End, Moment, Played, Told, Idle, Answered}
 use Rattle.trace_replay.specs.Adapters.{adapter_of, can_move}
 use Rattle.trace_replay.specs.Conversation.{goes_on}
-use Rattle.trace_replay.specs.Events.{Arriving, Trying, Serving, NothingToDo, Wish, NoLine, DueLine, Arrival, SectorLine, Interrupt, Attention, Refusal, IdleLine, can_attend, serving}
+use Rattle.trace_replay.specs.Events.{Arriving, Trying, Serving, NothingToDo, Wish, Refusal, can_attend, serving}
 use Rattle.trace_replay.specs.History.{is_refusal}
 use Rattle.trace_replay.specs.Replay.{Replay, next_wish, hand_of, LineMay, ToldMay, InputMay, MayCome, Follows, Submission, Refused, Joined, submission, submitted, act_submitted, act_drained, act_done, after_moment, after_moments, told_after}
 use Rattle.trace_replay.specs.Runs.{start_of}
@@ -14,13 +15,13 @@ use Rattle.trace_replay.proofs.Following.{follow_on}
 use Rattle.trace_replay.proofs.Kept.{end_kept}
 use Rattle.driver_laws.specs.rules.Stands.{Setup, AreGiven, start_over, owed_by}
 use Rattle.driver_laws.specs.rules.Refusals.{IsRefusedBehind, RefusalsAreMet}
-use Rattle.driver_laws.proofs.rules.Tried.{no}
 use Rattle.driver_laws.proofs.rules.MachineUnits.{Keeps}
 use Rattle.driver_laws.proofs.rules.Keeping.{IsCalm, calm_either, calm_drain}
 use Rattle.driver_laws.proofs.rules.Kept.{start_kept, all_quiet}
 use Rattle.driver_laws.proofs.rules.Lines.{state_owes, line_eases}
 use Rattle.driver_laws.proofs.rules.Steps.{beginning_kept}
 use Rattle.driver_laws.proofs.rules.MachineRuns.{run_given}
+use Rattle.driver_laws.proofs.rules.KnownScript.{last_of}
 
 -- ---- what is calm owes no refusal
 nothing_owed : (s : Replay) (u i : ℕ) (why : Rejection) → IsCalm s.event.act → next_wish s ≡ Refusal u i why → ⊥
@@ -111,7 +112,7 @@ end_of deed = OutsidePartition
 
 line_ends : (setup : Setup) (s : Replay) (line unit id : ℕ) (answer : Answer) → Keeps setup s → LineMay s line unit id (End answer) → is_refusal answer ≡ true → ⊥
 line_ends setup s line unit id answer k may refused =
-    no (sym (end_kept (s.units unit).drive (hand_of (s.units unit)) (s.units unit).stage (End answer) (k.lines unit) may.talk (k.fits unit).fits) ∙ refused)
+    false≢true (sym (end_kept (s.units unit).drive (hand_of (s.units unit)) (s.units unit).stage (End answer) (k.lines unit) may.talk (k.fits unit).fits) ∙ refused)
 
 is_due : (setup : Setup) (wish : Wish) (s : Replay) (line unit id : ℕ) (answer : Answer) → Keeps setup s → ToldMay wish s line unit id (End answer) → is_refusal answer ≡ true → IsDue wish unit id answer
 unfolding end_of
@@ -132,10 +133,6 @@ ends (m ∷ ms) = at (ends ms)
     at : (ms ≡ []) ⊎ Ends ms → (m ∷ ms ≡ []) ⊎ Ends (m ∷ ms)
     at (inl none) = inr (record { ahead = []; last = m; is = ap (λ z. m ∷ z) none })
     at (inr e) = inr (record { ahead = m ∷ e.ahead; last = e.last; is = ap (λ z. m ∷ z) e.is })
-
-after_last : (s : Replay) (ahead : List Moment) (m : Moment) → after_moments s (ahead ++ m ∷ []) ≡ after_moment (after_moments s ahead) m
-after_last s [] m = refl
-after_last s (n ∷ ahead) m = after_last (after_moment s n) ahead m
 
 given_front : (setup : Setup) (ms ns : List Moment) → AreGiven setup.drives (ms ++ ns) → AreGiven setup.drives ms
 given_front setup [] ns given = tt
@@ -170,7 +167,7 @@ refused_behind setup ms line unit id answer given follows may refused = at (ends
         from : ComesFrom (after_moments (start_over setup) e.ahead) due.u due.i due.why e.last
         from = comes_from setup (after_moments (start_over setup) e.ahead) due.u due.i due.why e.last
             (beginning_kept setup (start_over setup) e.ahead (start_kept setup) (given_front setup e.ahead (e.last ∷ []) (subst (AreGiven setup.drives) e.is given)) parts.0) parts.1.0
-            (sym (ap next_wish (ap (after_moments (start_over setup)) e.is ∙ after_last (start_over setup) e.ahead e.last)) ∙ due.is)
+            (sym (ap next_wish (ap (after_moments (start_over setup)) e.is ∙ last_of (start_over setup) e.ahead e.last)) ∙ due.is)
 
 pub refusals_are_met : RefusalsAreMet
 refusals_are_met script tables old new ms ns line unit id answer run refused =

@@ -32,11 +32,6 @@ front_of off d from le =
 front_none : (off d : ℕ) (from : List ℕ) → d ≤ off → d ≤ length from → drop off (take d from) ≡ []
 front_none off d from le few = drop_all off (take d from) (subst (λ k. k ≤ off) (sym (length-take-le d from few)) le)
 
--- behind the bytes a block stays
-pub block_behind : (k at : ℕ) (from bytes : List ℕ) → at + length from ≤ 512 * k → block_with k at from bytes ≡ bytes
-block_behind k at from bytes far =
-    ap (λ zs. laid_at (at - 512 * k) zs bytes) (drop_all (512 * k - at) from (omega (arith, far))) ∙ laid_at_none (at - 512 * k) bytes
-
 -- a block that is covered by the first d bytes, or reached by none of the first e
 pub block_same : (k at d e : ℕ) (from bytes : List ℕ) → length bytes ≡ 512 → d ≤ e → e ≤ length from → (512 * k + 512 ≤ at + d) ⊎ (at + e ≤ 512 * k)
     → block_with k at (take d from) bytes ≡ block_with k at (take e from) bytes

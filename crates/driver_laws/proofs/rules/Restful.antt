@@ -1,5 +1,5 @@
 -- A replay at rest keeps what every state keeps that a legal beginning reaches, and stands for what its packs hold.
-use Rattle.std.proofs.Common.{◌≡◌, ℕ, true, false, List, [], Option, None, Some, refl, sym, ap, ◌∙◌, subst, arith}
+use Rattle.std.proofs.Common.{◌≡◌, ℕ, false, List, [], Option, None, Some, refl, sym, ap, ◌∙◌, subst}
 use Rattle.std.specs.Prelude.{All, length}
 use Rattle.std.proofs.lemmas.List.Elements.{All-nil}
 use Rattle.pack_geometry.specs.declared.DriveKind.{DriveKind}
@@ -14,7 +14,7 @@ use Rattle.trace_replay.specs.requests.Requests.{Request, first_block}
 use Rattle.trace_replay.specs.Service.{no_request}
 use Rattle.trace_replay.specs.Packs.{surface_of}
 use Rattle.trace_replay.specs.Conversation.{Waiting, not_begun, goes_on}
-use Rattle.trace_replay.specs.Events.{Act, Done, Refusing, Arriving, Trying, Serving, NothingToDo}
+use Rattle.trace_replay.specs.Events.{Act, Refusing}
 use Rattle.trace_replay.specs.Replay.{Replay}
 use Rattle.driver_laws.proofs.rules.Idle.{unit_is, idle_fits, starts_idle}
 use Rattle.driver_laws.specs.rules.Machine.{Blocks, idle}
@@ -23,9 +23,6 @@ use Rattle.driver_laws.proofs.rules.Hands.{begins}
 use Rattle.driver_laws.proofs.rules.MachineUnits.{Keeps, IsFirst}
 use Rattle.driver_laws.proofs.rules.Kept.{start_kept}
 use Rattle.driver_laws.specs.rules.Rest.{IsAtRest, StartRests}
-
-pub no : false ≡ true → ⊥
-no e = grind (arith, e)
 
 first_by : (act : Act) (goes : _) → goes ≡ false → IsFirst act goes
 first_by (Refusing u i why) goes is = is

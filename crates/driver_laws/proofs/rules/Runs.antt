@@ -8,7 +8,7 @@ use Rattle.pack_geometry.specs.declared.DriveKind.{DriveKind}
 use Rattle.pack_geometry.specs.Pack as model
 use Rattle.pack_geometry.specs.TableSpelling.{Table}
 use Rattle.trace_replay.specs.requests.Requests.{Request, IsRequest}
-use Rattle.trace_replay.specs.Script.{Input, Submit, ArriveAt, MoveAt, AttendTo, Drain, Turn, Noise, Arm, SetOnline, SetLocked, Statement, Declares, Plays, Line, Numbered, Script, with_input, inputs_before, drives_in, drives_of, IsThere, IsInput, IsStatement, IsFirst, AreUnitsFirst, declared_by}
+use Rattle.trace_replay.specs.Script.{Input, Submit, Drain, Statement, Declares, Plays, Line, Numbered, Script, with_input, inputs_before, drives_in, drives_of, IsThere, IsInput, IsStatement, IsFirst, AreUnitsFirst, declared_by}
 use Rattle.trace_replay.specs.Moments.{End, Moment, Played, Told, Idle, played}
 use Rattle.trace_replay.specs.Packs.{surface_of}
 use Rattle.trace_replay.specs.Replay.{all_units, Follows, after_moments}
@@ -21,6 +21,7 @@ use Rattle.driver_laws.specs.rules.Runs.{RunCommandsAreBounded, RunDrainsAreBoun
 use Rattle.driver_laws.proofs.rules.Commands.{ends_are_bounded}
 use Rattle.driver_laws.proofs.rules.Idle.{starts_idle}
 use Rattle.driver_laws.proofs.rules.Drain.{drains_are_bounded}
+use Rattle.driver_laws.proofs.rules.Working.{yes_second}
 
 -- ---- the units that a script declares are there
 abbrev pub from : ℕ → ℕ → List ℕ
@@ -30,10 +31,6 @@ from start (suc n) = start ∷ from (start + 1) n
 pub all_from : all_units ≡ from 0 32
 all_from = refl
 
-or_true : (b c : Bool) → c ≡ true → b || c ≡ true
-or_true true c is = refl
-or_true false c is = is
-
 first_true : (b c : Bool) → b ≡ true → b || c ≡ true
 first_true true c is = refl
 first_true false c is = absurd (no is)
@@ -42,7 +39,7 @@ pub from_any : (n start k : ℕ) → start ≤ k → k < start + n → list_any 
 from_any zero start k low high = absurd (omega (arith, low, high))
 from_any (suc n) start k low high = elim (eqb_tells start k) [
   | inl same ↦ first_true (start == k) (list_any (λ x. x == k) (from (start + 1) n)) same.0
-  | inr other ↦ or_true (start == k) (list_any (λ x. x == k) (from (start + 1) n)) (from_any n (start + 1) k (next start k low (unequal start k other.0)) (omega (arith, high)))
+  | inr other ↦ yes_second (start == k) (list_any (λ x. x == k) (from (start + 1) n)) (from_any n (start + 1) k (next start k low (unequal start k other.0)) (omega (arith, high)))
 ]
   where
     next : (a b : ℕ) → a ≤ b → (a ≡ b → ⊥) → a + 1 ≤ b
@@ -67,7 +64,7 @@ filter_any p k (x ∷ xs) is any = elim (eqb_tells x k) [
     here false on same = absurd (no on)
 
     there : (b : Bool) → list_any (λ y. y == k) (filter p xs) ≡ true → list_any (λ y. y == k) (if b then x ∷ filter p xs else filter p xs) ≡ true
-    there true rest = or_true (x == k) (list_any (λ y. y == k) (filter p xs)) rest
+    there true rest = yes_second (x == k) (list_any (λ y. y == k) (filter p xs)) rest
     there false rest = rest
 
 declared_small : (lines : List Line) (k : ℕ) → AreUnitsFirst lines → is_some (drives_in lines k) ≡ true → k < 32

@@ -1,7 +1,8 @@
 -- Which lines may come where a unit stands, and where they lead.
-use Rattle.std.proofs.Common.{◌≡◌, ℕ, ◌&&◌, ◌==◌, Bool, true, false, not, List, [], ◌∷◌, ◌++◌, Option, None, Some, is_some, refl, sym, ap, subst, arith, nat_lt}
+use Rattle.std.proofs.Common.{◌≡◌, ℕ, ◌&&◌, ◌==◌, Bool, true, false, not, List, [], ◌∷◌, ◌++◌, Option, None, Some, is_some, refl, sym, ap, subst, nat_lt}
 use Rattle.std.specs.Prelude.{if◌then◌else◌}
 use Rattle.std.proofs.lemmas.Option.{same_Some, none-some}
+use Rattle.std.proofs.lemmas.Bool.{false≢true, true≢false, and_from, not-true}
 use Rattle.hardware_table.specs.declared.Moved.{Moved}
 use Rattle.hardware_table.specs.declared.Moved.TheVariants as verdict
 use Rattle.hardware_table.specs.Drive.{DriveState}
@@ -12,15 +13,17 @@ use Rattle.retry_offsets.specs.Schedule.{step_after}
 use Rattle.pack_geometry.specs.Geometry.{place_at}
 use Rattle.trace_replay.specs.requests.Requests.{Request}
 use Rattle.trace_replay.specs.Moments.{Deed, Search, Seek, Recal, Offset, Centre, Clear, Pack, Transfer, Arrive, Sector, Intr, Try, Attn, End}
-use Rattle.trace_replay.specs.Conversation.{Hand, Stage, Waiting, Steps, UnderWay, AtOnce, Moving, Saying, Ending, Segment, OwnBlocks, Replacement, due, guarded, transfer_of, command_of, needs_unlocked, is_write, is_waiting, waits, goes_on, is_under_way, step_taken, step_ended, said, saying, begun, interrupted_by, outcome, continued, ok_answer, failed, retried, marked, forwarded, entry_of, start_of, clear_lines, centre_lines, try_lines, is_clean, last_of, left_of, sector_may, intr_may, Positioning, SearchFor, Recalibrate, SeekTo, OffsetBy}
+use Rattle.trace_replay.specs.Conversation.{Hand, Stage, Waiting, Steps, UnderWay, AtOnce, Moving, Saying, Ending, Segment, OwnBlocks, Replacement, due, guarded, transfer_of, command_of, needs_unlocked, is_write, is_waiting, waits, goes_on, is_under_way, step_taken, step_ended, said, saying, begun, interrupted_by, outcome, continued, ok_answer, failed, retried, marked, forwarded, entry_of, start_of, clear_lines, centre_lines, try_lines, is_clean, last_of, left_of, sector_may, intr_may, Positioning, SearchFor}
 use Rattle.trace_replay.proofs.Histories.{guard_holds}
 use Rattle.driver_laws.specs.rules.Consistent.{is_moving, may_have_errors, is_behind_interrupt, are_behind_interrupt, follows_lines, is_well_said, is_cleared_next}
 
-pub no : false ≡ true → ⊥
-no e = grind (arith, e)
+pub first_of : (x y : Bool) → (x && y) ≡ true → x ≡ true
+first_of true y e = refl
+first_of false y e = e
 
-pub nor : true ≡ false → ⊥
-nor e = grind (arith, e)
+pub second_of : (x y : Bool) → (x && y) ≡ true → y ≡ true
+second_of true y e = e
+second_of false y e = absurd (false≢true e)
 
 -- THE SORTS of lines that are due
 pub data Sort : Type 0 where
@@ -70,15 +73,7 @@ says : (line : Deed) → is_behind_interrupt line ≡ true → sort_of line ≡ 
 says Centre is = refl
 says Clear is = refl
 says (Try b f) is = refl
-says other is = absurd (no is)
-
-pub first_of : (x y : Bool) → (x && y) ≡ true → x ≡ true
-first_of true y e = refl
-first_of false y e = e
-
-pub second_of : (x y : Bool) → (x && y) ≡ true → y ≡ true
-second_of true y e = e
-second_of false y e = absurd (no e)
+says other is = absurd (false≢true is)
 
 pub due_allowed : (d : DriveState) (h : Hand) (stage : Stage) (deed : Deed) → is_well_said stage ≡ true → due d h stage ≡ Some deed
     → allowed stage (sort_of deed) ≡ true
@@ -112,7 +107,7 @@ quiet_before (Steps left segment) sort ok is = record { waiting = refl; under = 
 quiet_before (AtOnce segment) sort ok is = record { waiting = refl; under = refl; moving = refl; said = refl }
 quiet_before (Saying lines next) sort ok is = record { waiting = refl; under = refl; moving = refl; said = ok }
 quiet_before (Ending answer) sort ok is = record { waiting = refl; under = refl; moving = refl; said = refl }
-quiet_before other sort ok is = absurd (no is)
+quiet_before other sort ok is = absurd (false≢true is)
 
 -- where the commands of steps lead
 pub record Stepping (old new : Stage) : Type 0 where
@@ -126,15 +121,15 @@ pub record Stepping (old new : Stage) : Type 0 where
   pub clear : may_have_errors old ≡ false
 
 pub step_begins : (stage : Stage) → allowed stage Positions ≡ true → Stepping stage (step_taken stage)
-step_begins Waiting is = absurd (no is)
-step_begins (Steps [] segment) is = absurd (no is)
+step_begins Waiting is = absurd (false≢true is)
+step_begins (Steps [] segment) is = absurd (false≢true is)
 step_begins (Steps (step ∷ left) segment) is = record { waiting = refl; under = refl; moving = refl; said = refl; queued = refl; silent = refl; free = refl; clear = refl }
-step_begins (UnderWay left segment) is = absurd (no is)
-step_begins (AtOnce segment) is = absurd (no is)
-step_begins (Moving segment left last) is = absurd (no is)
-step_begins (Saying [] next) is = absurd (no is)
-step_begins (Saying (line ∷ rest) next) is = absurd (no is)
-step_begins (Ending answer) is = absurd (no is)
+step_begins (UnderWay left segment) is = absurd (false≢true is)
+step_begins (AtOnce segment) is = absurd (false≢true is)
+step_begins (Moving segment left last) is = absurd (false≢true is)
+step_begins (Saying [] next) is = absurd (false≢true is)
+step_begins (Saying (line ∷ rest) next) is = absurd (false≢true is)
+step_begins (Ending answer) is = absurd (false≢true is)
 
 -- where a line leads behind which nothing is under way
 pub record Quieted (old new : Stage) : Type 0 where
@@ -145,29 +140,25 @@ pub follows_quiet : (next : Stage) → follows_lines next ≡ true → Quiet nex
 follows_quiet (Steps left segment) is = record { waiting = refl; under = refl; moving = refl; said = refl }
 follows_quiet (AtOnce segment) is = record { waiting = refl; under = refl; moving = refl; said = refl }
 follows_quiet (Ending answer) is = record { waiting = refl; under = refl; moving = refl; said = refl }
-follows_quiet other is = absurd (no is)
-
-pub both_of : (x y : Bool) → x ≡ true → y ≡ true → (x && y) ≡ true
-both_of true y a b = b
-both_of false y a b = a
+follows_quiet other is = absurd (false≢true is)
 
 pub saying_quiet : (lines : List Deed) (next : Stage) → are_behind_interrupt lines ≡ true → follows_lines next ≡ true → Quiet (saying lines next)
 saying_quiet [] next are is = follows_quiet next is
-saying_quiet (line ∷ rest) next are is = record { waiting = refl; under = refl; moving = refl; said = both_of (is_behind_interrupt line && are_behind_interrupt rest) (follows_lines next) are is }
+saying_quiet (line ∷ rest) next are is = record { waiting = refl; under = refl; moving = refl; said = and_from (is_behind_interrupt line && are_behind_interrupt rest) (follows_lines next) are is }
 
 pub said_on : (stage : Stage) → is_well_said stage ≡ true → allowed stage Says ≡ true → Quieted stage (said stage)
-said_on Waiting ok is = absurd (no is)
-said_on (Steps [] segment) ok is = absurd (no is)
-said_on (Steps (step ∷ left) segment) ok is = absurd (no is)
-said_on (UnderWay left segment) ok is = absurd (no is)
-said_on (AtOnce segment) ok is = absurd (no is)
-said_on (Moving segment left last) ok is = absurd (no is)
-said_on (Saying [] next) ok is = absurd (no is)
+said_on Waiting ok is = absurd (false≢true is)
+said_on (Steps [] segment) ok is = absurd (false≢true is)
+said_on (Steps (step ∷ left) segment) ok is = absurd (false≢true is)
+said_on (UnderWay left segment) ok is = absurd (false≢true is)
+said_on (AtOnce segment) ok is = absurd (false≢true is)
+said_on (Moving segment left last) ok is = absurd (false≢true is)
+said_on (Saying [] next) ok is = absurd (false≢true is)
 said_on (Saying (line ∷ rest) next) ok is = record {
   quiet = saying_quiet rest next (second_of (is_behind_interrupt line) (are_behind_interrupt rest) (first_of (is_behind_interrupt line && are_behind_interrupt rest) (follows_lines next) ok)) (second_of (is_behind_interrupt line && are_behind_interrupt rest) (follows_lines next) ok);
   free = refl;
 }
-said_on (Ending answer) ok is = absurd (no is)
+said_on (Ending answer) ok is = absurd (false≢true is)
 
 -- an attention ends the step
 pub record Ended (old new : Stage) : Type 0 where
@@ -177,7 +168,7 @@ pub record Ended (old new : Stage) : Type 0 where
 
 pub step_over : (stage : Stage) → is_under_way stage ≡ true → Ended stage (step_ended stage)
 step_over (UnderWay left segment) is = record { quiet = record { waiting = refl; under = refl; moving = refl; said = refl }; free = refl; clear = refl }
-step_over other is = absurd (no is)
+step_over other is = absurd (false≢true is)
 
 -- ---- the interrupt
 either : (b : Bool) (x y : Stage) → follows_lines x ≡ true → follows_lines y ≡ true → follows_lines (if b then x else y) ≡ true
@@ -225,7 +216,7 @@ clears_behind other = refl
 all_behind : (xs ys : List Deed) → are_behind_interrupt xs ≡ true → are_behind_interrupt ys ≡ true → are_behind_interrupt (xs ++ ys) ≡ true
 all_behind [] ys one other = other
 all_behind (x ∷ xs) ys one other =
-    both_of (is_behind_interrupt x) (are_behind_interrupt (xs ++ ys)) (first_of (is_behind_interrupt x) (are_behind_interrupt xs) one)
+    and_from (is_behind_interrupt x) (are_behind_interrupt (xs ++ ys)) (first_of (is_behind_interrupt x) (are_behind_interrupt xs) one)
     (all_behind xs ys (second_of (is_behind_interrupt x) (are_behind_interrupt xs) one) other)
 
 pub interrupted_quiet : (v : Moved) (d : DriveState) (h : Hand) (segment : Segment) → Quiet (interrupted_by v d h segment)
@@ -238,7 +229,7 @@ interrupted_quiet v d h segment =
 
 -- what is not clean is cleared first
 pub cleared_first : (v : Moved) (d : DriveState) (h : Hand) (segment : Segment) → is_clean v ≡ false → may_have_errors (interrupted_by v d h segment) ≡ true
-cleared_first verdict.Clean d h segment is = absurd (nor is)
+cleared_first verdict.Clean d h segment is = absurd (true≢false is)
 cleared_first other d h segment is = refl
 
 -- ---- the next request
@@ -253,24 +244,24 @@ begun_still d (Some r) = (refl, refl, refl)
 -- ---- errors
 pub first_said : (d : DriveState) (h : Hand) (stage : Stage) (deed : Deed) → due d h stage ≡ Some deed → allowed stage Says ≡ true
     → ((rest : List Deed) → is_cleared_next (deed ∷ rest) ≡ false) → may_have_errors stage ≡ false
-first_said d h Waiting deed is ok other = absurd (no ok)
-first_said d h (Steps [] segment) deed is ok other = absurd (no ok)
-first_said d h (Steps (step ∷ left) segment) deed is ok other = absurd (no ok)
-first_said d h (UnderWay left segment) deed is ok other = absurd (no ok)
-first_said d h (AtOnce segment) deed is ok other = absurd (no ok)
-first_said d h (Moving segment left last) deed is ok other = absurd (no ok)
-first_said d h (Saying [] next) deed is ok other = absurd (no ok)
+first_said d h Waiting deed is ok other = absurd (false≢true ok)
+first_said d h (Steps [] segment) deed is ok other = absurd (false≢true ok)
+first_said d h (Steps (step ∷ left) segment) deed is ok other = absurd (false≢true ok)
+first_said d h (UnderWay left segment) deed is ok other = absurd (false≢true ok)
+first_said d h (AtOnce segment) deed is ok other = absurd (false≢true ok)
+first_said d h (Moving segment left last) deed is ok other = absurd (false≢true ok)
+first_said d h (Saying [] next) deed is ok other = absurd (false≢true ok)
 first_said d h (Saying (line ∷ rest) next) deed is ok other = subst (λ z. is_cleared_next (z ∷ rest) ≡ false) (sym (same_Some line deed is)) (other rest)
-first_said d h (Ending answer) deed is ok other = absurd (no ok)
+first_said d h (Ending answer) deed is ok other = absurd (false≢true ok)
 
 pub transfers_clear : (stage : Stage) → allowed stage Transfers ≡ true → may_have_errors stage ≡ false
 transfers_clear Waiting ok = refl
 transfers_clear (Steps left segment) ok = refl
 transfers_clear (UnderWay left segment) ok = refl
 transfers_clear (AtOnce segment) ok = refl
-transfers_clear (Moving segment left last) ok = absurd (no ok)
+transfers_clear (Moving segment left last) ok = absurd (false≢true ok)
 transfers_clear (Saying [] next) ok = refl
-transfers_clear (Saying (line ∷ rest) next) ok = absurd (no ok)
+transfers_clear (Saying (line ∷ rest) next) ok = absurd (false≢true ok)
 transfers_clear (Ending answer) ok = refl
 
 pub ends_clear : (stage : Stage) → allowed stage Ends ≡ true → may_have_errors stage ≡ false
@@ -278,15 +269,15 @@ ends_clear Waiting ok = refl
 ends_clear (Steps left segment) ok = refl
 ends_clear (UnderWay left segment) ok = refl
 ends_clear (AtOnce segment) ok = refl
-ends_clear (Moving segment left last) ok = absurd (no ok)
+ends_clear (Moving segment left last) ok = absurd (false≢true ok)
 ends_clear (Saying [] next) ok = refl
-ends_clear (Saying (line ∷ rest) next) ok = absurd (no ok)
+ends_clear (Saying (line ∷ rest) next) ok = absurd (false≢true ok)
 ends_clear (Ending answer) ok = refl
 
 -- a step is under way
 pub under_way : (stage : Stage) → is_under_way stage ≡ true → Stepping (UnderWay [] OwnBlocks) stage
 under_way (UnderWay left segment) is = record { waiting = refl; under = refl; moving = refl; said = refl; queued = refl; silent = refl; free = refl; clear = refl }
-under_way other is = absurd (no is)
+under_way other is = absurd (false≢true is)
 
 -- a sector may come
 pub record WasMoving (stage : Stage) : Type 0 where
@@ -298,7 +289,7 @@ pub record WasMoving (stage : Stage) : Type 0 where
 
 pub sector_moving : (h : Hand) (stage : Stage) (block : ℕ) → sector_may h stage block ≡ true → WasMoving stage
 sector_moving h (Moving segment left last) block is = record { under = refl; moving = refl; free = refl; clean = ap not (first_of (is_clean last) (nat_lt 0 left && (block == start_of segment h)) is); some = first_of (nat_lt 0 left) (block == start_of segment h) (second_of (is_clean last) (nat_lt 0 left && (block == start_of segment h)) is) }
-sector_moving h other block is = absurd (no is)
+sector_moving h other block is = absurd (false≢true is)
 
 -- the interrupt may come
 pub record WasMoved (stage : Stage) : Type 0 where
@@ -307,10 +298,6 @@ pub record WasMoved (stage : Stage) : Type 0 where
   pub free : waits stage ≡ false
   pub strange : may_have_errors stage ≡ true → is_clean (last_of stage) ≡ false
 
-opposite : (b : Bool) → not b ≡ true → b ≡ false
-opposite true e = absurd (no e)
-opposite false e = refl
-
 pub intr_moving : (stage : Stage) → intr_may stage ≡ true → WasMoved stage
-intr_moving (Moving segment left last) is = record { under = refl; moving = refl; free = refl; strange = opposite (is_clean last) }
-intr_moving other is = absurd (no is)
+intr_moving (Moving segment left last) is = record { under = refl; moving = refl; free = refl; strange = not-true (is_clean last) }
+intr_moving other is = absurd (false≢true is)

@@ -11,7 +11,7 @@ use Rattle.pack_geometry.proofs.PackLaws.{length-block_at}
 use Rattle.hardware_table.specs.Drive.{is_positioning}
 use Rattle.hardware_table.specs.Noise.{LiveNoise}
 use Rattle.trace_replay.specs.requests.Requests.{first_block}
-use Rattle.trace_replay.specs.Script.{Input, Submit, ArriveAt, MoveAt, AttendTo, Drain, Turn, Noise, Arm, SetOnline, SetLocked, IsInput}
+use Rattle.trace_replay.specs.Script.{Input, Submit, ArriveAt, MoveAt, AttendTo, Drain, Turn, Noise, IsInput}
 use Rattle.trace_replay.specs.Moments.{Moment, Played, Told, Idle, Deed}
 use Rattle.trace_replay.specs.Adapters.{can_move}
 use Rattle.trace_replay.specs.Packs.{surface_of}

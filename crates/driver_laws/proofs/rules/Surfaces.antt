@@ -1,23 +1,20 @@
 -- What a line of a unit leaves of the sectors and of the noise.
 use Rattle.std.proofs.Common.{◌≡◌, ◌≢◌, inl, inr, ℕ, ◌==◌, ◌&&◌, Bool, true, false, List, length, refl, ap, ◌∙◌, All}
 use Rattle.std.proofs.lemmas.Bool.Decides.{eqb_tells}
+use Rattle.std.proofs.lemmas.Bool.{false≢true}
 use Rattle.hardware_table.specs.declared.Moved.{Moved}
 use Rattle.hardware_table.specs.Drive.{DriveState, is_writing}
 use Rattle.hardware_table.specs.Moves.{has_bytes, was_read, was_written}
 use Rattle.hardware_table.specs.Noise.{LiveNoise}
 use Rattle.trace_replay.specs.requests.Requests.{Request}
-use Rattle.trace_replay.specs.Moments.{Deed, Search, Seek, Recal, Offset, Centre, Clear, Pack, Transfer, Arrive, Sector, Intr, Try, Attn, End}
+use Rattle.trace_replay.specs.Moments.{Deed, Sector}
 use Rattle.trace_replay.specs.Packs.{Surface, surface_read, surface_written, surface_tried, sector_of_block, this_sector_or}
 use Rattle.trace_replay.specs.Service.{in_hand}
 use Rattle.trace_replay.specs.Replay.{Replay, surface_after}
 use Rattle.driver_laws.specs.rules.Stands.{IsLive}
 use Rattle.driver_laws.proofs.rules.Blocks.{sector_full}
 use Rattle.driver_laws.proofs.rules.Noises.{struck_live}
-use Rattle.driver_laws.proofs.rules.Tried.{no}
-
-read_same : (b : Bool) (s : Surface) (unit : ℕ) (d : DriveState) (block : ℕ) → (surface_read b s unit d block).sector ≡ s.sector
-read_same true s unit d block = refl
-read_same false s unit d block = refl
+use Rattle.trace_replay.proofs.Unchanged.{read_same}
 
 -- a sector that was not written is as before
 not_this : (bytes : List ℕ) (sectors : ℕ → ℕ → List ℕ) (unit block u x : ℕ) → (u ≡ unit → x ≡ block → ⊥) → this_sector_or ((u == unit) && (x == block)) bytes sectors u x ≡ sectors u x
@@ -40,7 +37,7 @@ tried_not s unit d block v r k u x apart =
   where
     front : (a b : Bool) → a && b ≡ true → a ≡ true
     front true b is = refl
-    front false b is = absurd (no is)
+    front false b is = absurd (false≢true is)
 
 -- what a deed may write: the sector that was tried
 abbrev pub IsUntouched : ℕ → Deed → ℕ → ℕ → Type 0

@@ -1,19 +1,20 @@
 -- Each event of a drain tells at least one event line.
 use Rattle.std.proofs.Common.{◌≡◌, inl, inr, ℕ, ◌+◌, ◌≤◌, ◌==◌, ◌&&◌, ◌||◌, nat_lt, Bool, true, false, List, [], ◌∷◌, find, Option, None, Some, refl, sym, ap, ◌∙◌, subst, arith}
 use Rattle.std.specs.Prelude.{if◌then◌else◌}
-use Rattle.std.proofs.lemmas.Option.{same_Some, none-some}
 use Rattle.std.proofs.lemmas.Bool.Decides.{eqb_tells, nat_tests}
+use Rattle.std.proofs.lemmas.Bool.{false_from_ne_true}
 use Rattle.hardware_table.specs.Drive.{is_positioning}
 use Rattle.trace_replay.specs.requests.Requests.{Request}
 use Rattle.trace_replay.specs.Script.{Input, Submit, Drain}
 use Rattle.trace_replay.specs.Moments.{Deed, Arrive, Sector, Intr, Attn, Moment, Played, Told, Idle}
 use Rattle.trace_replay.specs.Adapters.{AdapterSeen, can_move, attentive}
 use Rattle.trace_replay.specs.Conversation.{goes_on}
-use Rattle.trace_replay.specs.Events.{Event, Wish, NoLine, DueLine, Arrival, SectorLine, Interrupt, Attention, Refusal, IdleLine, wish_of, wish_in, wish_in_serving, wanted, is_no_line, can_attend, is_some_drive, adapters_there, act_of_attend, act_of_move, act_of_arrival}
+use Rattle.trace_replay.specs.Events.{Event, Wish, NoLine, DueLine, Arrival, SectorLine, Interrupt, Attention, Refusal, wish_of, wish_in, wish_in_serving, wanted, is_no_line, can_attend, is_some_drive, adapters_there, act_of_attend, act_of_move, act_of_arrival}
 use Rattle.trace_replay.specs.Replay.{Replay, with_state, next_wish, act_drained, drained, LineMay, ToldMay, MayCome, Follows, after_moment, after_moments, unit_after, told_after, replay_told, Submission, Refused, Joined, submission, submitted, replay_played, speaker_of}
 use Rattle.trace_replay.proofs.Kept.{no}
 use Rattle.driver_laws.specs.rules.Drains.{event_by, events_in, EventsTell, DrainsTell}
 use Rattle.driver_laws.proofs.rules.Packs.{its_own}
+use Rattle.driver_laws.proofs.rules.Working.{found as found_holds}
 
 -- ---- the wish of an event of a drain that has just begun
 abbrev BringsEvent : Wish → Type 0
@@ -23,14 +24,6 @@ BringsEvent (SectorLine u) = Unit {0}
 BringsEvent (Interrupt u) = Unit {0}
 BringsEvent (Attention u) = Unit {0}
 BringsEvent wish = ⊥
-
-found_holds : (p : ℕ → Bool) (xs : List ℕ) (a : ℕ) → find p xs ≡ Some a → p a ≡ true
-found_holds p [] a is = absurd (none-some a is)
-found_holds p (x ∷ xs) a is = at (p x) refl is (λ rest. found_holds p xs a rest)
-  where
-    at : (b : Bool) → p x ≡ b → (if b then Some x else find p xs) ≡ Some a → (find p xs ≡ Some a → p a ≡ true) → p a ≡ true
-    at true so was rest = subst (λ z. p z ≡ true) (same_Some x a was) so
-    at false so was rest = rest was
 
 serving_brings : (adapter : ℕ) (a : AdapterSeen) (interrupt : Bool) (drives : List ℕ) → interrupt || is_some_drive drives ≡ true → BringsEvent (wish_in_serving adapter a interrupt drives)
 serving_brings adapter a true drives is = tt
@@ -179,13 +172,8 @@ moments_going s (Told line unit id deed ∷ ms) follows g =
     moments_going (after_moment s (Told line unit id deed)) ms follows.1 (told_going (next_wish s) s line unit id deed follows.0 g)
 moments_going s (Idle line ∷ ms) follows g = moments_going (after_moment s (Idle line)) ms follows.1 g
 
--- so behind the line that drains the first event has just begun
-false_then : (b : Bool) → (b ≡ true → ⊥) → b ≡ false
-false_then true never = absurd (never refl)
-false_then false never = refl
-
 pub some_counted : (n : ℕ) → 1 ≤ n → (n == 0 ≡ false) × (nat_lt 0 n ≡ true)
-some_counted n some = (false_then (n == 0) (λ is. none n some is), grind (arith, some, nat_tests))
+some_counted n some = (false_from_ne_true (n == 0) (λ is. none n some is), grind (arith, some, nat_tests))
   where
     none : (k : ℕ) → 1 ≤ k → k == 0 ≡ true → ⊥
     none k some is = grind (arith, nat_tests)
@@ -198,7 +186,7 @@ drains_tell start ms number m idle follows may some = begun_tells (after_moment 
 
     begun : HasBegun (after_moment s (Played number Drain))
     begun = record {
-      quiet = false_then (goes_on (s.units 0).stage)
+      quiet = false_from_ne_true (goes_on (s.units 0).stage)
           (none_goes_on s may.over (moments_going start ms follows (λ x off. absurd (no (sym (ap goes_on (idle.stages x)) ∙ off)))) 0);
       act = rw (some_counted s.outstanding some).0 refl;
       drains = (some_counted s.outstanding some).1;

@@ -3,8 +3,7 @@ use Rattle.std.proofs.Common.{◌≡◌, ℕ, ◌+◌, ◌-◌, ◌≤◌, Bool,
 use Rattle.std.specs.Prelude.{if◌then◌else◌}
 use Rattle.std.proofs.lemmas.Option.{same_Some, none-some}
 use Rattle.std.proofs.lemmas.Bool.Decides.{nat_tests}
-use Rattle.pack_geometry.specs.declared.DriveKind.{DriveKind}
-use Rattle.pack_geometry.specs.declared.DriveKind.TheVariants.{Rp06, Rm03, Rm05}
+use Rattle.std.proofs.lemmas.Bool.{eqb-false}
 use Rattle.pack_geometry.specs.declared.Place.{Place}
 use Rattle.pack_geometry.specs.Geometry.{place_at}
 use Rattle.drive_registers.specs.declared.Function.TheVariants as function
@@ -15,16 +14,15 @@ use Rattle.hardware_table.specs.declared.FaultKind.TheVariants as fault
 use Rattle.hardware_table.specs.declared.Moved.{Moved}
 use Rattle.hardware_table.specs.declared.Moved.TheVariants as verdict
 use Rattle.hardware_table.specs.declared.Register.TheVariants as register
-use Rattle.hardware_table.specs.declared.Work.{Work}
 use Rattle.hardware_table.specs.declared.Work.TheVariants as work
 use Rattle.hardware_table.specs.Drive.{DriveState, with_register}
 use Rattle.hardware_table.specs.Adapter.{AdapterState, stepped, next_block}
-use Rattle.hardware_table.specs.Events.{arrived_from, transfer_ended, times_armed, with_times}
+use Rattle.hardware_table.specs.Events.{transfer_ended, times_armed, with_times}
 use Rattle.hardware_table.specs.Functions.{performed}
-use Rattle.hardware_table.specs.Moves.{after_move, with_fault_bits, fault_used, with_mark_bits, first_armed, fault_order, stop_of, IsVerdictBy}
-use Rattle.trace_replay.specs.Moments.{Deed, Search, Seek, Recal, Offset, Centre, Clear, Pack, Transfer, Arrive, Sector, Intr, Try, Attn, End}
-use Rattle.trace_replay.specs.Drives.{drive_after, addressed, search_place, offset_written, transfer_function}
-use Rattle.driver_laws.proofs.rules.Armed.{performed_armed, find_first, tags_apart}
+use Rattle.hardware_table.specs.Moves.{after_move, fault_used, with_mark_bits, first_armed, fault_order, stop_of, IsVerdictBy}
+use Rattle.trace_replay.specs.Moments.{Deed, Search, Seek, Recal, Offset, Centre, Clear, Pack, Transfer, Arrive, Sector}
+use Rattle.trace_replay.specs.Drives.{drive_after, addressed, search_place, offset_written}
+use Rattle.driver_laws.proofs.rules.Armed.{performed_armed, find_first, arrived_armed, marks_armed, bits_armed, transfer_armed, fault_by}
 
 abbrev pub total : Armed → ℕ
 total a = a.seek + a.opi + a.dte + a.hcrc + a.late
@@ -72,21 +70,6 @@ total_used kind a some = by_sum (total (with_times kind (times_armed kind a - 1)
     by_sum t o m some e = omega (arith, some, e)
 
 -- ---- what leaves the faults
-arrived_same : (w : Work) (d : DriveState) → (arrived_from w d).armed ≡ d.armed
-arrived_same work.Ready d = refl
-arrived_same other d = refl
-
-bits_same : (k : FaultKind) (d : DriveState) → (with_fault_bits k d).armed ≡ d.armed
-bits_same fault.Seek d = refl
-bits_same other d = refl
-
-marks_same : (kind : DriveKind) (d : DriveState) → (with_mark_bits kind d).armed ≡ d.armed
-marks_same Rp06 d = refl
-marks_same other d = refl
-
-transfer_same : (write : Bool) (d : DriveState) → (performed (transfer_function write) d).armed ≡ d.armed
-transfer_same true d = performed_armed function.Write d
-transfer_same false d = performed_armed function.Read d
 
 no_more : (new old : Armed) → new ≡ old → total new ≤ total old
 no_more new old is = subst (λ (a : Armed). total a ≤ total old) (sym is) (omega arith)
@@ -97,8 +80,8 @@ ended P true d is = is
 ended P false d is = is
 
 moved_less : (v : Moved) (block : ℕ) (d : DriveState) → total (after_move v block d).armed ≤ total d.armed
-moved_less (verdict.Faulted k) block d = subst (λ (a : Armed). total a ≤ total d.armed) (sym (bits_same k (fault_used k d))) (total_less k d.armed)
-moved_less verdict.Marked block d = no_more (with_mark_bits d.kind d).armed d.armed (marks_same d.kind d)
+moved_less (verdict.Faulted k) block d = subst (λ (a : Armed). total a ≤ total d.armed) (sym (bits_armed k (fault_used k d))) (total_less k d.armed)
+moved_less verdict.Marked block d = no_more (with_mark_bits d.kind d).armed d.armed (marks_armed d.kind d)
 moved_less other block d = omega arith
 
 -- NO LINE ARMS ANY.
@@ -110,8 +93,8 @@ line_less d a target (Offset o) = no_more (drive_after d a target (Offset o)).ar
 line_less d a target Centre = no_more (drive_after d a target Centre).armed d.armed (performed_armed function.Centre d)
 line_less d a target Clear = no_more (drive_after d a target Clear).armed d.armed (performed_armed function.Clear d)
 line_less d a target Pack = no_more (drive_after d a target Pack).armed d.armed (performed_armed function.Pack d)
-line_less d a target (Transfer w b k) = no_more (drive_after d a target (Transfer w b k)).armed d.armed (transfer_same w (addressed (place_at d.kind b) d))
-line_less d a target Arrive = no_more (drive_after d a target Arrive).armed d.armed (arrived_same d.work d)
+line_less d a target (Transfer w b k) = no_more (drive_after d a target (Transfer w b k)).armed d.armed (transfer_armed w (addressed (place_at d.kind b) d))
+line_less d a target Arrive = no_more (drive_after d a target Arrive).armed d.armed (arrived_armed d.work d)
 line_less d a target (Sector b v) = ended (λ (x : Armed). total x ≤ total d.armed) (stepped v a).completion (after_move v (next_block a) d) (moved_less v (next_block a) d)
 line_less d a target other = omega arith
 
@@ -124,19 +107,11 @@ tag : Moved → ℕ
 tag (verdict.Faulted k) = 3
 tag v = 0
 
-fault_by : (stop : Option Moved) (k : FaultKind) (marked write : Bool) (places : Option (List ℕ)) → IsVerdictBy stop marked write places (verdict.Faulted k) → stop ≡ Some (verdict.Faulted k)
-unfolding tag
-fault_by (Some stop) k marked write places is = ap Some (sym is)
-fault_by None k true write places is = absurd (tags_apart 3 0 refl (ap tag is))
-fault_by None k false true places is = absurd (tags_apart 3 0 refl (ap tag is))
-fault_by None k false false None is = absurd (tags_apart 3 0 refl (ap tag is))
-fault_by None k false false (Some places) is = absurd is
-
 first_is : (b : Bool) (f : Option FaultKind) (k : FaultKind) → (if b then option_map verdict.Faulted f else Some verdict.Offline) ≡ Some (verdict.Faulted k) → f ≡ Some k
 unfolding tag kind_of
 first_is true None k is = absurd (none-some (verdict.Faulted k) is)
 first_is true (Some j) k is = ap Some (ap kind_of (same_Some (verdict.Faulted j) (verdict.Faulted k) is))
-first_is false f k is = absurd (tags_apart 0 3 refl (ap tag (same_Some verdict.Offline (verdict.Faulted k) is)))
+first_is false f k is = absurd (eqb-false 0 3 refl (ap tag (same_Some verdict.Offline (verdict.Faulted k) is)))
 
 some_times : (n : ℕ) → nat_lt 0 n ≡ true → 1 ≤ n
 some_times n is = grind (arith, nat_tests)
@@ -145,7 +120,7 @@ pub fault_strikes : (d : DriveState) (a : AdapterState) (target : Place) (b : �
     → IsVerdictBy (stop_of d) marked write places (verdict.Faulted k) → 1 + total (drive_after d a target (Sector b (verdict.Faulted k))).armed ≤ total d.armed
 fault_strikes d a target b k marked write places is =
     ended (λ (x : Armed). 1 + total x ≤ total d.armed) (stepped (verdict.Faulted k) a).completion (after_move (verdict.Faulted k) (next_block a) d)
-    (subst (λ (x : Armed). 1 + total x ≤ total d.armed) (sym (bits_same k (fault_used k d))) (total_used k d.armed (some_times (times_armed k d.armed) armed)))
+    (subst (λ (x : Armed). 1 + total x ≤ total d.armed) (sym (bits_armed k (fault_used k d))) (total_used k d.armed (some_times (times_armed k d.armed) armed)))
   where
     nothing : (j : ℕ) → Unit {0}
     nothing j = tt

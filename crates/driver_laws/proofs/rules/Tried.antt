@@ -2,7 +2,7 @@
 use Rattle.std.proofs.Common.{◌≡◌, ℕ, ◌<◌, ◌≤◌, ◌+◌, ◌==◌, ◌&&◌, Bool, true, false, not, List, [], ◌++◌, length, take, Option, None, Some, refl, sym, ap, ◌∙◌, arith}
 use Rattle.std.specs.Prelude.{if◌then◌else◌, is_some, option_map}
 use Rattle.std.proofs.lemmas.Option.{same_Some, none-some}
-use Rattle.std.proofs.lemmas.Bool.{eq-eqb, ne_eqb}
+use Rattle.std.proofs.lemmas.Bool.{eq-eqb, ne_eqb, false≢true}
 use Rattle.hardware_table.specs.declared.FaultKind.{FaultKind}
 use Rattle.hardware_table.specs.declared.Moved.{Moved}
 use Rattle.hardware_table.specs.declared.Moved.TheVariants as verdict
@@ -17,9 +17,6 @@ use Rattle.driver_laws.proofs.rules.Blocks.{not_written, part_length}
 use Rattle.driver_laws.proofs.rules.Noises.{Harmless, read_clean, read_burst}
 use Rattle.driver_laws.proofs.rules.Hands.{same_hand, at_home, read_more, written_more}
 
-pub no : false ≡ true → ⊥
-no e = cc
-
 -- ---- the verdict of a sector whose bytes move
 abbrev pub MovedBy : Bool → Option (List ℕ) → Moved → Type 0
 MovedBy true places v = v ≡ verdict.Clean
@@ -27,8 +24,8 @@ MovedBy false places v = IsReadVerdict places v
 
 pub has_moved : (stop : Option Moved) (marked write : Bool) (places : Option (List ℕ)) (v : Moved) → ((x : Moved) → stop ≡ Some x → has_bytes x ≡ false)
     → IsVerdictBy stop marked write places v → has_bytes v ≡ true → (marked ≡ false) × MovedBy write places v
-has_moved (Some x) marked write places v none is bytes = absurd (no (sym (none x refl) ∙ ap has_bytes (sym is) ∙ bytes))
-has_moved None true write places v none is bytes = absurd (no (sym (ap has_bytes is) ∙ bytes))
+has_moved (Some x) marked write places v none is bytes = absurd (false≢true (sym (none x refl) ∙ ap has_bytes (sym is) ∙ bytes))
+has_moved None true write places v none is bytes = absurd (false≢true (sym (ap has_bytes is) ∙ bytes))
 has_moved None false true places v none is bytes = (refl, is)
 has_moved None false false places v none is bytes = (refl, is)
 

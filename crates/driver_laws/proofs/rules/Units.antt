@@ -9,12 +9,12 @@ use Rattle.seek_engine.specs.Seek.{sector_before}
 use Rattle.trace_replay.specs.requests.ServiceOrder.{Waiting as Waiter, put, Service, after_leave}
 use Rattle.trace_replay.proofs.requests.ServiceOrderRuns.{newcomer, after_join-waiting}
 use Rattle.trace_replay.specs.requests.Requests.{Request}
-use Rattle.trace_replay.specs.Moments.{Deed, Search, Seek, Recal, Offset, Centre, Clear, Pack, Transfer, Arrive, Sector, Intr, Try, Attn, End}
+use Rattle.trace_replay.specs.Moments.{Deed, Arrive, Sector, Intr, Attn, End}
 use Rattle.trace_replay.specs.Service.{cylinder_of, first_waiting, in_hand, head_of, request_or_none, service_after, target_of}
 use Rattle.trace_replay.specs.Conversation.{SearchFor, Stage, Waiting, Steps, UnderWay, AtOnce, Moving, Saying, Ending, Progress, not_begun, TalkMay, begun, starts_at_once, is_waiting, progress_after, stage_after}
 use Rattle.trace_replay.specs.Replay.{UnitSeen, hand_of, stage_joined, unit_joined}
 use Rattle.trace_replay.specs.History.{with_deed}
-use Rattle.trace_replay.proofs.Kept.{UnitFits, UnitTold, AskSomeBlocks, IsHeld, end_kept, head_stays, no}
+use Rattle.trace_replay.proofs.Kept.{UnitFits, UnitTold, AskSomeBlocks, IsHeld, end_kept, head_stays, no, some_behind}
 use Rattle.driver_laws.specs.rules.Measure.{events_at, events_behind, events_of_unit, blocks_waiting}
 use Rattle.driver_laws.specs.rules.Drains.{event_by}
 use Rattle.driver_laws.proofs.rules.Costs.{cost_in, cost_at, Costs, Arrives, due_costs, arrive_costs, attn_costs, sector_costs, intr_costs, positions_least}
@@ -44,10 +44,6 @@ begun_within d (w ∷ rest) some = record {
   events = omega (arith, some.0, first_few d (target_of d.kind w.request));
   commands = omega (arith, some.0, first_few d (target_of d.kind w.request));
 }
-
-some_behind : (waiting : List (Waiter Request)) → AskSomeBlocks waiting → AskSomeBlocks (drop 1 waiting)
-some_behind [] some = tt
-some_behind (w ∷ rest) some = some.1
 
 -- ---- a line of a unit
 -- an arrival comes where the drive positions, which it no longer does after it

@@ -2,11 +2,10 @@
 use Rattle.std.proofs.Common.{◌≡◌, ◌≢◌, ◌⊎◌, inl, inr, ℕ, zero, suc, ◌<◌, ◌≤◌, ◌+◌, ◌-◌, ◌*◌, ◌/◌, ◌==◌, ◌&&◌, nat_lt, Bool, true, false, not, List, [], ◌∷◌, ◌++◌, length, Option, None, Some, refl, sym, ap, ◌∙◌, subst, arith, append_assoc}
 use Rattle.std.specs.Prelude.{if◌then◌else◌, is_some, IsSome, slice_index}
 use Rattle.std.proofs.lemmas.Option.{none-some, same_Some}
-use Rattle.std.proofs.lemmas.Bool.{eq-eqb, le-leb}
+use Rattle.std.proofs.lemmas.Bool.{eq-eqb, le-leb, false≢true}
 use Rattle.std.proofs.lemmas.Bool.Decides.{eqb_tells}
 use Rattle.pack_geometry.specs.declared.DriveKind.{DriveKind}
-use Rattle.pack_geometry.specs.declared.DriveKind.TheVariants.{Rp06, Rm03, Rm05}
-use Rattle.pack_geometry.specs.Geometry.{block_count, copy_at}
+use Rattle.pack_geometry.specs.Geometry.{copy_at}
 use Rattle.pack_geometry.specs.Pack as model
 use Rattle.pack_geometry.specs.TableSpelling.{Table}
 use Rattle.pack_geometry.specs.PackTable.{IsTableAt, places_of}
@@ -18,25 +17,25 @@ use Rattle.partitions.specs.declared.Admission.{Admission}
 use Rattle.partitions.specs.declared.Admission.TheVariants.{Inside, Eof, Outside}
 use Rattle.trace_replay.specs.requests.Requests.{Request, IsRequest, first_block, Rejection, AtEnd, Beyond, rejection_answer, Answer, ReadOk, WriteOk, OutsidePartition, EndOfPartition, NoFrames, Failed, Offline, Locked, Unforwarded, Fault}
 use Rattle.trace_replay.specs.Script.{Submit, Drain, Input, IsThere}
-use Rattle.trace_replay.specs.Moments.{Deed, Search, Seek, Recal, Offset, Centre, Clear, Pack, Transfer, Arrive, Sector, Intr, Try, Attn, End, Moment, Played, Told, Idle, Answered, played, answers_in}
+use Rattle.trace_replay.specs.Moments.{Deed, End, Moment, Played, Told, Idle, Answered, played, answers_in}
 use Rattle.trace_replay.specs.Service.{in_hand, first_waiting, request_or_none, frames_needed}
-use Rattle.trace_replay.specs.Conversation.{Stage, Waiting, Steps as StepsLeft, UnderWay, AtOnce, Moving, Saying, Ending, not_begun, is_waiting}
+use Rattle.trace_replay.specs.Conversation.{Stage, Waiting, not_begun, is_waiting}
 use Rattle.trace_replay.specs.Replay.{Replay, UnitSeen, next_wish, MayCome, Submission, Refused, Joined, submission_by, Follows, after_moment, replay_played}
 use Rattle.trace_replay.proofs.Kept.{IsHeld}
 use Rattle.driver_laws.specs.rules.Drains.{IsIdle}
 use Rattle.driver_laws.proofs.rules.Tells.{Between, moments_between}
 use Rattle.driver_laws.specs.rules.Machine.{Blocks, Machine, idle, request_of, without, frames_of, kind_of, meets, answers_at_once, MayAnswer, blocks_after, after_answer, Steps, bytes_of_first}
 use Rattle.driver_laws.specs.rules.Machine.{submitted as machine_submitted}
-use Rattle.driver_laws.specs.rules.Stands.{Setup, home_at, home_in, held_at, QueueStands, sure_claims}
+use Rattle.driver_laws.specs.rules.Stands.{Setup, home_at, home_in, held_at, sure_claims}
 use Rattle.driver_laws.proofs.rules.Blocks.{read_blocks}
 use Rattle.driver_laws.proofs.rules.Inputs.{append_nil, over_owes}
 use Rattle.driver_laws.proofs.rules.Beginnings.{steps_join}
-use Rattle.driver_laws.proofs.rules.MachineRuns.{home_marks}
+use Rattle.driver_laws.proofs.rules.MachineRuns.{home_marks, no_length, no_one_waits}
 use Rattle.driver_laws.specs.rules.Calm.{IsCalm, is_calm_answer, is_calm_input, are_calm, IsCalmEnd, is_refused_at_once}
 use Rattle.driver_laws.proofs.rules.CalmLaws.{stays_calm, runs_stay_calm, ends_are_calm, played_calm, other_event}
 use Rattle.driver_laws.specs.rules.Sessions.{Part, behind, told_in, waited}
 use Rattle.driver_laws.specs.rules.Waited.{unusable_or, first_unusable, answer_by, answer_of, answer_at, map_at, map_of, first_in, met_in, answer_in, map_behind, IsAnswered, IsWaitedFor, WaitedIsAnswered, AreLeftBy, with_packs, RestsOver, RestsAgain, PacksHoldMap}
-use Rattle.driver_laws.proofs.rules.Restful.{no, rest_keeps, rest_stands, held_there}
+use Rattle.driver_laws.proofs.rules.Restful.{rest_keeps, rest_stands, held_there}
 use Rattle.driver_laws.proofs.rules.Parts.{PartStep, part_step}
 
 -- ---- the answers of some moments and then of more
@@ -52,13 +51,6 @@ answers_append (Told line unit id deed ∷ ms) ns = told_append line unit id dee
 answers_append (Idle line ∷ ms) ns = answers_append ms ns
 
 -- ---- nothing is outstanding at the end
-no_length : {A : Type 0} (xs : List A) → 0 ≡ length xs → xs ≡ []
-no_length [] is = refl
-no_length (x ∷ xs) is = absurd (omega (arith, is))
-
-no_one_waits : (drives : ℕ → Option DriveKind) (unit : ℕ) (outstanding : List Request) (waiting : List (Waiter Request)) → outstanding ≡ [] → QueueStands drives unit outstanding waiting → waiting ≡ []
-no_one_waits drives unit outstanding [] none q = refl
-no_one_waits drives unit outstanding (w ∷ ws) none q = absurd (none-some w.request (ap (request_of w.request.id) (sym none) ∙ q.each.0.listed))
 
 -- ---- ONE REQUEST IS OUTSTANDING, and then none: it has one answer
 pub record Alone (drives : ℕ → Option DriveKind) (claims : (line : ℕ) → Request → Type 0) (line : ℕ) (blocks : ℕ → Blocks) (r : Request) (answers : List Answered) (new : Machine) : Type 0 where
@@ -67,7 +59,7 @@ pub record Alone (drives : ℕ → Option DriveKind) (claims : (line : ℕ) → 
   pub may : MayAnswer (claims line r) (blocks r.unit) (first_block (kind_of drives r.unit) r) r answer
   pub is : new.blocks ≡ blocks_after blocks (first_block (kind_of drives r.unit) r) r answer
 
-cons_never : {A : Type 0} (x : A) (xs : List A) → x ∷ xs ≡ [] → ⊥
+pub cons_never : {A : Type 0} (x : A) (xs : List A) → x ∷ xs ≡ [] → ⊥
 cons_never x xs e = cc
 
 found_one : (id : ℕ) (r q : Request) → request_of id (r ∷ []) ≡ Some q → (r.id ≡ id) × (r ≡ q)
@@ -110,11 +102,8 @@ alone drives claims line blocks r (a ∷ rest) new none steps =
 
 -- ---- THE ANSWER is that of the map
 usable_on : (block : Option (List ℕ)) (k : ℕ) (later : Option ℕ) → IsSome block → unusable_or block k later ≡ later
-usable_on None k later is = absurd (no is)
+usable_on None k later is = absurd (false≢true is)
 usable_on (Some bytes) k later is = refl
-
-next_of : (first k : ℕ) → first + suc k ≡ suc (first + k)
-next_of first k = omega arith
 
 all_usable : (left : ℕ) (blocks : Blocks) (first k : ℕ) → ((j : ℕ) → k ≤ j → j < k + left → IsSome (blocks (first + j))) → first_unusable left blocks first k ≡ None
 all_usable zero blocks first k usable = refl
@@ -150,9 +139,9 @@ answer_is blocks first r WriteOk may calm =
     ∙ ap (λ z. answer_by z blocks first r) (sym (all_usable r.count blocks first 0 (λ j from to. may.1 j (omega (arith, to)))))
 answer_is blocks first r (Failed Unforwarded done) may calm =
     ap (λ z. answer_by z blocks first r) (sym (unusable_at r.count blocks first 0 done (omega arith) (omega (arith, may.0)) (λ j from before. may.1 j before) may.2))
-answer_is blocks first r (Failed Offline done) may calm = absurd (no calm)
-answer_is blocks first r (Failed Locked done) may calm = absurd (no calm)
-answer_is blocks first r (Failed Fault done) may calm = absurd (no calm)
+answer_is blocks first r (Failed Offline done) may calm = absurd (false≢true calm)
+answer_is blocks first r (Failed Locked done) may calm = absurd (false≢true calm)
+answer_is blocks first r (Failed Fault done) may calm = absurd (false≢true calm)
 answer_is blocks first r OutsidePartition may calm = absurd may
 answer_is blocks first r EndOfPartition may calm = absurd may
 answer_is blocks first r NoFrames may calm = absurd may
@@ -200,9 +189,6 @@ pub begun_calm : (s : Replay) (line : ℕ) (input : Input) → is_calm_input inp
 begun_calm s line input is calm = other_event (replay_played s input) _ (played_calm s input is calm)
 
 -- ---- a table stays where its copies do
-copy_below : (kind : DriveKind) (k : ℕ) → k < 5 → copy_at kind k < block_count kind
-copy_below Rp06 k lt = omega (arith, lt)
-copy_below other k lt = omega (arith, lt)
 
 no_home_there : (kind : DriveKind) (table : Option Table) (pack : model.Pack) (k block : ℕ) → length (places_of table) ≤ 126 → home_of kind table pack block ≡ Some (copy_at kind k) → ⊥
 no_home_there kind table pack k block room home = apart (copy_at kind k) (home_below kind table pack block (copy_at kind k) k room home)
@@ -234,7 +220,7 @@ waits_by other waiting none held = absurd (not_held waiting none (held refl))
 
 fresh_by : (u : UnitSeen) → u.stage ≡ Waiting → (u.progress ≡ not_begun) ⊎ (is_waiting u.stage ≡ false) → u.progress ≡ not_begun
 fresh_by u waits (inl is) = is
-fresh_by u waits (inr busy) = absurd (no (sym busy ∙ ap is_waiting waits))
+fresh_by u waits (inr busy) = absurd (false≢true (sym busy ∙ ap is_waiting waits))
 
 -- ---- ITS FRAMES are there
 request_there : {P : Type 0} (drive : Option DriveKind) → IsThere drive (λ kind. P) → P
@@ -249,8 +235,8 @@ frames_few r is = few r.offset r.count r.last is.in_frame is.few is.in_block
 
 -- ---- a drain is over
 never_two : (d : Bool) → d && false ≡ true → ⊥
-never_two true is = no is
-never_two false is = no is
+never_two true is = false≢true is
+never_two false is = false≢true is
 
 between_off : (s : Replay) → Between s → s.outstanding ≡ 0 → s.event.between ≡ false
 between_off s between none = by s.event.between refl
@@ -401,7 +387,7 @@ module _ (setup : Setup) (s : Replay) (line : ℕ) (r : Request) (asked drained 
     stages = waits_last;
     queues = waiting_none;
     fresh = λ unit. fresh_by (Last.units unit) (waits_last unit) (two.keeps.fits unit).fresh;
-    between = between_off Last (moments_between (after_moment Mid (Played line Drain)) drained w.session.1.0.follows (λ on. absurd (no on))) w.over.answered;
+    between = between_off Last (moments_between (after_moment Mid (Played line Drain)) drained w.session.1.0.follows (λ on. absurd (false≢true on))) w.over.answered;
   }
 
   pub rests_again : (packs : ℕ → model.Pack) → AreLeftBy setup packs Last → RestsOver (with_packs setup packs) Last

@@ -2,31 +2,21 @@
 use Rattle.std.proofs.Common.{◌≡◌, ℕ, ◌==◌, ◌&&◌, Bool, true, false, not, List, [], ◌∷◌, ◌++◌, drop, Option, None, Some, refl, sym, ap, subst, ◌∙◌}
 use Rattle.std.specs.Prelude.{if◌then◌else◌}
 use Rattle.std.proofs.lemmas.Option.{same_Some, none-some}
+use Rattle.std.proofs.lemmas.Bool.{false≢true, and_from}
 use Rattle.drive_registers.specs.Codes.{offset_field}
 use Rattle.hardware_table.specs.declared.Moved.{Moved}
 use Rattle.hardware_table.specs.declared.Moved.TheVariants as verdict
 use Rattle.hardware_table.specs.Drive.{DriveState}
 use Rattle.trace_replay.specs.requests.Requests.{Request, Answer, ReadOk, WriteOk, Failed, Offline, Locked}
-use Rattle.trace_replay.specs.Moments.{Deed, Search, Seek, Recal, Offset, Centre, Clear, Pack, Transfer, Arrive, Sector, Intr, Try, Attn, End}
-use Rattle.trace_replay.specs.Conversation.{Stage, Waiting, Steps, UnderWay, AtOnce, Moving, Saying, Ending, Segment, OwnBlocks, Replacement, Hand, Positioning, SearchFor, Recalibrate, SeekTo, OffsetBy, due, guarded, needs_unlocked, is_write, command_of, transfer_of, saying, clear_lines, centre_lines, try_lines, start_of, outcome, ok_answer, marked, forwarded, entry_of, interrupted_by, last_of, segment_of, step_taken, step_ended, said, begun, stage_after}
+use Rattle.trace_replay.specs.Moments.{Deed, Centre, Clear, Pack, Transfer, Arrive, Sector, Intr, Try, Attn, End}
+use Rattle.trace_replay.specs.Conversation.{Stage, Waiting, Steps, UnderWay, AtOnce, Moving, Saying, Ending, Segment, OwnBlocks, Replacement, Hand, Positioning, SearchFor, due, guarded, needs_unlocked, is_write, command_of, transfer_of, saying, clear_lines, centre_lines, try_lines, start_of, outcome, ok_answer, marked, forwarded, entry_of, interrupted_by, last_of, segment_of, step_taken, step_ended, said, begun, stage_after}
 use Rattle.driver_laws.specs.rules.Calm.{IsGood, is_calm_verdict, is_calm_answer, is_no_end, are_no_ends, is_calm_stage}
-use Rattle.driver_laws.proofs.rules.Drives.{no, IsCalmDeed}
-
-pub both : (a b : Bool) → a ≡ true → b ≡ true → a && b ≡ true
-both true b one other = other
-both false b one other = absurd (no one)
-
-pub first_of : (a b : Bool) → a && b ≡ true → a ≡ true
-first_of true b is = refl
-first_of false b is = absurd (no is)
-
-pub second_of : (a b : Bool) → a && b ≡ true → b ≡ true
-second_of true b is = is
-second_of false b is = absurd (no is)
+use Rattle.driver_laws.proofs.rules.Drives.{IsCalmDeed}
+use Rattle.driver_laws.proofs.rules.Stages.{first_of, second_of}
 
 saying_calm : (lines : List Deed) (next : Stage) → are_no_ends lines ≡ true → is_calm_stage next ≡ true → is_calm_stage (saying lines next) ≡ true
 saying_calm [] next lines_are calm = calm
-saying_calm (line ∷ lines) next lines_are calm = both (are_no_ends (line ∷ lines)) (is_calm_stage next) lines_are calm
+saying_calm (line ∷ lines) next lines_are calm = and_from (are_no_ends (line ∷ lines)) (is_calm_stage next) lines_are calm
 
 dropped : (lines : List Deed) → are_no_ends lines ≡ true → are_no_ends (drop 1 lines) ≡ true
 dropped [] are = refl
@@ -45,7 +35,7 @@ ended_calm : (stage : Stage) → is_calm_stage stage ≡ true → is_calm_stage 
 ended_calm (UnderWay left segment) calm = refl
 ended_calm other calm = calm
 
-last_calm : (stage : Stage) → is_calm_stage stage ≡ true → is_calm_verdict (last_of stage) ≡ true
+pub last_calm : (stage : Stage) → is_calm_stage stage ≡ true → is_calm_verdict (last_of stage) ≡ true
 last_calm (Moving segment left last) calm = calm
 last_calm other calm = refl
 
@@ -69,7 +59,7 @@ marked_calm h (Replacement block) = refl
 outcome_calm : (v : Moved) (h : Hand) (segment : Segment) → is_calm_verdict v ≡ true → is_calm_stage (outcome v h segment) ≡ true
 outcome_calm verdict.Clean h segment calm = continued_by (h.progress.done == h.request.count) h
 outcome_calm verdict.Marked h segment calm = marked_calm h segment
-outcome_calm other h segment calm = absurd (no calm)
+outcome_calm other h segment calm = absurd (false≢true calm)
 
 no_ends_by : (none : Bool) → are_no_ends ((if none then [] else Centre ∷ []) ++ []) ≡ true
 no_ends_by true = refl
@@ -78,7 +68,7 @@ no_ends_by false = refl
 lines_calm : (v : Moved) (d : DriveState) (block failures : ℕ) → is_calm_verdict v ≡ true → are_no_ends (clear_lines v ++ centre_lines d ++ try_lines v block failures) ≡ true
 lines_calm verdict.Clean d block failures calm = no_ends_by (offset_field d.offset == 0)
 lines_calm verdict.Marked d block failures calm = no_ends_by (offset_field d.offset == 0)
-lines_calm other d block failures calm = absurd (no calm)
+lines_calm other d block failures calm = absurd (false≢true calm)
 
 interrupted_calm : (v : Moved) (d : DriveState) (h : Hand) (segment : Segment) → is_calm_verdict v ≡ true → is_calm_stage (interrupted_by v d h segment) ≡ true
 interrupted_calm v d h segment calm =
@@ -106,10 +96,10 @@ stage_calm stage other d h next is calm = taken_calm stage calm
 -- ---- an end that is due
 guarded_by : (online locked valid : Bool) (done : ℕ) (command : Deed) (answer : Answer) → online ≡ true → locked ≡ false → is_no_end command ≡ true
     → (if not online then End (Failed Offline done) else if locked then End (Failed Locked done) else if not valid then Pack else command) ≡ End answer → ⊥
-guarded_by true false true done command answer on off none is = no (sym (ap is_no_end is) ∙ none)
-guarded_by true false false done command answer on off none is = no (sym (ap is_no_end is))
-guarded_by true true valid done command answer on off none is = no (sym off)
-guarded_by false locked valid done command answer on off none is = no on
+guarded_by true false true done command answer on off none is = false≢true (sym (ap is_no_end is) ∙ none)
+guarded_by true false false done command answer on off none is = false≢true (sym (ap is_no_end is))
+guarded_by true true valid done command answer on off none is = false≢true (sym off)
+guarded_by false locked valid done command answer on off none is = false≢true on
 
 never_locked : (needs locked : Bool) → locked ≡ false → needs && locked ≡ false
 never_locked true locked off = off
@@ -135,7 +125,7 @@ end_calm d h (AtOnce segment) answer g calm is =
 end_calm d h (Moving segment left last) answer g calm is = absurd (none-some (End answer) is)
 end_calm d h (Saying [] next) answer g calm is = absurd (none-some (End answer) is)
 end_calm d h (Saying (line ∷ rest) next) answer g calm is =
-    absurd (no (sym (ap is_no_end (same_Some line (End answer) is)) ∙ first_of (is_no_end line) (are_no_ends rest) (first_of (are_no_ends (line ∷ rest)) (is_calm_stage next) calm)))
+    absurd (false≢true (sym (ap is_no_end (same_Some line (End answer) is)) ∙ first_of (is_no_end line) (are_no_ends rest) (first_of (are_no_ends (line ∷ rest)) (is_calm_stage next) calm)))
 end_calm d h (Ending given) answer g calm is = subst (λ z. is_calm_answer z ≡ true) (same_end given answer (same_Some (End given) (End answer) is)) calm
   where
     same_end : (x y : Answer) → End x ≡ End y → x ≡ y

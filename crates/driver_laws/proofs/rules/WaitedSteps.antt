@@ -7,8 +7,6 @@ use Rattle.driver_laws.specs.rules.Bytes.{Touches, ComesTo}
 use Rattle.driver_laws.specs.rules.Pieces.{EndsBlock, Reaches, bytes_among}
 
 -- ---- the bytes in the first blocks of a piece
-pub none_among : (skip size : ℕ) → bytes_among 0 skip size ≡ 0
-none_among skip size = refl
 
 pub some_among : (n skip size : ℕ) → 0 < n → bytes_among n skip size ≡ min (512 * n - skip) size
 some_among n skip size some = rw (other n some) refl

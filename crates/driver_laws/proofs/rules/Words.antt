@@ -1,6 +1,6 @@
 -- The lines that count as commands are told as `cmd`, and the event lines by their four words.
 use Rattle.std.proofs.Common.{ℕ, inl, inr, List, [], ◌∷◌, refl, ap, arith, codes}
-use Rattle.trace_replay.specs.Moments.{Search, Seek, Recal, Offset, Centre, Clear, Pack, Transfer, Arrive, Sector, Intr, Try, Attn, End}
+use Rattle.trace_replay.specs.Moments.{Arrive, Sector, Intr, Try, Attn, End}
 use Rattle.driver_laws.specs.rules.Commands.{AreToldAsCommands}
 use Rattle.driver_laws.specs.rules.Drains.{IsEventWord, AreToldAsEvents}
 

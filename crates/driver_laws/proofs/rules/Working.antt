@@ -1,5 +1,5 @@
 -- Where no line comes, each adapter is started that has units ready at it; and so all units are at work.
-use Rattle.std.proofs.lemmas.Bool.{or_parts}
+use Rattle.std.proofs.lemmas.Bool.{or_parts, false≢true, true≢false, eqb-true}
 use Rattle.std.proofs.lemmas.Option.{same_Some, none-some}
 use Rattle.trace_replay.specs.Script.{AreApart}
 use Rattle.std.proofs.Common.{◌≡◌, inl, inr, ℕ, ◌==◌, ◌&&◌, ◌||◌, Bool, true, false, not, List, [], ◌∷◌, refl, sym, ap, ◌∙◌, subst, arith}
@@ -13,11 +13,9 @@ use Rattle.trace_replay.specs.Conversation.{Stage, Waiting, Steps, UnderWay, AtO
 use Rattle.trace_replay.specs.Events.{Act, Done, Refusing, Arriving, Trying, Serving, NothingToDo, Wish, NoLine, DueLine, wish_in, wish_at_start, first_ready, is_no_line, can_attend, serving, act_of_attend, act_of_move, act_of_arrival, adapters_there}
 use Rattle.trace_replay.specs.Replay.{Replay, at_unit, next_wish, is_at_work, are_at_work, act_drained, attend_act, UnitSeen}
 use Rattle.driver_laws.specs.rules.Consistent.{is_moving, is_listed, Agrees, serves, AreDrives, IsAct, IsConsistent, AreUp, IsDue}
-use Rattle.driver_laws.proofs.rules.Stages.{no, nor}
-use Rattle.driver_laws.proofs.rules.Queues.{is_same}
 
 no_due : (b : Bool) (w : Wish) (u : ℕ) → is_no_line (if b then DueLine u else w) ≡ true → (b ≡ false) × (is_no_line w ≡ true)
-no_due true w u e = absurd (no e)
+no_due true w u e = absurd (false≢true e)
 no_due false w u e = (refl, e)
 
 -- nobody goes on, and the event brings nothing
@@ -29,7 +27,7 @@ nobody s c e unit = at (goes_on (s.units unit).stage) refl
   where
     at : (b : Bool) → goes_on (s.units unit).stage ≡ b → b ≡ false
     at false is = refl
-    at true is = absurd (nor (sym is ∙ ap (λ z. goes_on (s.units z).stage) (c.event.speaker unit is) ∙ (silent s e).0))
+    at true is = absurd (true≢false (sym is ∙ ap (λ z. goes_on (s.units z).stage) (c.event.speaker unit is) ∙ (silent s e).0))
 
 -- an adapter at its start
 started_by : (a : AdapterSeen) → a.state.busy ≡ false → is_no_line (wish_at_start a) ≡ true → a.ready ≡ []
@@ -37,18 +35,18 @@ started_by a free e = none a.ready (subst (λ b. is_no_line (if b then NoLine el
   where
     none : (xs : List ℕ) → is_no_line (first_ready xs) ≡ true → xs ≡ []
     none [] e = refl
-    none (x ∷ xs) e = absurd (no e)
+    none (x ∷ xs) e = absurd (false≢true e)
 
 served_over : (adapters : ℕ → AdapterSeen) (k : ℕ) (act : Act) → is_no_line (wish_in adapters act) ≡ true → serves act k ≡ true → (adapters k).state.busy ≡ false
     → (adapters k).ready ≡ []
-served_over adapters k Done e is free = absurd (no is)
-served_over adapters k (Refusing u i why) e is free = absurd (no is)
-served_over adapters k (Arriving u) e is free = absurd (no is)
-served_over adapters k (Trying a) e is free = absurd (no is)
-served_over adapters k (Serving a true drives) e is free = absurd (no e)
-served_over adapters k (Serving a false (drive ∷ drives)) e is free = absurd (no e)
-served_over adapters k (Serving a false []) e is free = started_by (adapters k) free (subst (λ z. is_no_line (wish_at_start (adapters z)) ≡ true) (is_same a k is) e)
-served_over adapters k NothingToDo e is free = absurd (no is)
+served_over adapters k Done e is free = absurd (false≢true is)
+served_over adapters k (Refusing u i why) e is free = absurd (false≢true is)
+served_over adapters k (Arriving u) e is free = absurd (false≢true is)
+served_over adapters k (Trying a) e is free = absurd (false≢true is)
+served_over adapters k (Serving a true drives) e is free = absurd (false≢true e)
+served_over adapters k (Serving a false (drive ∷ drives)) e is free = absurd (false≢true e)
+served_over adapters k (Serving a false []) e is free = started_by (adapters k) free (subst (λ z. is_no_line (wish_at_start (adapters z)) ≡ true) (eqb-true a k is) e)
+served_over adapters k NothingToDo e is free = absurd (false≢true is)
 
 pub all_started : (s : Replay) → IsConsistent s → is_no_line (next_wish s) ≡ true → (k : ℕ) → (s.adapters k).state.busy ≡ false → (s.adapters k).ready ≡ []
 all_started s c e k free = elim (c.event.started k free) [
@@ -57,7 +55,7 @@ all_started s c e k free = elim (c.event.started k free) [
 ]
 
 -- ---- at work
-yes_second : (x y : Bool) → y ≡ true → x || y ≡ true
+pub yes_second : (x y : Bool) → y ≡ true → x || y ≡ true
 yes_second true y e = refl
 yes_second false y e = e
 
@@ -68,11 +66,11 @@ one_at_work s c e unit = by (s.units unit).stage refl
     g = c.units unit
 
     quiet : (stage : Stage) → (s.units unit).stage ≡ stage → goes_on stage ≡ true → is_at_work s unit ≡ true
-    quiet stage is on = absurd (nor (sym on ∙ ap goes_on (sym is) ∙ nobody s c e unit))
+    quiet stage is on = absurd (true≢false (sym on ∙ ap goes_on (sym is) ∙ nobody s c e unit))
 
     busy_now : (b : Bool) → (at_unit s unit).state.busy ≡ b → waits (s.units unit).stage ≡ true → b ≡ true
     busy_now true is w = refl
-    busy_now false is w = absurd (nor (sym (g.queued ∙ w) ∙ ap (is_listed unit) (all_started s c e (adapter_of unit) is)))
+    busy_now false is w = absurd (true≢false (sym (g.queued ∙ w) ∙ ap (is_listed unit) (all_started s c e (adapter_of unit) is)))
 
     other : is_moving (s.units unit).stage ≡ false → (at_unit s unit).state.busy ≡ true → not ((at_unit s unit).state.drive == drive_of unit) ≡ true
     other still busy = ap not (ap (λ z. z && ((at_unit s unit).state.drive == drive_of unit)) (sym busy) ∙ g.busy ∙ still)
@@ -100,7 +98,7 @@ one_at_work s c e unit = by (s.units unit).stage refl
         one_of : (x y z : Bool) → x || y ≡ true → x || (y || z) ≡ true
         one_of true y z e = refl
         one_of false true z e = refl
-        one_of false false z e = absurd (no e)
+        one_of false false z e = absurd (false≢true e)
     by (AtOnce segment) is = quiet (AtOnce segment) is refl
     by (Moving segment left last) is =
         yes_second (is_waiting (s.units unit).stage) _ (yes_second (is_positioning (s.units unit).drive.work) _ (yes_second (s.units unit).drive.attention _
@@ -108,7 +106,7 @@ one_at_work s c e unit = by (s.units unit).stage refl
       where
         first_yes : (x y : Bool) → x ≡ true → x || y ≡ true
         first_yes true y e = refl
-        first_yes false y e = absurd (no e)
+        first_yes false y e = absurd (false≢true e)
     by (Saying lines next) is = quiet (Saying lines next) is refl
     by (Ending answer) is = quiet (Ending answer) is refl
 
@@ -169,7 +167,7 @@ up_kept bits (x ∷ xs) once = at (bit_at bits x == 1) refl (up_kept bits xs onc
   where
     at : (b : Bool) → (bit_at bits x == 1) ≡ b → AreUp bits (filter (λ drive. bit_at bits drive == 1) xs)
         → AreUp bits (if b then x ∷ filter (λ drive. bit_at bits drive == 1) xs else filter (λ drive. bit_at bits drive == 1) xs)
-    at true e rest = (is_same (bit_at bits x) 1 e, absent_kept (λ drive. bit_at bits drive == 1) x xs once.0, rest)
+    at true e rest = (eqb-true (bit_at bits x) 1 e, absent_kept (λ drive. bit_at bits drive == 1) x xs once.0, rest)
     at false e rest = rest
 
 attentive_up : (a : AdapterState) → AreUp a.attentions (attentive a)
@@ -178,7 +176,7 @@ attentive_up a = up_kept a.attentions drives_of_adapter (refl, (refl, (refl, (re
 serving_due : (units : ℕ → UnitSeen) (adapters : ℕ → AdapterSeen) (k : ℕ) → IsDue units adapters (serving k (adapters k).state)
 serving_due units adapters k = record { completed = λ e. e; up = attentive_up (adapters k).state }
 
-found : (p : ℕ → Bool) (xs : List ℕ) (x : ℕ) → find p xs ≡ Some x → p x ≡ true
+pub found : (p : ℕ → Bool) (xs : List ℕ) (x : ℕ) → find p xs ≡ Some x → p x ≡ true
 found p [] x is = absurd (none-some x is)
 found p (y ∷ ys) x is = at (p y) refl (found p ys x) is
   where
@@ -218,7 +216,7 @@ resumed s c e act is due = record {
   adapters = c.adapters;
   event = record {
     speaker = c.event.speaker;
-    served = λ on. absurd (nor (sym on ∙ (silent s e).0));
+    served = λ on. absurd (true≢false (sym on ∙ (silent s e).0));
     started = λ k free. inl (all_started s c e k free);
     act = is;
     due = due;

@@ -6,13 +6,13 @@ use Rattle.std.proofs.lemmas.Bool.Decides.{eqb_tells}
 use Rattle.pack_geometry.specs.Geometry.{block_count}
 use Rattle.pack_geometry.specs.Pack.{Pack, with_written, written}
 use Rattle.main_memory.specs.Bytes.{filled}
-use Rattle.main_memory.specs.Blocks.{Loan, IsLoan, size_at}
+use Rattle.main_memory.specs.Blocks.{Loan}
 use Rattle.main_memory.proofs.ByteLaws.{length-filled}
 use Rattle.hardware_table.specs.Moves.{was_written}
 use Rattle.hardware_table.specs.Adapter.{AdapterState, next_window}
 use Rattle.driver_machine.specs.World.{World, Held, adapter_of, drive_of, unit_at, adapter_at, held_in, slot_in_hand, block_in}
 use Rattle.driver_machine.specs.Acts as deed
-use Rattle.driver_machine.specs.Acts.{Refuse, Submit, Of, Change, Nothing, Taken, Deed, Tried, Scene, scene_of}
+use Rattle.driver_machine.specs.Acts.{Of, Deed, Tried, Scene, scene_of}
 use Rattle.driver_machine.specs.Guards.{InHand, IsBusyFor, Allowed}
 use Rattle.driver_machine.specs.Sound.{SlotOk, Sound}
 use Rattle.driver_laws.proofs.invariant.Scene.{HasTransferFor, SceneOk}
@@ -23,15 +23,10 @@ use Rattle.driver_laws.specs.shown.TracePasses.{packs_after}
 use Rattle.driver_laws.proofs.shown.Starting.{set_up}
 use Rattle.driver_laws.specs.shown.RunsActs.{BeyondStays, OthersStay}
 use Rattle.driver_laws.proofs.shown.Images.{block_beyond}
+use Rattle.main_memory.proofs.BlockLaws.{size_few}
+use Rattle.driver_laws.proofs.shown.QuietEachDeed.{other_by}
 
 -- HOW MANY BYTES IT GETS
-pub size_few : (loan : Loan) (k : ℕ) → IsLoan loan → size_at loan k ≤ 512
-size_few loan k is = by_test (k + 1 == loan.count)
-  where
-    by_test : (b : Bool) → (if b then loan.last else 512) ≤ 512
-    by_test true = is.shape.last_few
-    by_test false = omega arith
-
 window_inside : (skip count blocks moved size : ℕ) → skip + count ≤ blocks → moved < count → blocks ≡ size → skip + moved < size
 window_inside skip count blocks moved size fits less is = omega (arith, fits, less, is)
 
@@ -102,15 +97,6 @@ beyond_stays w (Of line u id d) held unit sound allowed = deed_beyond line u id 
 beyond_stays w other held unit sound allowed = refl
 
 -- A UNIT THAT IS NOT SET UP has no request in hand.
-pub other_by : (b : Bool) (held : ℕ → Pack) (u block : ℕ) (bytes : List ℕ) (unit : ℕ) → unit ≢ u
-    → (if b then with_written held u block bytes else held) unit ≡ held unit
-other_by false held u block bytes unit other = refl
-other_by true held u block bytes unit other = by_unit (eqb_tells unit u)
-  where
-    by_unit : ((unit == u ≡ true) × (unit ≡ u)) ⊎ ((unit == u ≡ false) × (unit ≢ u)) → with_written held u block bytes unit ≡ held unit
-    by_unit (inl here) = absurd (other here.1)
-    by_unit (inr apart) = ap (λ (t : Bool). if t then written (held u) block bytes else held unit) apart.0
-
 is_other : (w : World) (u id unit : ℕ) → Sound w → InHand w u id → (unit_at w unit).declared ≡ false → unit ≢ u
 is_other w u id unit sound hand off here =
     false≢true (sym off ∙ ap (λ (k : ℕ). (unit_at w k).declared) here ∙ (set_up w u sound hand.unit hand.some).declared)

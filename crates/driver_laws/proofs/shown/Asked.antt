@@ -6,7 +6,7 @@ use Rattle.trace_replay.specs.Causes.{AskSome}
 use Rattle.trace_replay.specs.Script as script
 use Rattle.driver_laws.specs.rules.Drains.{AreOf}
 use Rattle.driver_machine.specs.World.{World, held_in, slot_in_hand, unit_at}
-use Rattle.driver_machine.specs.Acts.{Act, Refuse, Submit, Of, Change, Nothing, Taken, after}
+use Rattle.driver_machine.specs.Acts.{Act, Of, after}
 use Rattle.driver_machine.specs.Lines.{deed_told, lines_with, lines_of, lines_of_all}
 use Rattle.driver_laws.specs.shown.Drains.{AreAsked, LinesAskNothing, CallsAsk}
 

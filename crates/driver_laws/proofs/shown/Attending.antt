@@ -6,9 +6,9 @@ use Rattle.trace_replay.specs.Moments as moment
 use Rattle.trace_replay.specs.Events.{Interrupt, Serving}
 use Rattle.trace_replay.specs.Replay.{Replay}
 use Rattle.driver_machine.specs.declared.Phase.{Phase}
-use Rattle.driver_machine.specs.declared.Phase.TheVariants.{Waiting, Positioning, Queued, Transferring, Due}
+use Rattle.driver_machine.specs.declared.Phase.TheVariants.{Waiting, Transferring, Due}
 use Rattle.driver_machine.specs.declared.Task.{Task}
-use Rattle.driver_machine.specs.declared.Task.TheVariants.{Clear, Judge, Steps, Command, GiveUp}
+use Rattle.driver_machine.specs.declared.Task.TheVariants.{Clear}
 use Rattle.driver_machine.specs.World.{World, UnitView, AdapterView, Held, adapter_of, unit_on, unit_of, unit_at, adapter_at, held_in, slot_in_hand}
 use Rattle.driver_machine.specs.Acts as deed
 use Rattle.driver_machine.specs.Acts.{Deed, effect, scene_of, after, after_all}
@@ -30,6 +30,7 @@ use Rattle.driver_laws.proofs.shown.Due.{IsQuiet, rest_quiet}
 use Rattle.driver_laws.proofs.shown.Resting.{Rested, shows_one, begun_told}
 use Rattle.driver_laws.specs.shown.Calls.{IsOverWithin}
 use Rattle.driver_laws.proofs.shown.Starting.{wish_resting, set_up, start_told}
+use Rattle.driver_laws.proofs.invariant.Calls.{was_busy}
 
 -- THE ATTENTIONS that are up, of some drives
 abbrev pub raised_by : Bool → ℕ → List ℕ → List ℕ
@@ -88,10 +89,6 @@ interrupted line drains a u ks {w} {x} {s} sound four its at = record {
   same = λ k. λ eight. same_bits w x a k sound at.rests.sound four eight
       (subst (λ (b : ℕ). (adapter_at x b).state.attentions ≡ (adapter_at w b).state.attentions) its at.raised_is);
 }
-
-was_busy : (b c : Bool) → (b ≡ false → c ≡ false) → c ≡ true → b ≡ true
-was_busy true c rest up = refl
-was_busy false c rest up = absurd (false_true (sym (rest refl) ∙ up))
 
 interrupt_told : (line a : ℕ) (drains up : Bool) (ks : List ℕ) (w : World) (s : Replay) → a < 4 → (adapter_at w a).state.completion ≡ up
     → Rests line drains (Serving a up ks) w s

@@ -22,8 +22,8 @@ use Rattle.driver_laws.proofs.shown.Core.{Core}
 use Rattle.driver_laws.proofs.shown.Facts.{At}
 use Rattle.driver_laws.proofs.shown.Plain.{ready_plain}
 use Rattle.driver_laws.proofs.shown.DeedFacts.{said_by, no}
-use Rattle.driver_laws.proofs.shown.Busy.{own_unit}
 use Rattle.driver_laws.proofs.shown.Arrive.{arrive_talk}
+use Rattle.driver_laws.proofs.invariant.Frame.{unit_on-own}
 
 attn_core : (h : Held) (v : UnitView) (a c : AdapterState) (seen : UnitSeen) (b : AdapterState) (taken : ℕ)
     → Core h v a seen → v.phase ≡ Positioning taken
@@ -60,7 +60,7 @@ attn_line line u id w s taken sound shows hand at phase up =
     let raised : bit_at a.state.attentions (drive_of u) ≡ (if (unit_at w (unit_on (adapter_of u) (drive_of u))).drive.attention then 1 else 0) =
     at.adapter_ok.raised (drive_of u) (omega arith) in
     let own : (unit_at w (unit_on (adapter_of u) (drive_of u))).drive.attention ≡ true =
-    ap (λ x. (unit_at w x).drive.attention) (own_unit u) ∙ up in
+    ap (λ x. (unit_at w x).drive.attention) (unit_on-own u) ∙ up in
     said_by line u id w s (deed.Attn taken) moment.Attn sound shows hand at
     (record {
       service = at.service;

@@ -7,13 +7,8 @@ use Rattle.driver_machine.specs.declared.Phase.TheVariants as phases
 use Rattle.driver_machine.specs.World.{World, Held, slot_in_hand, drive_of, unit_on, adapter_of, unit_at, adapter_at, held_in}
 use Rattle.driver_machine.specs.Guards.{IsHeldFor}
 use Rattle.driver_machine.specs.Sound.{Sound, AdapterOk, IsPhase, Transfers}
-
-pub own_unit : (u : ℕ) → unit_on (adapter_of u) (drive_of u) ≡ u
-own_unit u = omega arith
-
--- units of one adapter with one drive are one
-one_unit : (x u : ℕ) → adapter_of x ≡ adapter_of u → drive_of x ≡ drive_of u → x ≡ u
-one_unit x u adapter drive = omega (arith, adapter, drive)
+use Rattle.driver_laws.proofs.invariant.Frame.{unit_on-own}
+use Rattle.driver_laws.proofs.invariant.Others.{one_unit}
 
 small_too : (x u : ℕ) → adapter_of x ≡ adapter_of u → u < 32 → x < 32
 small_too x u same small = omega (arith, same, small)
@@ -44,7 +39,7 @@ pub record Moves (w : World) (u : ℕ) : Type 0 where
 pub moves : (w : World) (u : ℕ) → AdapterOk w (adapter_of u) (adapter_at w (adapter_of u)) → (adapter_at w (adapter_of u)).state.busy ≡ true
     → (adapter_at w (adapter_of u)).state.drive ≡ drive_of u → Moves w u
 moves w u ok busy drive =
-    let on : unit_on (adapter_of u) (adapter_at w (adapter_of u)).state.drive ≡ u = ap (λ d. unit_on (adapter_of u) d) drive ∙ own_unit u in
+    let on : unit_on (adapter_of u) (adapter_at w (adapter_of u)).state.drive ≡ u = ap (λ d. unit_on (adapter_of u) d) drive ∙ unit_on-own u in
     record { held = (ok.busy busy).0; is = subst (λ x. Transfers w x (ok.busy busy).0 (adapter_at w (adapter_of u)).state) on (ok.busy busy).1 }
 
 -- the same request

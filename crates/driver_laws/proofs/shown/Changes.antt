@@ -25,6 +25,7 @@ use Rattle.driver_machine.specs.Guards.{IsSetUp}
 use Rattle.driver_machine.specs.Sound.{Sound, WorkOf}
 use Rattle.driver_laws.specs.shown.Stages.{stage_by, IsProgress}
 use Rattle.driver_laws.specs.shown.Shows.{Match, IsUnitSeen, IsAdapterSeen, Shows, is_coming, with_coming}
+use Rattle.trace_replay.proofs.Kept.{online_kind}
 
 -- no request is in hand where none waits
 empty_head : (held : ℕ → Held) (kind : DriveKind) (queue : List Waiter) (waiting : List (Waiting Request)) → queue ≡ [] → Match held kind queue waiting
@@ -129,10 +130,6 @@ played_by y x seen d other = either y x (λ e same. absurd (other same)) (λ e a
 
 played_own : (x : ℕ) (seen : UnitSeen) (d : DriveState) → record seen { drive = if x == x then d else seen.drive } ≡ record seen { drive = d }
 played_own x seen d = either x x (λ e same. rw e refl) (λ e apart. absurd (apart refl))
-
-online_kind : (on : Bool) (d : DriveState) → (online_set on d).kind ≡ d.kind
-online_kind true d = refl
-online_kind false d = refl
 
 pub turn_shows : (u x sector : ℕ) (w : World) (s : Replay) → Sound w → IsSetUp w x → WorkOf (unit_at w x).phase (unit_at w x).queue → Shows u w s
     → Shows u (changed (script.Turn x sector) w) (replay_played s (script.Turn x sector))

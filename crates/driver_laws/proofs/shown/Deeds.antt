@@ -30,11 +30,12 @@ use Rattle.driver_machine.specs.Due.{task_for}
 use Rattle.driver_machine.specs.Guards.{May}
 use Rattle.driver_machine.specs.Sound.{IsTask, IsBegun}
 use Rattle.driver_machine.specs.DueFacts.{IsDue, IsJudged, IsReady, IsAtCommand}
-use Rattle.driver_laws.proofs.invariant.Try.{failed_less}
+use Rattle.driver_laws.proofs.invariant.Try.{failed_less, next_of_try}
 use Rattle.driver_laws.proofs.invariant.Scene.{SceneOk, due_of}
-use Rattle.driver_laws.proofs.invariant.DeedFacts.{judged_is, transfer_at}
+use Rattle.driver_laws.proofs.invariant.DeedFacts.{judged_is, transfer_at, left_by}
 use Rattle.driver_laws.specs.shown.Bytes.{done_at, done_in, last_at, last_in, IsForwarded, sector_for, HandBears}
 use Rattle.driver_laws.proofs.shown.Hand.{hand_anew, hand_at, hand_bus, hand_repaired}
+use Rattle.driver_laws.proofs.shown.Silent.{plus_none}
 
 -- THE REQUEST IN HAND, by where its unit is with it
 abbrev pub At : (sure : ℕ → Type 0) → DriveKind → Option Table → Pack → Blocks → Held → Option TransferState → Phase → AdapterState → Type 0
@@ -61,10 +62,6 @@ pub one_sector : (index : Option ℕ) (job : Job) (done moved : ℕ) → moved <
 one_sector None job done moved less i is = absurd (none-some i is)
 one_sector (Some j) job done moved less i is = omega (arith, less)
 
-pub left_in : (index : Option ℕ) (job : Job) (done moved : ℕ) → done < job.count → moved < (segment_by index job done).count → done + moved < job.count
-left_in None job done moved left less = omega (arith, left, less)
-left_in (Some i) job done moved left less = omega (arith, left, less)
-
 pub record IsListed (index : Option ℕ) (table : Option Table) (place : Place) (i : ℕ) : Type 0 where
   pub own : index ≡ None
   pub listed : index_in table place ≡ Some i
@@ -72,12 +69,6 @@ pub record IsListed (index : Option ℕ) (table : Option Table) (place : Place) 
 listed_is : (index : Option ℕ) (table : Option Table) (place : Place) (i : ℕ) → entry_by index table place ≡ Some i → IsListed index table place i
 listed_is None table place i e = record { own = refl; listed = e }
 listed_is (Some j) table place i e = absurd (none-some i e)
-
-next_of_try : (moved block number many from count : ℕ) (next task : Task) → deed.Try moved block number next ≡ deed.Try many from count task → next ≡ task
-next_of_try moved block number many from count next task e = cc
-
-plus_none : (n : ℕ) → n ≡ n + 0
-plus_none n = omega arith
 
 plus_more : (n m : ℕ) → n + (m + 1) ≡ n + m + 1
 plus_more n m = omega arith
@@ -139,7 +130,7 @@ module _ (sure : ℕ → Type 0) (pack : Pack) (blocks : Blocks) (u : ℕ) (s : 
       → Hand (with_block_in (t.done + moved) (repaired at pattern (block_in h (t.done + moved))) h) t (t.done + (moved + 1)) verdict.Clean
   repair_bears moved at pattern is size =
       let task : IsTask v h (Judge moved (verdict.Burst at pattern)) = judged_is u moved (verdict.Burst at pattern) s ok is in
-      let inside : t.done + moved < t.job.count = left_in t.index t.job t.done moved task.0.is.left task.2 in
+      let inside : t.done + moved < t.job.count = left_by t.index t.job t.done moved task.0.is.left task.2 in
       let count : t.job.count ≡ length h.blocks = ap (λ (j : Job). j.count) task.0.job ∙ sym size in
       subst (λ n. Hand (with_block_in (t.done + moved) (repaired at pattern (block_in h (t.done + moved))) h) t n verdict.Clean) (sym (plus_more t.done moved))
       (hand_repaired sure kind v.table pack blocks h t (t.done + moved) at pattern (judged moved (verdict.Burst at pattern) is) task.3.0

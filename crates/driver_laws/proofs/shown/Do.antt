@@ -2,6 +2,7 @@
 use Rattle.std.proofs.Common.{◌≡◌, ◌<◌, ℕ, zero, suc, List, [], ◌∷◌, drop, ◌+◌, Option, Some, None, ◌==◌, ◌&&◌, ◌||◌, Bool, true, false, refl, sym, ap, not, subst, arith, ◌∙◌}
 use Rattle.std.specs.Prelude.{if◌then◌else◌, nat_lt}
 use Rattle.std.proofs.lemmas.List.{drop-drop}
+use Rattle.std.proofs.lemmas.Bool.{and_parts}
 use Rattle.pack_geometry.specs.declared.Place.{Place}
 use Rattle.pack_geometry.specs.Geometry.{cylinders_of, tracks_of, sectors_of, place_at, block_count}
 use Rattle.drive_registers.specs.declared.Function.TheVariants as function
@@ -23,7 +24,6 @@ use Rattle.trace_replay.specs.Replay.{UnitSeen, Replay, hand_of, at_unit, unit_a
 use Rattle.trace_replay.specs.Conversation as told
 use Rattle.trace_replay.specs.Packs.{VerdictMay}
 use Rattle.trace_replay.specs.Drives.{DriveMay, takes, offset_written}
-use Rattle.trace_replay.proofs.Histories.{both}
 use Rattle.trace_replay.specs.Adapters as rule
 use Rattle.driver_machine.specs.declared.RetryStep.{RetryStep}
 use Rattle.driver_machine.specs.declared.RetryStep.TheVariants.{Recalibrate, Seek, Offset}
@@ -47,7 +47,8 @@ use Rattle.driver_laws.proofs.shown.Talk.{guarded_command, step_stage}
 use Rattle.driver_laws.proofs.shown.Facts.{At}
 use Rattle.driver_laws.proofs.shown.Plain.{IsPlain, plain_says, ready_plain}
 use Rattle.driver_laws.proofs.shown.DeedFacts.{no, said_by}
-use Rattle.driver_laws.proofs.shown.Drives.{below, place_inside, segment_below}
+use Rattle.driver_laws.proofs.shown.Drives.{below, segment_below}
+use Rattle.driver_laws.proofs.invariant.Drives.{place_inside}
 
 behind_more : (n : ℕ) (xs : List RetryStep) (x : RetryStep) (left : List RetryStep) → drop n xs ≡ x ∷ left → drop (n + 1) xs ≡ left
 behind_more n xs x left is = sym (drop-drop 1 n xs) ∙ ap (drop 1) is
@@ -130,7 +131,7 @@ seek_addressed : (d : DriveState) (cylinder : ℕ) → is_addressed d ≡ true �
     → is_addressed (with_register register.Dc cylinder d) ≡ true
 seek_addressed d cylinder at inside =
     let rest : nat_lt (track_in d.da) (tracks_of d.kind) && nat_lt (sector_in d.da) (sectors_of d.kind) ≡ true =
-    (both (nat_lt d.dc (cylinders_of d.kind)) (nat_lt (track_in d.da) (tracks_of d.kind) && nat_lt (sector_in d.da) (sectors_of d.kind)) at).1 in
+    (and_parts (nat_lt d.dc (cylinders_of d.kind)) (nat_lt (track_in d.da) (tracks_of d.kind) && nat_lt (sector_in d.da) (sectors_of d.kind)) at).1 in
     both_true _ _ (below inside) rest
   where
     both_true : (x y : Bool) → x ≡ true → y ≡ true → x && y ≡ true

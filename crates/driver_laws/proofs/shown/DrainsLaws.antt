@@ -27,6 +27,7 @@ use Rattle.driver_laws.proofs.shown.Events.{attend_told, idle_told, not_drained,
 use Rattle.driver_laws.proofs.shown.Inputs.{arrive_told, played_rests, same_surface, found_by, nothing_by, run_where}
 use Rattle.driver_laws.proofs.shown.Moves.{move_told}
 use Rattle.driver_laws.proofs.shown.Lowest.{drain_is}
+use Rattle.driver_laws.proofs.shown.QuietRests.{none_counted}
 
 -- HOW MANY are outstanding: none, just where each request has ended.
 more_than : (b : Bool) (others : ℕ) → counted_by b others ≡ 0 → (b ≡ true) × (others ≡ 0)
@@ -47,11 +48,6 @@ all_ended (Some g ∷ slots) none (suc p) h is = all_ended slots (more_than g.en
 none_more : (b : Bool) (others : ℕ) → b ≡ true → others ≡ 0 → counted_by b others ≡ 0
 none_more true others ended none = none
 none_more false others ended none = absurd (false_true ended)
-
-none_counted : (slots : List (Option Held)) → ((p : ℕ) (h : Held) → slice_index_or slots p None ≡ Some h → h.ended ≡ true) → outstanding_in slots ≡ 0
-none_counted [] ended = refl
-none_counted (None ∷ slots) ended = none_counted slots (λ p h is. ended (suc p) h is)
-none_counted (Some g ∷ slots) ended = none_more g.ended (outstanding_in slots) (ended 0 g refl) (none_counted slots (λ p h is. ended (suc p) h is))
 
 -- while a next event is there some are
 some_outstanding : (w : World) (n : ℕ) (input : Input) → Sound w → AtWork w → next_event w ≡ Some input → n ≡ outstanding_in w.slots → n ≢ 0

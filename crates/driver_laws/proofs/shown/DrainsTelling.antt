@@ -1,5 +1,5 @@
 -- An event of a drain tells something.
-use Rattle.std.proofs.Common.{◌≡◌, ℕ, zero, suc, ◌==◌, ◌≤◌, Bool, true, false, ◌&&◌, ◌||◌, List, [], ◌∷◌, refl, sym, ap, subst, arith, ◌∙◌}
+use Rattle.std.proofs.Common.{◌≡◌, ℕ, zero, suc, ◌==◌, ◌≤◌, Bool, true, false, ◌&&◌, [], refl, sym, ap, subst, arith, ◌∙◌}
 use Rattle.std.specs.Prelude.{if◌then◌else◌, nat_lt}
 use Rattle.pack_geometry.specs.Pack.{Pack}
 use Rattle.trace_replay.specs.Script as script
@@ -20,23 +20,17 @@ use Rattle.driver_laws.specs.shown.Calls.{IsSurfaceOf, Ends}
 use Rattle.driver_laws.proofs.shown.Telling.{IsTold}
 use Rattle.driver_laws.proofs.shown.Named.{act_named, IsTriedOn}
 use Rattle.driver_laws.proofs.shown.Starting.{wish_resting}
-use Rattle.driver_laws.proofs.shown.Events.{can_attend_is, not_drained}
+use Rattle.driver_laws.proofs.shown.Events.{can_attend_is, not_drained, serving_line}
 use Rattle.driver_laws.proofs.shown.Inputs.{same_surface}
 use Rattle.driver_laws.proofs.shown.DrainsLaws.{event_goes}
 
 -- A LINE COMES NEXT in an event that can come.
-serving_comes : (s : Replay) (a : ℕ) (c : Bool) (ks : List ℕ) → c || event.is_some_drive ks ≡ true
-    → is_no_line (event.wish_in_serving a (s.adapters a) c ks) ≡ false
-serving_comes s a true ks some = refl
-serving_comes s a false [] some = absurd (false_true some)
-serving_comes s a false (k ∷ ks) some = refl
-
 named_comes : (input : Input) (w : World) (s : Replay) (line : ℕ) (drains : Bool) → CanCome w input → Rests line drains (act_named s input) w s
     → is_no_line (wish_in s.adapters (act_named s input)) ≡ false
 named_comes (script.ArriveAt u) w s line drains can rests = refl
 named_comes (script.MoveAt a) w s line drains can rests = refl
 named_comes (script.AttendTo a) w s line drains can rests =
-    serving_comes s a ((s.adapters a).state.busy && (s.adapters a).state.completion) (told.attentive (s.adapters a).state)
+    serving_line s a ((s.adapters a).state.busy && (s.adapters a).state.completion) (told.attentive (s.adapters a).state)
     (can_attend_is w s a rests.sound rests.shows can.0 ∙ can.1)
 named_comes other w s line drains can rests = absurd can
 

@@ -20,7 +20,7 @@ use Rattle.trace_replay.specs.Replay.{UnitSeen, hand_of}
 use Rattle.driver_machine.specs.declared.RetryStep.{RetryStep}
 use Rattle.driver_machine.specs.declared.RetryStep.TheVariants as step
 use Rattle.driver_machine.specs.declared.Task.{Task}
-use Rattle.driver_machine.specs.declared.Task.TheVariants.{Clear, Judge, Steps, Command, GiveUp}
+use Rattle.driver_machine.specs.declared.Task.TheVariants.{Judge, Steps}
 use Rattle.driver_machine.specs.declared.Phase.{Phase}
 use Rattle.driver_machine.specs.declared.Phase.TheVariants.{Waiting, Positioning, Queued, Transferring, Due}
 use Rattle.driver_machine.specs.World.{UnitView, Held, slot_in_hand, transfer_of}
@@ -35,6 +35,7 @@ use Rattle.driver_laws.specs.shown.Stages.{stage_by, task_stage, lines_left, seg
 use Rattle.driver_laws.specs.shown.Shows.{Match, IsUnitSeen, is_coming}
 use Rattle.driver_laws.proofs.shown.Core.{Core, IsHead, core_of, head_is}
 use Rattle.driver_laws.proofs.shown.Search.{search_stage}
+use Rattle.driver_laws.proofs.shown.Pack.{some_same}
 
 -- A DEED TELLS one line or none.
 pub told_cases : (h : Held) (d : Deed) → (deed_told h d ≡ []) ⊎ ((line : moment.Deed) × (deed_told h d ≡ line ∷ []))
@@ -68,10 +69,10 @@ step_own : (unit : ℕ) (s : RetryStep) → IsOwnLine unit (step_told s)
 step_own unit step.Recalibrate = record { wish = refl; act = λ act. refl }
 step_own unit other = record { wish = refl; act = λ act. refl }
 
-one_same : {x y : moment.Deed} → x ∷ [] ≡ y ∷ [] → x ≡ y
+pub one_same : {x y : moment.Deed} → x ∷ [] ≡ y ∷ [] → x ≡ y
 one_same e = grind (arith, e)
 
-some_line : {x : moment.Deed} → [] ≡ x ∷ [] → ⊥
+pub some_line : {x : moment.Deed} → [] ≡ x ∷ [] → ⊥
 some_line e = grind (arith, e)
 
 pub own_line : (unit : ℕ) (h : Held) (d : Deed) (line : moment.Deed) → IsOwn d → deed_told h d ≡ line ∷ [] → IsOwnLine unit line
@@ -150,9 +151,6 @@ start_goes (position.Search cylinder sector) h v a seen line at is core head pha
   where
     cylinder_is : position_of v h ≡ position.Search cylinder sector → (target_of v h).cylinder ≡ cylinder
     cylinder_is e = search_at (told.starts_at_once v.drive (target_of v h)) _ _ cylinder sector e
-
-some_same : {x y : Deed} → Some x ≡ Some y → x ≡ y
-some_same e = grind (arith, e)
 
 due_goes_by : (phase : Phase) (h : Held) (v : UnitView) (a : AdapterState) (seen : UnitSeen) (d : Deed) (line : moment.Deed) → v.phase ≡ phase
     → next_by phase v h ≡ Some d → deed_told h d ≡ line ∷ [] → Core h v a seen → IsHead h v.drive.kind seen → goes_on seen.stage ≡ true

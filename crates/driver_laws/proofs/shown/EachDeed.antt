@@ -33,9 +33,7 @@ use Rattle.driver_laws.proofs.shown.Repair.{repair_shows}
 use Rattle.driver_laws.proofs.shown.Ready.{ready_next}
 use Rattle.driver_laws.proofs.shown.End.{end_line}
 use Rattle.driver_laws.proofs.shown.Sector.{sector_line}
-
-same_line : {x y : moment.Deed} → x ∷ [] ≡ y ∷ [] → x ≡ y
-same_line e = grind (arith, e)
+use Rattle.driver_laws.proofs.shown.Due.{one_same}
 
 no_line : {x : moment.Deed} → [] ≡ x ∷ [] → {P : Type 0} → P
 no_line e = absurd (grind (arith, e))
@@ -56,44 +54,44 @@ module _ (line u id : ℕ) (w : World) (s : Replay) (told : moment.Deed) (sound 
 
   said : (d : Deed) → May u d (scene_of w u) → IsOnSurface s u d (scene_of w u) → told_by w u d ≡ told ∷ [] → IsSaid line u id w s d told
   said deed.Arrive may surface tells =
-      subst (IsSaid line u id w s deed.Arrive) (same_line tells) (arrive_line line u id w s sound shows hand at may)
+      subst (IsSaid line u id w s deed.Arrive) (one_same tells) (arrive_line line u id w s sound shows hand at may)
   said (deed.Sector block t) may surface tells =
-      subst (IsSaid line u id w s (deed.Sector block t)) (same_line tells)
+      subst (IsSaid line u id w s (deed.Sector block t)) (one_same tells)
       (sector_line line u id block w s t sound shows hand at may.0 may.1 may.2 surface)
   said (deed.Intr moved last) may surface tells =
-      subst (IsSaid line u id w s (deed.Intr moved last)) (same_line tells)
+      subst (IsSaid line u id w s (deed.Intr moved last)) (one_same tells)
       (intr_line line u id w s moved last sound shows hand at may.0 may.1 may.2)
   said (deed.Attn taken) may surface tells =
-      subst (IsSaid line u id w s (deed.Attn taken)) (same_line tells) (attn_line line u id w s taken sound shows hand at may.0 may.1)
+      subst (IsSaid line u id w s (deed.Attn taken)) (one_same tells) (attn_line line u id w s taken sound shows hand at may.0 may.1)
   said (deed.Search target sector) may surface tells =
       let due : IsDue (unit_at w u) (held_in w (slot_in_hand (unit_at w u))) (deed.Search target sector) = next_due u w (deed.Search target sector) may in
-      subst (IsSaid line u id w s (deed.Search target sector)) (same_line tells)
+      subst (IsSaid line u id w s (deed.Search target sector)) (one_same tells)
       (subst (λ t. IsSaid line u id w s (deed.Search t sector) (moment.Search t.cylinder sector)) (sym due.2)
       (search_line line u id w s sector sound shows hand at due.0 due.1
       (due.3 ∙ ap (λ (t : Place). position.Search t.cylinder sector) due.2)))
   said (deed.Do step taken) may surface tells =
       let due : IsDue (unit_at w u) (held_in w (slot_in_hand (unit_at w u))) (deed.Do step taken) = next_due u w (deed.Do step taken) may in
-      subst (IsSaid line u id w s (deed.Do step taken)) (same_line tells) (do_line line u id w s step taken sound shows hand at due.0 due.1)
+      subst (IsSaid line u id w s (deed.Do step taken)) (one_same tells) (do_line line u id w s step taken sound shows hand at due.0 due.1)
   said (deed.Move write segment) may surface tells =
       let due : IsDue (unit_at w u) (held_in w (slot_in_hand (unit_at w u))) (deed.Move write segment) = next_due u w (deed.Move write segment) may.0 in
-      subst (IsSaid line u id w s (deed.Move write segment)) (same_line tells)
+      subst (IsSaid line u id w s (deed.Move write segment)) (one_same tells)
       (subst (λ b. IsSaid line u id w s (deed.Move b segment) (moment.Transfer b segment.block segment.count)) (sym due.2)
       (subst (λ (g : Segment). IsSaid line u id w s (deed.Move (held_in w (slot_in_hand (unit_at w u))).write g)
       (moment.Transfer (held_in w (slot_in_hand (unit_at w u))).write g.block g.count)) (sym due.3)
       (transfer_deed line u id w s sound shows hand at due.0 (subst (λ b. MayGo b (unit_at w u).drive) due.2 due.1) may.1)))
   said deed.Pack may surface tells =
-      subst (IsSaid line u id w s deed.Pack) (same_line tells) (pack_line line u id w s sound shows hand at may)
+      subst (IsSaid line u id w s deed.Pack) (one_same tells) (pack_line line u id w s sound shows hand at may)
   said (deed.Dclr moved last) may surface tells =
-      subst (IsSaid line u id w s (deed.Dclr moved last)) (same_line tells)
+      subst (IsSaid line u id w s (deed.Dclr moved last)) (one_same tells)
       (clear_line line u id w s moved last sound shows hand at (next_due u w (deed.Dclr moved last) may))
   said deed.Rtc may surface tells =
       let due : IsDue (unit_at w u) (held_in w (slot_in_hand (unit_at w u))) deed.Rtc = next_due u w deed.Rtc may in
-      subst (IsSaid line u id w s deed.Rtc) (same_line tells) (centre_line line u id w s due.0 due.1 sound shows hand at due.2 due.3)
+      subst (IsSaid line u id w s deed.Rtc) (one_same tells) (centre_line line u id w s due.0 due.1 sound shows hand at due.2 due.3)
   said (deed.Try moved block number next) may surface tells =
       let due : IsDue (unit_at w u) (held_in w (slot_in_hand (unit_at w u))) (deed.Try moved block number next) =
       next_due u w (deed.Try moved block number next) may in
       let parts : IsTry moved block number next (transfer_of (unit_at w u)) = try_is moved block number next (transfer_of (unit_at w u)) due.3 in
-      subst (IsSaid line u id w s (deed.Try moved block number next)) (same_line tells)
+      subst (IsSaid line u id w s (deed.Try moved block number next)) (one_same tells)
       (subst (λ b. IsSaid line u id w s (deed.Try moved b number next) (moment.Try b number)) (sym parts.block_is)
       (subst (λ n. IsSaid line u id w s (deed.Try moved ((engine.segment_of (transfer_of (unit_at w u))).block + moved) n next)
       (moment.Try ((engine.segment_of (transfer_of (unit_at w u))).block + moved) n)) (sym parts.number_is)
@@ -101,7 +99,7 @@ module _ (line u id : ℕ) (w : World) (s : Replay) (told : moment.Deed) (sound 
       (moment.Try ((engine.segment_of (transfer_of (unit_at w u))).block + moved) (failures_after moved (transfer_of (unit_at w u)).failures))) (sym parts.next_is)
       (try_line line u id w s due.0 moved sound shows hand at due.1 due.2))))
   said (deed.End kind) may surface tells =
-      subst (IsSaid line u id w s (deed.End kind)) (same_line tells) (end_line line u id w s kind sound shows hand at (next_due u w (deed.End kind) may))
+      subst (IsSaid line u id w s (deed.End kind)) (one_same tells) (end_line line u id w s kind sound shows hand at (next_due u w (deed.End kind) may))
   said other may surface tells = no_line tells
 
 pub lines_are_said : LinesAreSaid

@@ -44,10 +44,11 @@ use Rattle.driver_laws.proofs.shown.Talk.{transfer_guarded, command_progress}
 use Rattle.driver_laws.proofs.shown.Frame.{step_shows, same_transfer}
 use Rattle.driver_laws.proofs.shown.Facts.{At}
 use Rattle.driver_laws.proofs.shown.AdapterQueues.{without_coming, not_without, ready_goes}
-use Rattle.driver_laws.proofs.shown.Plain.{with_same, with_other}
+use Rattle.driver_laws.proofs.shown.Plain.{with_same}
 use Rattle.driver_laws.proofs.shown.DeedFacts.{judged_progress, command_begun}
 use Rattle.driver_laws.proofs.shown.Fronts.{front_whole}
 use Rattle.driver_laws.proofs.shown.Silent.{mark_place}
+use Rattle.trace_replay.proofs.Unchanged.{with_other}
 
 -- The unit waits, and the next one that waits at it is its head.
 end_core : (h g : Held) (v : UnitView) (a c : AdapterState) (seen : UnitSeen) (b : AdapterState) (answer : Answer) → Core h v a seen
@@ -128,7 +129,7 @@ pub record MayEnd (v : UnitView) (h : Held) : Type 0 where
   pub judged : (moved : ℕ) (last : Moved) → v.phase ≡ Due (Judge moved last) → IsBegun v h
   pub size : length h.blocks ≡ h.loan.count
 
-eqb_same : {m n : ℕ} → m == n ≡ true → m ≡ n
+pub eqb_same : {m n : ℕ} → m == n ≡ true → m ≡ n
 eqb_same e = grind (arith, e)
 
 marked_end : (index : Option ℕ) (kind : DriveKind) (table : Option Table) (place : Place) (hand : told.Hand) → entry_by index table place ≡ None

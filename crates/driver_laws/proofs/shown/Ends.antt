@@ -30,9 +30,7 @@ use Rattle.driver_laws.proofs.invariant.DeedFacts.{judged_is}
 use Rattle.driver_laws.specs.shown.Bytes.{IsSureFor, IsForwarded, sector_for, HandBears, done_in, last_in, done_by, IsSaid, IsStep}
 use Rattle.driver_laws.proofs.shown.Hand.{next_held}
 use Rattle.driver_laws.proofs.shown.Deeds.{SceneBears, one_sector}
-
-eqb_same : {m n : ℕ} → m == n ≡ true → m ≡ n
-eqb_same e = grind (arith, e)
+use Rattle.driver_laws.proofs.shown.End.{eqb_same}
 
 plus_none : (n : ℕ) → n + 0 ≡ n
 plus_none n = omega arith

@@ -172,7 +172,7 @@ can_attend_is w s a sound shows four =
     ∙ ap (λ (b : Bool). (adapter_at w a).state.completion || b) (some_raised w a sound four)
 
 -- so a line comes next in it
-serving_line : (s : Replay) (a : ℕ) (c : Bool) (ks : List ℕ) → c || event.is_some_drive ks ≡ true
+pub serving_line : (s : Replay) (a : ℕ) (c : Bool) (ks : List ℕ) → c || event.is_some_drive ks ≡ true
     → is_no_line (event.wish_in_serving a (s.adapters a) c ks) ≡ false
 serving_line s a true ks some = refl
 serving_line s a false [] some = absurd (false_true some)

@@ -11,7 +11,7 @@ use Rattle.driver_machine.specs.Guards.{InHand}
 use Rattle.driver_machine.specs.Sound.{Sound, UnitOk, AdapterOk, SlotOk, IsOutstanding}
 use Rattle.driver_laws.specs.shown.Shows.{IsUnitSeen, IsAdapterSeen, Shows}
 use Rattle.driver_laws.proofs.shown.Core.{Core, IsHead, core_of, head_is}
-use Rattle.driver_laws.proofs.shown.Frame.{held_at, small_adapter}
+use Rattle.driver_laws.proofs.invariant.Frame.{held_is, adapter_of-small}
 
 pub record At (u id : ℕ) (w : World) (s : Replay) : Type 0 where
   pub small : adapter_of u < 4
@@ -27,10 +27,10 @@ pub record At (u id : ℕ) (w : World) (s : Replay) : Type 0 where
   pub going : (held_in w (slot_in_hand (unit_at w u))).ended ≡ false
   pub service : ServiceMay (s.units u).service id
 
-some_one : {g h : Held} → Some g ≡ Some h → g ≡ h
+pub some_one : {g h : Held} → Some g ≡ Some h → g ≡ h
 some_one e = grind (arith, e)
 
-set_up : (b : Bool) (queue : List Waiter) → (b ≡ false → queue ≡ []) → 0 < length queue → b ≡ true
+pub set_up : (b : Bool) (queue : List Waiter) → (b ≡ false → queue ≡ []) → 0 < length queue → b ≡ true
 set_up true queue none some = refl
 set_up false queue none some = absurd (no_less (subst (λ (q : List Waiter). 0 < length q) (none refl) some))
   where
@@ -39,9 +39,9 @@ set_up false queue none some = absurd (no_less (subst (λ (q : List Waiter). 0 <
 
 pub at_facts : (u id : ℕ) (w : World) (s : Replay) → Sound w → Shows u w s → InHand w u id → At u id w s
 at_facts u id w s sound shows hand =
-    let small : adapter_of u < 4 = small_adapter u hand.unit in
+    let small : adapter_of u < 4 = adapter_of-small u hand.unit in
     let ok : UnitOk w u (unit_at w u) = sound.each_unit u hand.unit in
-    let is : held_in w (slot_in_hand (unit_at w u)) ≡ hand.held = held_at w (slot_in_hand (unit_at w u)) hand.held hand.slot in
+    let is : held_in w (slot_in_hand (unit_at w u)) ≡ hand.held = held_is w (slot_in_hand (unit_at w u)) hand.held hand.slot in
     let there : slot_at w (slot_in_hand (unit_at w u)) ≡ Some (held_in w (slot_in_hand (unit_at w u))) = hand.slot ∙ ap Some (sym is) in
     let out : IsOutstanding w u (slice_index_or (unit_at w u).queue 0 (record { number = 0; cylinder = 0 })) =
     ok.queue _ (Contains-get_or (unit_at w u).queue 0 (record { number = 0; cylinder = 0 }) hand.some) in

@@ -5,7 +5,7 @@ use Rattle.trace_replay.specs.Moments.{Moment, Played, Told, Idle}
 use Rattle.trace_replay.specs.Script as script
 use Rattle.trace_replay.specs.Script.{Input}
 use Rattle.trace_replay.specs.Replay.{Replay, MayCome, Follows, WorkMay, new_replay, after_moment, after_moments}
-use Rattle.trace_replay.proofs.Following.{follow_on}
+use Rattle.trace_replay.proofs.Following.{follow_on, joined}
 use Rattle.driver_laws.specs.rules.Measure.{events_left, blocks_outstanding}
 use Rattle.driver_laws.specs.rules.Drains.{event_by, events_in, IsIdle}
 use Rattle.driver_laws.proofs.rules.Idle.{starts_idle}
@@ -28,11 +28,11 @@ use Rattle.driver_laws.proofs.shown.Named.{IsTriedOn}
 use Rattle.driver_laws.proofs.shown.Inputted.{lines_play_nothing}
 use Rattle.driver_laws.proofs.shown.ReadSectors.{tried_on}
 use Rattle.driver_laws.proofs.shown.DrainsLaws.{GoesOn, event_goes, drain_goes_on, drain_between, drain_begins}
-use Rattle.driver_laws.proofs.shown.TraceRuns.{moments_append, follows_append}
 use Rattle.driver_laws.proofs.shown.Calls.{drains_start}
 use Rattle.driver_laws.specs.shown.Drains.{CanStart, ScriptsCanStart, Falls, AreAsked, FirstEventsFall, DrainsFall, DrainsFallFrom, DrainsKeep}
 use Rattle.driver_laws.proofs.shown.Asked.{drain_asked}
 use Rattle.driver_laws.proofs.shown.DrainsTelling.{something_told, some_outstanding}
+use Rattle.driver_laws.proofs.rules.Quiet.{after_parts}
 
 -- THE FIRST LINE is an event line.
 one_counted : (m : Moment) (ms : List Moment) → events_in (m ∷ []) ≡ 1 → 1 ≤ events_in (m ∷ ms)
@@ -59,7 +59,7 @@ fall_from start ms w acts idle asked follows some tells =
     let parts : Follows start ms × Follows (after_moments start ms) (lines_of_all w acts) = (follow_on start ms (lines_of_all w acts)).0 follows in
     let bounded : events_in (lines_of_all w acts) + events_left (after_moments (after_moments start ms) (lines_of_all w acts)) ≤ events_left (after_moments start ms) =
     (drains_are_bounded start ms (lines_of_all w acts) idle asked.some asked.units follows (lines_play_nothing [] w acts)).0 in
-    subst (Falls (after_moments start ms)) (sym (moments_append start ms (lines_of_all w acts)))
+    subst (Falls (after_moments start ms)) (sym (after_parts start ms (lines_of_all w acts)))
     (record {
       fewer = fewer_by (events_in (lines_of_all w acts)) (events_left (after_moments start ms)) (events_left (after_moments (after_moments start ms) (lines_of_all w acts)))
           (some_told (after_moments start ms) (lines_of_all w acts) some parts.1 tells) bounded;
@@ -90,7 +90,7 @@ falls_on start line input tried moments held w can asked far is may on =
     let goes : GoesOn line input held w s = goes_at start line input moments held w can far is in
     let next : work.CanCome w input = next_can w input goes.rests.sound is in
     let told : IsTold line true held w s acts = event_goes line true input tried held w s next goes.rests goes.packs on works.run in
-    fall_from start moments w acts can.idle asked (follows_append start moments (lines_of_all w acts) far.follows told.follows)
+    fall_from start moments w acts can.idle asked (joined start moments (lines_of_all w acts) far.follows told.follows)
     (something_told line true input tried held w s next goes.rests goes.packs on works.run)
     (λ m. λ comes. events_tell start moments m can.idle far.follows (drain_between line input held w s far.ends far.work is) comes)
 
@@ -107,8 +107,8 @@ drains_fall drives tables surface line input tried moments held w asked far is m
 
 pub drains_keep : DrainsKeep
 drains_keep start moments next = (
-  ap events_left (moments_append start moments (Played next script.Drain ∷ [])),
-  ap blocks_outstanding (moments_append start moments (Played next script.Drain ∷ [])),
+  ap events_left (after_parts start moments (Played next script.Drain ∷ [])),
+  ap blocks_outstanding (after_parts start moments (Played next script.Drain ∷ [])),
 )
 
 -- before the line that drains as many are left as behind it
@@ -133,7 +133,7 @@ first_events_fall drives tables surface line next input tried moments held w ask
     let line_may : MayCome s (Played next script.Drain) =
     ((follow_on (new_replay drives tables surface) moments (Played next script.Drain ∷ lines_of_all w acts)).0 whole).1.0 in
     let at : after_moments (new_replay drives tables surface) (moments ++ Played next script.Drain ∷ []) ≡ after_moment s (Played next script.Drain) =
-    moments_append (new_replay drives tables surface) moments (Played next script.Drain ∷ []) in
+    after_parts (new_replay drives tables surface) moments (Played next script.Drain ∷ []) in
     let falls : Falls (after_moments (new_replay drives tables surface) (moments ++ Played next script.Drain ∷ []))
     (after_moments (new_replay drives tables surface) ((moments ++ Played next script.Drain ∷ []) ++ lines_of_all w acts)) =
     fall_from (new_replay drives tables surface) (moments ++ Played next script.Drain ∷ []) w acts (starts_idle drives tables surface)

@@ -1,9 +1,8 @@
 -- What a deed at one unit leaves of the others, as the replay sees them.
-use Rattle.std.proofs.Common.{◌≡◌, ◌≢◌, inl, inr, ℕ, zero, suc, ◌<◌, false, List, [], ◌∷◌, length, Option, Some, None, refl, sym, ap, subst, arith, ◌∙◌, get_or-set_other}
+use Rattle.std.proofs.Common.{◌≡◌, ◌≢◌, inl, inr, ℕ, ◌<◌, false, List, [], ◌∷◌, length, Option, Some, None, refl, sym, ap, subst, ◌∙◌, get_or-set_other}
 use Rattle.std.proofs.lemmas.List.{get_or-set_same}
-use Rattle.std.proofs.lemmas.List.Elements.{Contains-get_or}
 use Rattle.std.proofs.lemmas.Bool.Decides.{eqb_tells}
-use Rattle.std.specs.Prelude.{slice_set, slice_index_or, unwrap_or}
+use Rattle.std.specs.Prelude.{slice_set, unwrap_or}
 use Rattle.pack_geometry.specs.declared.DriveKind.{DriveKind}
 use Rattle.hardware_table.specs.Adapter.{AdapterState}
 use Rattle.disksort.specs.declared.Waiter.{Waiter}
@@ -15,13 +14,16 @@ use Rattle.trace_replay.specs.Conversation as told
 use Rattle.trace_replay.specs.Replay.{UnitSeen, Replay, hand_of}
 use Rattle.driver_machine.specs.declared.Phase.{Phase}
 use Rattle.driver_machine.specs.declared.Phase.TheVariants as phases
-use Rattle.driver_machine.specs.World.{World, UnitView, AdapterView, Held, adapter_of, no_unit, new_adapter_view, no_held, unit_at, adapter_at, slot_at, held_in, slot_in_hand}
+use Rattle.driver_machine.specs.World.{World, UnitView, AdapterView, Held, adapter_of, new_adapter_view, no_held, unit_at, adapter_at, held_in, slot_in_hand}
 use Rattle.driver_machine.specs.Acts.{Scene, with_scene}
 use Rattle.driver_machine.specs.Guards.{IsHeldFor, IsSetUp, InHand}
-use Rattle.driver_machine.specs.Sound.{Sound, IsOutstanding, is_waiting}
+use Rattle.driver_machine.specs.Sound.{Sound, is_waiting}
 use Rattle.driver_laws.specs.shown.Stages.{stage_by, IsProgress}
 use Rattle.driver_laws.specs.shown.Shows.{Match, IsUnitSeen, IsAdapterSeen, is_coming, with_coming, outstanding_in, Shows}
 use Rattle.driver_laws.proofs.shown.Core.{Core}
+use Rattle.driver_laws.proofs.invariant.Frame.{slot_there, adapter_of-small, other_slot}
+use Rattle.driver_machine.proofs.Until.{own_unit}
+use Rattle.driver_machine.proofs.Frame.{other_unit, other_adapter}
 
 -- THE QUEUE stays, where each slot holds the same request.
 pub match_kept : (held held' : ℕ → Held) (kind : DriveKind) → ((n : ℕ) (r : Request) → IsHeldFor kind r (held n) → IsHeldFor kind r (held' n))
@@ -87,32 +89,6 @@ pub record Step (u : ℕ) (w : World) (s r : Replay) (scene : Scene) : Type 0 wh
   pub frames : r.frames ≡ scene.frames
   pub outstanding : r.outstanding ≡ outstanding_in (slice_set w.slots (slot_in_hand (unit_at w u)) (Some scene.held))
 
-pub slot_there : (slots : List (Option Held)) (p : ℕ) (h : Held) → slice_index_or slots p None ≡ Some h → p < length slots
-slot_there [] p h is = absurd (grind (arith, is))
-slot_there (x ∷ xs) zero h is = omega arith
-slot_there (x ∷ xs) (suc p) h is = let less : p < length xs = slot_there xs p h is in omega (arith, less)
-
-pub held_at : (w : World) (p : ℕ) (h : Held) → slot_at w p ≡ Some h → held_in w p ≡ h
-held_at w p h is = ap (λ o. unwrap_or o no_held) is
-
-pub small_adapter : (u : ℕ) → u < 32 → adapter_of u < 4
-small_adapter u small = omega (arith, small)
-
--- the slot of another unit's head is another one
-other_head : (w : World) (u id x : ℕ) → Sound w → InHand w u id → x < 32 → x ≢ u → is_waiting (unit_at w x).phase ≡ false
-    → slot_in_hand (unit_at w x) ≢ slot_in_hand (unit_at w u)
-other_head w u id x sound hand small other going = λ same.
-    let mine : IsOutstanding w u (slice_index_or (unit_at w u).queue 0 (record { number = 0; cylinder = 0 })) =
-    (sound.each_unit u hand.unit).queue _ (Contains-get_or (unit_at w u).queue 0 (record { number = 0; cylinder = 0 }) hand.some) in
-    let theirs : IsOutstanding w x (slice_index_or (unit_at w x).queue 0 (record { number = 0; cylinder = 0 })) =
-    (sound.each_unit x small).queue _
-    (Contains-get_or (unit_at w x).queue 0 (record { number = 0; cylinder = 0 }) ((sound.each_unit x small).head going)) in
-    let one : mine.held ≡ theirs.held = some_one (sym mine.slot ∙ ap (slot_at w) (sym same) ∙ theirs.slot) in
-    other (sym theirs.unit ∙ ap (λ (g : Held). g.unit) (sym one) ∙ mine.unit)
-  where
-    some_one : {g h : Held} → Some g ≡ Some h → g ≡ h
-    some_one e = grind (arith, e)
-
 either : {P : Type 0} (m n : ℕ) → (m ≡ n → P) → (m ≢ n → P) → P
 either m n same other = elim (eqb_tells m n) [
   | inl is ↦ same is.1
@@ -120,17 +96,8 @@ either m n same other = elim (eqb_tells m n) [
 ]
 
 -- OTHERS are as they were, whatever the deed.
-pub same_unit : (w : World) (u p : ℕ) (scene : Scene) → u < length w.units → unit_at (with_scene w u p scene) u ≡ scene.unit
-same_unit w u p scene there = get_or-set_same w.units u scene.unit no_unit there
-
-pub other_unit : (w : World) (u p x : ℕ) (scene : Scene) → x ≢ u → unit_at (with_scene w u p scene) x ≡ unit_at w x
-other_unit w u p x scene other = get_or-set_other w.units u x scene.unit no_unit other
-
 pub same_adapter : (w : World) (u p : ℕ) (scene : Scene) → adapter_of u < length w.adapters → adapter_at (with_scene w u p scene) (adapter_of u) ≡ scene.adapter
 same_adapter w u p scene there = get_or-set_same w.adapters (adapter_of u) scene.adapter new_adapter_view there
-
-pub other_adapter : (w : World) (u p a : ℕ) (scene : Scene) → a ≢ adapter_of u → adapter_at (with_scene w u p scene) a ≡ adapter_at w a
-other_adapter w u p a scene other = get_or-set_other w.adapters (adapter_of u) a scene.adapter new_adapter_view other
 
 pub same_held : (w : World) (u p : ℕ) (scene : Scene) → p < length w.slots → held_in (with_scene w u p scene) p ≡ scene.held
 same_held w u p scene there = ap (λ o. unwrap_or o no_held) (get_or-set_same w.slots p (Some scene.held) None there)
@@ -146,7 +113,7 @@ module _ (u id : ℕ) (w : World) (s r : Replay) (scene : Scene) (sound : Sound 
   u_there = subst (λ n. u < n) (sym sound.units) hand.unit
 
   a_there : adapter_of u < length w.adapters
-  a_there = subst (λ n. adapter_of u < n) (sym sound.adapters) (small_adapter u hand.unit)
+  a_there = subst (λ n. adapter_of u < n) (sym sound.adapters) (adapter_of-small u hand.unit)
 
   kept : (kind : DriveKind) (n : ℕ) (q : Request) → IsHeldFor kind q (held_in w n)
       → IsHeldFor kind q (held_in (with_scene w u (slot_in_hand (unit_at w u)) scene) n)
@@ -173,7 +140,7 @@ module _ (u id : ℕ) (w : World) (s r : Replay) (scene : Scene) (sound : Sound 
   own_there =
       subst (λ v. IsUnitSeen (held_in (with_scene w u (slot_in_hand (unit_at w u)) scene)) v
       (adapter_at (with_scene w u (slot_in_hand (unit_at w u)) scene) (adapter_of u)).state (r.units u))
-      (sym (same_unit w u (slot_in_hand (unit_at w u)) scene u_there))
+      (sym (own_unit w u (slot_in_hand (unit_at w u)) scene u_there))
       (subst (λ (a : AdapterView). IsUnitSeen (held_in (with_scene w u (slot_in_hand (unit_at w u)) scene)) scene.unit a.state (r.units u))
       (sym (same_adapter w u (slot_in_hand (unit_at w u)) scene a_there)) own)
 
@@ -199,7 +166,7 @@ module _ (u id : ℕ) (w : World) (s r : Replay) (scene : Scene) (sound : Sound 
       (unit_stays (held_in w) (held_in (with_scene w u (slot_in_hand (unit_at w u)) scene)) (unit_at w x)
       (adapter_at w (adapter_of x)).state (adapter_at (with_scene w u (slot_in_hand (unit_at w u)) scene) (adapter_of x)).state (s.units x)
       (kept (unit_at w x).drive.kind) (same_at x other)
-      (λ going. sym (other_held w u (slot_in_hand (unit_at w u)) (slot_in_hand (unit_at w x)) scene (other_head w u id x sound hand set.unit other going)))
+      (λ going. sym (other_held w u (slot_in_hand (unit_at w u)) (slot_in_hand (unit_at w x)) scene (other_slot w u id x sound hand set.unit other going)))
       (shows.units x set)))
 
   unit_there : (x : ℕ) → IsSetUp (with_scene w u (slot_in_hand (unit_at w u)) scene) x
@@ -231,7 +198,7 @@ module _ (u id : ℕ) (w : World) (s r : Replay) (scene : Scene) (sound : Sound 
     own_ready =
         step.ready
         ∙ ap (λ (v : UnitView). with_coming (is_coming v.phase (r.units u).stage) u scene.adapter.queue)
-        (sym (same_unit w u (slot_in_hand (unit_at w u)) scene u_there))
+        (sym (own_unit w u (slot_in_hand (unit_at w u)) scene u_there))
         ∙ ap (λ (a : AdapterView). with_coming (is_coming (unit_at (with_scene w u (slot_in_hand (unit_at w u)) scene) u).phase (r.units u).stage) u a.queue)
         (sym (same_adapter w u (slot_in_hand (unit_at w u)) scene a_there));
     other_ready = λ a small other.

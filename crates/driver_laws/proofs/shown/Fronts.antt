@@ -1,5 +1,5 @@
 -- The front of a buffer, as the bytes of a read so far.
-use Rattle.std.proofs.Common.{◌≡◌, ◌<◌, ℕ, suc, ◌+◌, Bool, true, false, List, [], ◌∷◌, ◌++◌, take, length, refl, sym, ap, arith, ◌∙◌, append_assoc}
+use Rattle.std.proofs.Common.{◌≡◌, ◌<◌, ℕ, suc, ◌+◌, Bool, true, false, List, [], ◌∷◌, ◌++◌, take, length, refl, sym, ap, arith, ◌∙◌, append_assoc, append-nil}
 use Rattle.std.proofs.lemmas.List.{take-set, take_more_set, get_or-set_same}
 use Rattle.std.proofs.Math.Seq.{take-length}
 use Rattle.std.specs.Prelude.{if◌then◌else◌, bit_xor, slice_set}
@@ -13,15 +13,11 @@ bytes_append : (xs ys : List (List ℕ)) → bytes_in (xs ++ ys) ≡ bytes_in xs
 bytes_append [] ys = refl
 bytes_append (x ∷ xs) ys = ap (λ zs. x ++ zs) (bytes_append xs ys) ∙ sym (append_assoc x (bytes_in xs) (bytes_in ys))
 
-append_nil : (xs : List ℕ) → xs ++ [] ≡ xs
-append_nil [] = refl
-append_nil (x ∷ xs) = ap (λ ys. x ∷ ys) (append_nil xs)
-
 front_more_by : (write : Bool) (k : ℕ) (bytes : List ℕ) (blocks : List (List ℕ)) → write ≡ false → k < length blocks
     → (if write then [] else bytes_in (take (k + 1) (slice_set blocks k bytes))) ≡ (if write then [] else bytes_in (take k blocks)) ++ bytes
 front_more_by true k bytes blocks is inside = absurd (grind (arith, is))
 front_more_by false k bytes blocks is inside =
-    ap bytes_in (take_more_set blocks k bytes inside) ∙ bytes_append (take k blocks) (bytes ∷ []) ∙ ap (λ ys. bytes_in (take k blocks) ++ ys) (append_nil bytes)
+    ap bytes_in (take_more_set blocks k bytes inside) ∙ bytes_append (take k blocks) (bytes ∷ []) ∙ ap (λ ys. bytes_in (take k blocks) ++ ys) (append-nil bytes)
 
 pub front_more : (h : Held) (k : ℕ) (bytes : List ℕ) → h.write ≡ false → k < length h.blocks
     → front_of (with_block_in k bytes h) (k + 1) ≡ front_of h k ++ bytes

@@ -1,8 +1,9 @@
 -- The request in hand as it goes on: block by block, and where its segment changes.
-use Rattle.std.proofs.Common.{◌≡◌, ◌≢◌, inl, inr, ℕ, ◌<◌, ◌≤◌, ◌+◌, ◌-◌, ◌&&◌, nat_le, nat_lt, Bool, true, false, List, [], length, Option, None, Some, refl, sym, ap, ◌∙◌, subst, arith, get_or-set_same, get_or-set_other}
+use Rattle.std.proofs.Common.{◌≡◌, ◌≢◌, inl, inr, ℕ, ◌<◌, ◌≤◌, ◌+◌, ◌-◌, Bool, true, false, List, [], length, Option, None, Some, refl, sym, ap, ◌∙◌, subst, arith, get_or-set_same, get_or-set_other}
 use Rattle.std.specs.Prelude.{is_some, IsSome}
-use Rattle.std.proofs.lemmas.Bool.Decides.{eqb_tells, nat_tests}
+use Rattle.std.proofs.lemmas.Bool.Decides.{eqb_tells}
 use Rattle.std.proofs.lemmas.Option.{none-some}
+use Rattle.std.proofs.lemmas.Bool.{true≢false}
 use Rattle.pack_geometry.specs.declared.DriveKind.{DriveKind}
 use Rattle.pack_geometry.specs.Pack.{Pack, block_at, written}
 use Rattle.pack_geometry.specs.Content.{bytes_at}
@@ -11,31 +12,17 @@ use Rattle.pack_geometry.specs.PackTable.{places_of}
 use Rattle.pack_geometry.specs.Homes.{home_of, content_of}
 use Rattle.pack_geometry.proofs.HomeWriteLaws.{content_same, content_other}
 use Rattle.hardware_table.specs.declared.Moved.{Moved}
-use Rattle.hardware_table.specs.declared.Moved.TheVariants.{Clean, Burst, Hard, Marked, Faulted, Offline}
+use Rattle.hardware_table.specs.declared.Moved.TheVariants.{Clean, Burst, Marked}
 use Rattle.ecc_repair.specs.Repaired.{repaired}
 use Rattle.main_memory.specs.Bytes.{filled}
 use Rattle.transfer_engine.specs.State.{TransferState}
 use Rattle.driver_laws.specs.rules.Machine.{Blocks}
 use Rattle.driver_machine.specs.World.{Held, block_in, with_block_in}
 use Rattle.driver_laws.specs.shown.Bytes.{map_done, asked_of, IsSureFor, IsForwarded, sector_for, IsStopped, HandBears}
+use Rattle.driver_laws.proofs.rules.Blocks.{and_false, not_done, none_done, next_done, other_done}
+use Rattle.driver_laws.proofs.rules.Cleans.{none_below}
 
 -- THE MAP with what is done
-none_done : (first b : ℕ) → nat_le first b && nat_lt b (first + 0) ≡ false
-none_done first b = grind (arith, nat_tests)
-
-not_done : (first n : ℕ) → nat_le first (first + n) && nat_lt (first + n) (first + n) ≡ false
-not_done first n = grind (arith, nat_tests)
-
-next_done : (first n : ℕ) → nat_le first (first + n) && nat_lt (first + n) (first + (n + 1)) ≡ true
-next_done first n = grind (arith, nat_tests)
-
-other_done : (first n b : ℕ) → b ≢ first + n → nat_le first b && nat_lt b (first + (n + 1)) ≡ nat_le first b && nat_lt b (first + n)
-other_done first n b ne = grind (arith, nat_tests)
-
-and_false : (w : Bool) → w && false ≡ false
-and_false true = refl
-and_false false = refl
-
 pub map_begun : (blocks : Blocks) (h : Held) (b : ℕ) → map_done blocks h 0 b ≡ blocks b
 map_begun blocks h b = rw (none_done h.first b, and_false h.write) refl
 
@@ -54,14 +41,8 @@ map_more blocks h n writes = rw (writes, next_done h.first n) (ap (λ k. Some (f
 map_other : (blocks : Blocks) (h : Held) (n b : ℕ) → b ≢ h.first + n → map_done blocks h (n + 1) b ≡ map_done blocks h n b
 map_other blocks h n b ne = rw (other_done h.first n b ne) refl
 
-no_less : (k : ℕ) → k < 0 → ⊥
-no_less k lt = omega (arith, lt)
-
 not_itself : (k : ℕ) → k < k → ⊥
 not_itself k lt = omega (arith, lt)
-
-both : true ≡ false → ⊥
-both e = cc
 
 one_more : (P : ℕ → Type 0) (n k : ℕ) → k < n + 1 → ((j : ℕ) → j < n → P j) → P n → P k
 one_more P n k lt below here = elim (eqb_tells k n) [
@@ -75,8 +56,8 @@ module _ (sure : ℕ → Type 0) (kind : DriveKind) (table : Option Table) (pack
       → HandBears sure kind table pack blocks h t 0 Clean
   hand_waits h t none holds = record {
     homes = λ b. holds b ∙ sym (map_begun blocks h b);
-    usable = λ k lt. absurd (no_less k lt);
-    read = λ reads sures k lt. absurd (no_less k lt);
+    usable = λ k lt. absurd (none_below k lt);
+    read = λ reads sures k lt. absurd (none_below k lt);
     forwarded = λ i is. absurd (none-some i (sym none ∙ is));
     stopped = tt;
   }
@@ -174,7 +155,7 @@ module _ (sure : ℕ → Type 0) (kind : DriveKind) (table : Option Table) (pack
             ∙ b.homes c ∙ sym (map_other blocks h done c other.1)
       ];
       usable = λ k lt. one_more (λ j. IsSome (blocks (h.first + j))) done k lt b.usable (ap is_some (next_home sector home));
-      read = λ reads sures k lt. absurd (both (sym writes ∙ reads));
+      read = λ reads sures k lt. absurd (true≢false (sym writes ∙ reads));
       forwarded = λ i is. let at : IsForwarded kind table pack (h.first + t.done) i = b.forwarded i is in record { marked = at.marked; listed = at.listed };
       stopped = tt;
     }

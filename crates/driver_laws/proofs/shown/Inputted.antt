@@ -2,17 +2,13 @@
 use Rattle.std.proofs.Common.{◌≡◌, ℕ, List, [], ◌∷◌, ◌++◌, refl, ap, ◌∙◌}
 use Rattle.trace_replay.specs.Script.{Numbered}
 use Rattle.trace_replay.specs.Moments as moment
-use Rattle.trace_replay.specs.Moments.{Moment, Played, Told, Idle, Answered, played, answers_in}
+use Rattle.trace_replay.specs.Moments.{Moment, Played, Told, Answered, played, answers_in}
 use Rattle.driver_machine.specs.World.{World, held_in, slot_in_hand, unit_at}
-use Rattle.driver_machine.specs.Acts.{Act, Refuse, Submit, Of, Change, Nothing, Taken, after}
+use Rattle.driver_machine.specs.Acts.{Act, Of, after}
 use Rattle.driver_machine.specs.Lines.{deed_told, lines_with, lines_of, lines_of_all}
 use Rattle.driver_laws.specs.shown.Runs.{CallsArePlayed, LinesPlayNothing, CallsAreAnswered}
-
-played_append : (ms ns : List Moment) → played (ms ++ ns) ≡ played ms ++ played ns
-played_append [] ns = refl
-played_append (Played line input ∷ ms) ns = ap (λ (l : List Numbered). record { line = line; input = input } ∷ l) (played_append ms ns)
-played_append (Told line unit id deed ∷ ms) ns = played_append ms ns
-played_append (Idle line ∷ ms) ns = played_append ms ns
+use Rattle.driver_laws.proofs.rules.WaitedLaws.{answers_append}
+use Rattle.driver_laws.proofs.rules.Fronts.{played_append}
 
 lines_with_none : (line unit id : ℕ) (tolds : List moment.Deed) (ms : List Moment) → played (lines_with line unit id tolds ++ ms) ≡ played ms
 lines_with_none line unit id [] ms = refl
@@ -43,12 +39,6 @@ answers_told : (line unit id : ℕ) (deed : moment.Deed) (ms ns : List Moment) �
     → answers_in (Told line unit id deed ∷ ms ++ ns) ≡ answers_in (Told line unit id deed ∷ ms) ++ answers_in ns
 answers_told line unit id (moment.End answer) ms ns later = ap (λ (l : List Answered). record { line = line; id = id; answer = answer } ∷ l) later
 answers_told line unit id other ms ns later = later
-
-answers_append : (ms ns : List Moment) → answers_in (ms ++ ns) ≡ answers_in ms ++ answers_in ns
-answers_append [] ns = refl
-answers_append (Played line input ∷ ms) ns = answers_append ms ns
-answers_append (Told line unit id deed ∷ ms) ns = answers_told line unit id deed ms ns (answers_append ms ns)
-answers_append (Idle line ∷ ms) ns = answers_append ms ns
 
 pub calls_are_answered : CallsAreAnswered
 calls_are_answered moments line input w acts = answers_append moments (Played line input ∷ lines_of_all w acts)

@@ -1,7 +1,7 @@
 -- THE DATA INTERRUPT is taken: its line may be said, and what it leaves is shown.
 use Rattle.std.proofs.Common.{◌≡◌, ℕ, [], ◌-◌, Option, None, ◌==◌, ◌&&◌, ◌||◌, Bool, true, false, refl, sym, not, arith, ◌∙◌}
 use Rattle.hardware_table.specs.declared.Moved.{Moved}
-use Rattle.hardware_table.specs.declared.Moved.TheVariants.{Clean, Burst, Hard, Marked, Faulted, Offline}
+use Rattle.hardware_table.specs.declared.Moved.TheVariants.{Clean}
 use Rattle.hardware_table.specs.Adapter.{AdapterState, completed}
 use Rattle.trace_replay.specs.requests.Requests.{Request}
 use Rattle.trace_replay.specs.Replay.{UnitSeen, Replay, hand_of, at_unit, unit_after}

@@ -1,9 +1,9 @@
 -- One part of an event behind another; and the lines of an event follow, in a drain too.
-use Rattle.std.proofs.Common.{◌≡◌, ℕ, ◌&&◌, Bool, true, false, List, [], ◌∷◌, ◌++◌, refl, sym, ap, subst, ◌∙◌, append_assoc}
+use Rattle.std.proofs.Common.{◌≡◌, ℕ, ◌&&◌, Bool, true, false, List, [], ◌∷◌, ◌++◌, refl, sym, ap, subst, ◌∙◌}
 use Rattle.std.specs.Prelude.{if◌then◌else◌, nat_lt}
 use Rattle.pack_geometry.specs.Pack as model
 use Rattle.trace_replay.specs.Moments as moment
-use Rattle.trace_replay.specs.Moments.{Deed, Moment, Played, Told, Idle}
+use Rattle.trace_replay.specs.Moments.{Deed, Moment, Told}
 use Rattle.trace_replay.specs.Events.{Wish, wish_of, is_no_line}
 use Rattle.trace_replay.specs.Replay.{Replay, LineMay, ToldMay, MayCome, next_wish, told_after, after_moment, after_moments, drained, act_drained, Follows}
 use Rattle.driver_machine.specs.World.{World}
@@ -13,6 +13,7 @@ use Rattle.driver_machine.specs.Events.{Part, followed}
 use Rattle.driver_laws.specs.answers.Packs.{packs_after, packs_after_all}
 use Rattle.driver_laws.proofs.answers.Passes.{after_append}
 use Rattle.driver_laws.proofs.shown.Telling.{told_within, within, within_all, LineFollows, LinesFollow, Tells}
+pub use Rattle.driver_laws.proofs.answers.Joined.{lines_append}
 
 -- behind the last of some moments a drain goes on
 abbrev pub drained_by : List Moment → Replay → Replay
@@ -20,12 +21,6 @@ drained_by [] s = s
 drained_by (m ∷ ms) s = drained s
 
 -- ONE BEHIND ANOTHER
-pub lines_append : (w : World) (xs ys : List Act) → lines_of_all w (xs ++ ys) ≡ lines_of_all w xs ++ lines_of_all (after_all w xs) ys
-lines_append w [] ys = refl
-lines_append w (x ∷ xs) ys =
-    ap (λ (ms : List Moment). lines_of w x ++ ms) (lines_append (after w x) xs ys)
-    ∙ sym (append_assoc (lines_of w x) (lines_of_all (after w x) xs) (lines_of_all (after_all (after w x) xs) ys))
-
 pub packs_append : (w : World) (held : ℕ → model.Pack) (xs ys : List Act)
     → packs_after_all w held (xs ++ ys) ≡ packs_after_all (after_all w xs) (packs_after_all w held xs) ys
 packs_append w held [] ys = refl

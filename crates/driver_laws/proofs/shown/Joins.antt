@@ -35,11 +35,13 @@ use Rattle.driver_machine.specs.Sound.{Sound, UnitOk, IsOutstanding, IsPhase, Am
 use Rattle.driver_laws.specs.shown.Stages.{stage_by, segment_seen, IsProgress}
 use Rattle.driver_laws.specs.shown.Shows.{Match, IsUnitSeen, IsAdapterSeen, Shows, is_coming, with_coming, counted_by, outstanding_in}
 use Rattle.std.specs.List.{AllByRecursion}
-use Rattle.driver_laws.proofs.shown.Frame.{small_adapter, progress_stays, same_transfer}
-use Rattle.driver_laws.proofs.shown.Plain.{with_same, with_other}
+use Rattle.driver_laws.proofs.shown.Frame.{progress_stays, same_transfer}
+use Rattle.driver_laws.proofs.shown.Plain.{with_same}
 use Rattle.driver_laws.proofs.shown.AdapterQueues.{ready_goes, ready_stays, coming_is}
 use Rattle.driver_laws.proofs.shown.End.{frames_same}
 use Rattle.driver_laws.proofs.shown.Queues.{each_of, match_same, match_joined}
+use Rattle.trace_replay.proofs.Unchanged.{with_other}
+use Rattle.driver_laws.proofs.invariant.Frame.{adapter_of-small}
 
 -- A UNIT WITH A REQUEST is not seen as one that has none.
 continued_goes : (b : Bool) (answer : Answer) → told.is_waiting (if b then told.Ending answer else told.AtOnce told.OwnBlocks) ≡ false
@@ -315,7 +317,7 @@ module _ (line p : ℕ) (h : Held) (r : Request) (w : World) (s : Replay) (sound
 
   -- its adapter
   not_queued : (unit_at w h.unit).phase ≢ phases.Queued → Among h.unit (adapter_at w (adapter_of h.unit)).queue → ⊥
-  not_queued other among = other ((sound.each_adapter (adapter_of h.unit) (small_adapter h.unit new.unit.unit)).waits h.unit among).2
+  not_queued other among = other ((sound.each_adapter (adapter_of h.unit) (adapter_of-small h.unit new.unit.unit)).waits h.unit among).2
 
   goes_on : (unit_at w h.unit).phase ≢ phases.Queued
       → rule.with_ready (told.waits (unit_joined (s.units h.unit) r).stage) h.unit (at_unit s h.unit).ready
@@ -354,7 +356,7 @@ module _ (line p : ℕ) (h : Held) (r : Request) (w : World) (s : Replay) (sound
       (λ same. subst (λ b. IsAdapterSeen (adapter_at w b).state ((joined_at s r h.unit).adapters b).state) (sym same)
       (subst (λ (b : AdapterSeen). IsAdapterSeen (adapter_at w (adapter_of h.unit)).state b.state)
       (sym (with_same s.adapters (adapter_of h.unit) (adapter_joined (at_unit s h.unit) h.unit (unit_joined (s.units h.unit) r).stage)))
-      (shows.adapters (adapter_of h.unit) (small_adapter h.unit new.unit.unit))))
+      (shows.adapters (adapter_of h.unit) (adapter_of-small h.unit new.unit.unit))))
       (λ other. subst (λ (b : AdapterSeen). IsAdapterSeen (adapter_at w a).state b.state)
       (sym (with_other s.adapters (adapter_of h.unit) (adapter_joined (at_unit s h.unit) h.unit (unit_joined (s.units h.unit) r).stage) a other))
       (shows.adapters a small))

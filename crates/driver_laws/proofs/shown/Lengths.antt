@@ -1,5 +1,5 @@
 -- How long images get, call by call.
-use Rattle.std.proofs.Common.{◌≡◌, ◌≢◌, inl, inr, ℕ, ◌+◌, ◌-◌, ◌*◌, ◌==◌, ◌≤◌, ◌&&◌, nat_lt, Bool, true, false, not, List, [], ◌∷◌, ◌++◌, take, drop, length, refl, sym, ap, subst, arith, ◌∙◌, append-nil}
+use Rattle.std.proofs.Common.{◌≡◌, inl, inr, ℕ, ◌+◌, ◌-◌, ◌*◌, ◌==◌, ◌≤◌, ◌&&◌, nat_lt, Bool, true, false, not, List, [], ◌∷◌, ◌++◌, take, drop, length, refl, sym, ap, subst, arith, ◌∙◌, append-nil}
 use Rattle.std.specs.Prelude.{if◌then◌else◌}
 use Rattle.std.proofs.lemmas.Bool.{false≢true}
 use Rattle.std.proofs.lemmas.Bool.Decides.{eqb_tells, nat_tests}
@@ -10,7 +10,7 @@ use Rattle.hardware_table.specs.Adapter.{next_block}
 use Rattle.hardware_table.specs.Drive.{DriveState}
 use Rattle.hardware_table.specs.Moves.{was_written}
 use Rattle.pack_geometry.specs.Pack.{Pack, grown, with_window, with_block, with_written}
-use Rattle.trace_replay.specs.Moments.{Moment, Deed, Search, Seek, Recal, Offset, Centre, Clear, Pack as PackLine, Transfer, Arrive, Sector, Intr, Try, Attn, End, Played, Told, Idle}
+use Rattle.trace_replay.specs.Moments.{Moment, Deed, Sector, Played, Told, Idle}
 use Rattle.trace_replay.specs.Script as script
 use Rattle.trace_replay.specs.Script.{Input}
 use Rattle.trace_replay.specs.Events.{Event}

@@ -9,7 +9,7 @@ use Rattle.trace_replay.specs.Script as script
 use Rattle.trace_replay.specs.Script.{Input}
 use Rattle.driver_machine.specs.World.{World, slot_in_hand, unit_at}
 use Rattle.driver_machine.specs.Acts as deed
-use Rattle.driver_machine.specs.Acts.{Act, Refuse, Submit, Of, Change, Nothing, Taken, Deed, Scene, effect, scene_of, after}
+use Rattle.driver_machine.specs.Acts.{Act, Of, Change, Deed, Scene, effect, scene_of, after}
 use Rattle.driver_machine.specs.Guards.{Allowed}
 use Rattle.driver_laws.specs.shown.Noises.{AllFlip, NoneAtStart, ActsKeepNoise, StrikesFlip}
 

@@ -1,23 +1,17 @@
 -- The packs as a run leaves them.
-use Rattle.std.proofs.Common.{◌≡◌, ℕ, Bool, true, false, List, [], ◌∷◌, refl, sym, ◌∙◌}
-use Rattle.std.specs.Prelude.{if◌then◌else◌}
-use Rattle.pack_geometry.specs.Pack.{Pack, with_written}
+use Rattle.std.proofs.Common.{◌≡◌, ℕ, [], ◌∷◌, refl, sym, ◌∙◌}
+use Rattle.pack_geometry.specs.Pack.{Pack}
 use Rattle.main_memory.specs.Bytes.{filled}
 use Rattle.hardware_table.specs.Moves.{was_written}
 use Rattle.driver_machine.specs.World.{World, unit_at}
 use Rattle.driver_machine.specs.Acts as deed
-use Rattle.driver_machine.specs.Acts.{Act, Refuse, Submit, Of, Change, Nothing, Taken, Deed, after}
+use Rattle.driver_machine.specs.Acts.{Act, Of, Deed, after}
 use Rattle.driver_laws.specs.answers.Packs.{packs_after}
 use Rattle.driver_laws.specs.shown.Left.{SectorsAreLeft, MarksStay}
-use Rattle.driver_laws.proofs.shown.Moves.{written_marks}
+use Rattle.driver_laws.proofs.shown.QuietEachDeed.{marks_by}
 
 pub sectors_are_left : SectorsAreLeft
 sectors_are_left start line moments held w unit block far = sym (far.left.stands.packs.sectors unit block)
-
-marks_by : (b : Bool) (held : ℕ → Pack) (u block : ℕ) (bytes : List ℕ) (unit : ℕ)
-    → ((if b then with_written held u block bytes else held) unit).marks ≡ (held unit).marks
-marks_by true held u block bytes unit = written_marks held u block bytes unit
-marks_by false held u block bytes unit = refl
 
 deed_marks : (line u id : ℕ) (d : Deed) (w : World) (held : ℕ → Pack) (unit : ℕ) → (packs_after w held (Of line u id d) unit).marks ≡ (held unit).marks
 deed_marks line u id (deed.Sector block t) w held unit = marks_by (was_written (unit_at w u).drive t.verdict) held u block (filled 512 t.bytes) unit

@@ -1,6 +1,5 @@
 -- RCOM AND WCOM: the drive takes them, their line may be said, and what they leave is shown.
-use Rattle.std.proofs.Common.{◌≡◌, inl, inr, ◌<◌, ℕ, [], ◌-◌, Some, ◌*◌, ◌&&◌, Bool, true, false, refl, ap, not, subst, arith, ◌∙◌}
-use Rattle.std.specs.Prelude.{bit_or}
+use Rattle.std.proofs.Common.{◌≡◌, inl, inr, ◌<◌, ℕ, [], ◌-◌, Some, ◌*◌, ◌&&◌, Bool, true, false, refl, ap, subst, arith, ◌∙◌}
 use Rattle.pack_geometry.specs.declared.Place.{Place}
 use Rattle.pack_geometry.specs.Geometry.{place_at, block_count, IsInside}
 use Rattle.drive_registers.specs.Bits as bits
@@ -35,8 +34,9 @@ use Rattle.driver_laws.proofs.shown.Talk.{guarded_command, transfer_guarded}
 use Rattle.driver_laws.proofs.shown.Facts.{At}
 use Rattle.driver_laws.proofs.shown.AdapterQueues.{without_coming}
 use Rattle.driver_laws.proofs.shown.DeedFacts.{said_by, no}
-use Rattle.driver_laws.proofs.shown.Drives.{addressed_is, place_inside, segment_below}
+use Rattle.driver_laws.proofs.shown.Drives.{segment_below}
 use Rattle.driver_laws.proofs.shown.Busy.{busy_with, kept_bus}
+use Rattle.driver_laws.proofs.invariant.Drives.{no_bits, place_inside, is_addressed-addressed}
 
 whole : (n : ℕ) → n ≡ n - 0
 whole n = omega arith
@@ -87,14 +87,11 @@ transfer_adapter u h write segment a seen is = record {
   counted = λ busy. whole_bytes segment.count;
 }
 
-no_bits : (b c : Bool) (x y : ℕ) → b ≡ true → c ≡ false → bit_or (on (not b) x) (on c y) ≡ 0
-no_bits b c x y e f = rw (e, f) refl
-
 transfer_taken : (write : Bool) (d : DriveState) (place : Place) → d.work ≡ work.Ready → d.online ≡ true → write && d.locked ≡ false
     → IsInside d.kind place → takes (transfer_function write) (addressed place d) ≡ true
 transfer_taken true d place still online unlocked at =
-    rw (still, online, no_bits (is_addressed (addressed place d)) d.locked bits.invalid_address_error bits.write_lock_error (addressed_is d place at) unlocked) refl
-transfer_taken false d place still online unlocked at = rw (still, online, addressed_is d place at) refl
+    rw (still, online, no_bits (is_addressed (addressed place d)) d.locked bits.invalid_address_error bits.write_lock_error (is_addressed-addressed d place at) unlocked) refl
+transfer_taken false d place still online unlocked at = rw (still, online, is_addressed-addressed d place at) refl
 
 command_still : (u : ℕ) (v : UnitView) (a : AdapterView) (h : Held) → IsAtCommand v.phase → IsPhase u v a h v.phase → IsBegun v h × IsStill v.drive
 command_still u v a h (inl phase) is = let task : IsPhase u v a h (Due Command) = subst (IsPhase u v a h) phase is in (task.0, task.1)

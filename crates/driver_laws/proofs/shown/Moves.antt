@@ -7,7 +7,6 @@ use Rattle.std.proofs.Math.Seq.{take-append-add}
 use Rattle.pack_geometry.specs.Pack.{Pack, block_at, is_marked, with_written, written, with_block}
 use Rattle.pack_geometry.proofs.PackLaws.{block_at-with_block_same, block_at-with_block_other}
 use Rattle.main_memory.specs.Bytes.{filled}
-use Rattle.main_memory.specs.Blocks.{Loan, IsLoan, size_at}
 use Rattle.main_memory.proofs.ByteLaws.{length-filled}
 use Rattle.hardware_table.specs.Drive.{DriveState}
 use Rattle.hardware_table.specs.Moves.{was_read, was_written}
@@ -50,6 +49,8 @@ use Rattle.driver_laws.proofs.shown.Resting.{shows_one}
 use Rattle.driver_laws.proofs.shown.Starting.{wish_resting, set_up}
 use Rattle.driver_laws.proofs.shown.Events.{drained_there}
 use Rattle.driver_laws.proofs.shown.Inputs.{rest_over}
+use Rattle.trace_replay.proofs.Unchanged.{read_same, read_marks}
+use Rattle.main_memory.proofs.BlockLaws.{size_few}
 
 -- THE BYTES that a write gives, with zeros behind them
 pub cut_filled : (size : ℕ) (bytes : List ℕ) → length bytes ≤ size → take size (bytes ++ replicate size 0) ≡ filled size bytes
@@ -92,15 +93,6 @@ written_marks held u block bytes x = by_unit (eqb_tells x u)
         ap (λ (t : Bool). (if t then written (held u) block bytes else held x).marks) here.0 ∙ ap (λ (k : ℕ). (held k).marks) (sym here.1)
     by_unit (inr other) = ap (λ (t : Bool). (if t then written (held u) block bytes else held x).marks) other.0
 
--- a read touches no sector
-read_sectors : (read : Bool) (s : Surface) (u : ℕ) (d : DriveState) (block : ℕ) → (surface_read read s u d block).sector ≡ s.sector
-read_sectors true s u d block = refl
-read_sectors false s u d block = refl
-
-read_marks : (read : Bool) (s : Surface) (u : ℕ) (d : DriveState) (block : ℕ) → (surface_read read s u d block).is_marked ≡ s.is_marked
-read_marks true s u d block = refl
-read_marks false s u d block = refl
-
 pub record IsWritten (held : ℕ → Pack) (s : Surface) : Type 0 where
   pub sectors : (x b : ℕ) → s.sector x b ≡ block_at (held x).image b
   pub marks : (x b : ℕ) → s.is_marked x b ≡ is_marked (held x) b
@@ -124,13 +116,6 @@ tried_by false held s t u block r k bytes is sectors marks content = record {
 }
 
 -- WHAT IS WRITTEN is at most a sector.
-at_most : (loan : Loan) (k : ℕ) → IsLoan loan → size_at loan k ≤ 512
-at_most loan k is = by_test (k + 1 == loan.count)
-  where
-    by_test : (b : Bool) → (if b then loan.last else 512) ≤ 512
-    by_test true = is.shape.last_few
-    by_test false = omega arith
-
 few_bytes : (u id block line : ℕ) (t : Tried) (w : World) (s : Replay) → Sound w → Shows u w s → Allowed w (Of line u id (deed.Sector block t))
     → was_written (unit_at w u).drive t.verdict ≡ true → length t.bytes ≤ 512
 few_bytes u id block line t w s sound shows allowed given =
@@ -141,7 +126,7 @@ few_bytes u id block line t w s sound shows allowed given =
     let inside : next_window a < h.loan.count =
     subst (λ n. n < h.loan.count) (sym is.moving.window) (subst (λ n. (transfer_of (unit_at w u)).done + a.moved < n) at.slot.size is.moving.inside) in
     subst (λ n. n ≤ 512) (sym (ap length (allowed.1.2.bytes given) ∙ at.slot.whole (next_window a) inside))
-    (at_most h.loan (next_window a) at.slot.loan)
+    (size_few h.loan (next_window a) at.slot.loan)
 
 -- A MOVE
 pub move_told : (line a : ℕ) (drains : Bool) (tried : Tried) (held : ℕ → Pack) (w : World) (s : Replay)
@@ -201,7 +186,7 @@ move_told line a drains tried held w s rests packs can on_surface run =
         (tried_by (was_written (unit_at w u).drive tried.verdict) held s.surface
         (surface_read (was_read (unit_at w u).drive tried.verdict) s.surface u (unit_at w u).drive block) u block
         (in_hand (s.units u).service) (s.units u).progress.done tried.bytes (record { sectors = packs.sectors; marks = packs.marks })
-        (read_sectors (was_read (unit_at w u).drive tried.verdict) s.surface u (unit_at w u).drive block)
+        (read_same (was_read (unit_at w u).drive tried.verdict) s.surface u (unit_at w u).drive block)
         (read_marks (was_read (unit_at w u).drive tried.verdict) s.surface u (unit_at w u).drive block)
         (λ given.
         let few : length tried.bytes ≤ 512 = few_bytes u id block line tried w s rests.sound shows runs.0 given in

@@ -1,26 +1,21 @@
 -- A new driver is quiet.
-use Rattle.std.proofs.Common.{◌≡◌, ◌≢◌, ◌⊎◌, inl, inr, ℕ, zero, suc, ◌≤◌, ◌<◌, List, [], ◌∷◌, length, length-set, replicate, Option, None, refl, sym, ap, subst, ◌∙◌, arith, get_or-set_same, get_or-set_other}
+use Rattle.std.proofs.Common.{◌≡◌, inl, inr, ℕ, zero, suc, ◌≤◌, List, [], ◌∷◌, length, length-set, replicate, Option, None, refl, sym, ap, subst, ◌∙◌, arith, get_or-set_same, get_or-set_other}
 use Rattle.std.specs.Prelude.{slice_index_or, slice_set}
 use Rattle.std.proofs.lemmas.List.{get_or_past}
 use Rattle.std.proofs.lemmas.Option.{none-some}
+use Rattle.std.proofs.lemmas.Bool.{cases_lt, cases_eq}
 use Rattle.driver_laws.specs.rules.Calm.{IsGood}
 use Rattle.driver_machine.specs.World.{UnitView, Held, Setup, new_unit, no_unit, set_up}
 use Rattle.driver_laws.specs.shown.Quiet.{NewIsQuiet}
-
-less_or : (x n : ℕ) → (x < n) ⊎ (n ≤ x)
-less_or x n = grind arith
-
-same_or : (x y : ℕ) → (x ≡ y) ⊎ (x ≢ y)
-same_or x y = grind arith
 
 -- what all of some things are, and the one beyond them
 abbrev pub AreAll : {A : Type 0} → (A → Type 0) → List A → A → Type 0
 AreAll P xs d = (u : ℕ) → P (slice_index_or xs u d)
 
 all_set : {A : Type 0} (P : A → Type 0) (xs : List A) (i : ℕ) (v d : A) → P v → P d → AreAll P xs d → AreAll P (slice_set xs i v) d
-all_set P xs i v d new past all u = elim (same_or u i) [
+all_set P xs i v d new past all u = elim (cases_eq u i) [
   | inr other ↦ subst P (sym (get_or-set_other xs i u v d other)) (all u)
-  | inl same ↦ elim (less_or i (length xs)) [
+  | inl same ↦ elim (cases_lt i (length xs)) [
     | inl lt ↦ subst P (sym (ap (λ k. slice_index_or (slice_set xs i v) k d) same ∙ get_or-set_same xs i v d lt)) new
     | inr le ↦ subst P (sym (get_or_past (slice_set xs i v) u d (beyond (length (slice_set xs i v)) (length xs) i u (length-set xs i v) same le))) past
   ]

@@ -27,13 +27,13 @@ use Rattle.driver_machine.specs.World.{World, UnitView, Held, adapter_of, unit_o
 use Rattle.driver_machine.specs.Acts.{Tried, scene_of}
 use Rattle.driver_machine.specs.Guards.{InHand, IsTried, IsSetUp}
 use Rattle.driver_machine.specs.Sound.{Sound}
-use Rattle.driver_laws.proofs.invariant.Frame.{scene_ok}
+use Rattle.driver_laws.proofs.invariant.Frame.{scene_ok, unit_on-own}
 use Rattle.driver_laws.proofs.invariant.Sector.{next_below}
 use Rattle.driver_laws.proofs.shown.TracePasses.{IsServing, serving}
 use Rattle.driver_laws.specs.shown.TracePasses.{IsNextBlock}
 use Rattle.driver_laws.specs.shown.Stages.{segment_seen, progress_with}
 use Rattle.driver_laws.specs.shown.Shows.{Shows, is_coming}
-use Rattle.driver_laws.proofs.shown.Busy.{Moves, moves, own_unit}
+use Rattle.driver_laws.proofs.shown.Busy.{Moves, moves}
 use Rattle.driver_laws.proofs.shown.DeedFacts.{judged_start}
 use Rattle.driver_laws.proofs.shown.Facts.{At, at_facts}
 use Rattle.driver_laws.proofs.shown.Sector.{IsSector, one_sector, sector_facts, sector_progress}
@@ -46,7 +46,9 @@ use Rattle.driver_laws.proofs.shown.Starting.{set_up}
 use Rattle.driver_laws.specs.rules.Beginnings.{IsNextSector, with_next}
 use Rattle.driver_laws.specs.shown.NextBlock.{HasNext, NextBlocksShow}
 use Rattle.driver_laws.specs.shown.RunsRuns.{AreDeclared}
-use Rattle.driver_laws.proofs.shown.Acts.{size_few, written_beyond, other_by}
+use Rattle.driver_laws.proofs.shown.Acts.{written_beyond}
+use Rattle.main_memory.proofs.BlockLaws.{size_few}
+use Rattle.driver_laws.proofs.shown.QuietEachDeed.{other_by}
 
 -- ---- a try of the block, whatever its verdict
 verdict_by : Option Moved → Moved
@@ -105,7 +107,7 @@ module _ (drives : ℕ → Option DriveKind) (old held left : ℕ → Pack) (s :
   serves = serving w (adapter_of n.unit) sound n.busy.busy
 
   own : unit_of w (adapter_of n.unit) ≡ n.unit
-  own = ap (λ d. unit_on (adapter_of n.unit) d) n.busy.drive ∙ own_unit n.unit
+  own = ap (λ d. unit_on (adapter_of n.unit) d) n.busy.drive ∙ unit_on-own n.unit
 
   small : n.unit < 32
   small = subst (λ k. k < 32) own serves.unit

@@ -16,7 +16,7 @@ use Rattle.trace_replay.specs.Conversation as told
 use Rattle.trace_replay.specs.Moments as moment
 use Rattle.trace_replay.specs.Adapters as rule
 use Rattle.driver_machine.specs.declared.RetryStep.{RetryStep}
-use Rattle.driver_machine.specs.declared.RetryStep.TheVariants.{Recalibrate, Seek, Offset}
+use Rattle.driver_machine.specs.declared.RetryStep.TheVariants.{Recalibrate}
 use Rattle.driver_machine.specs.declared.Phase.{Phase}
 use Rattle.driver_machine.specs.declared.Task.TheVariants.{Clear, Judge, Steps, Command, GiveUp}
 use Rattle.driver_machine.specs.declared.Phase.TheVariants.{Waiting, Positioning, Queued, Transferring, Due}
@@ -88,7 +88,7 @@ pub data IsPackAt (v : UnitView) (h : Held) : Type 0 where
       → IsPackAt v h
   Transfers : IsAtCommand v.phase → h.write && v.drive.locked ≡ false → IsPackAt v h
 
-some_same : {x y : Deed} → Some x ≡ Some y → x ≡ y
+pub some_same : {x y : Deed} → Some x ≡ Some y → x ≡ y
 some_same e = grind arith
 
 starts_search : (b : Bool) (c s : ℕ) (v : UnitView) (h : Held) → start_by (if b then position.Ready else position.Search c s) v h ≡ deed.Pack → b ≡ false

@@ -21,20 +21,16 @@ use Rattle.driver_machine.specs.Guards.{IsHeldFor}
 use Rattle.driver_machine.specs.Sound.{Among}
 use Rattle.driver_laws.specs.shown.Shows.{Match, IsAdapterSeen, is_coming, with_coming, counted_by, outstanding_in, Shows}
 use Rattle.driver_laws.proofs.shown.Core.{Core}
-use Rattle.driver_laws.proofs.shown.Frame.{Step, IsSameTransfer, same_transfer, same_held, slot_there}
+use Rattle.driver_laws.proofs.shown.Frame.{Step, IsSameTransfer, same_transfer, same_held}
 use Rattle.driver_laws.proofs.shown.Facts.{At}
 use Rattle.driver_laws.proofs.shown.AdapterQueues.{ready_goes, coming_is}
+use Rattle.trace_replay.proofs.Unchanged.{with_other}
+use Rattle.driver_laws.proofs.invariant.Frame.{slot_there}
 
 pub with_same : {T : Type 0} (states : ℕ → T) (k : ℕ) (state : T) → with_state states k state k ≡ state
 with_same states k state = elim (eqb_tells k k) [
   | inl same ↦ rw same.0 refl
   | inr other ↦ absurd (other.1 refl)
-]
-
-pub with_other : {T : Type 0} (states : ℕ → T) (k : ℕ) (state : T) (x : ℕ) → x ≢ k → with_state states k state x ≡ states x
-with_other states k state x apart = elim (eqb_tells x k) [
-  | inl same ↦ absurd (apart same.1)
-  | inr other ↦ rw other.0 refl
 ]
 
 -- THE OUTSTANDING are as many, where a request goes on.
@@ -72,7 +68,7 @@ said_kind u id w s told h scene at core =
     ap (λ (d : DriveState). d.kind) (sym core.drive) ∙ after_kind (s.units u).drive (at_unit s u).state (target_of (s.units u).drive.kind (in_hand (s.units u).service)) told
     ∙ ap (λ (d : DriveState). d.kind) at.core.drive
 
-same_slot : (v v' : UnitView) → v'.queue ≡ v.queue → slot_in_hand v' ≡ slot_in_hand v
+pub same_slot : (v v' : UnitView) → v'.queue ≡ v.queue → slot_in_hand v' ≡ slot_in_hand v
 same_slot v v' e = ap (λ (q : List Waiter). (slice_index_or q 0 (record { number = 0; cylinder = 0 })).number) e
 
 pub says_step : (u id : ℕ) (w : World) (s : Replay) (told : Deed) (scene : Scene) → Shows u w s → At u id w s → Says u w s told scene

@@ -1,12 +1,13 @@
 -- The acts of a call keep what the driver stands for.
 use Rattle.std.proofs.Common.{◌≡◌, ℕ, true, false, List, [], ◌∷◌, ◌++◌, length, refl, sym, ap, subst, arith}
+use Rattle.std.proofs.lemmas.Bool.{true≢false}
 use Rattle.pack_geometry.specs.Pack.{Pack}
 use Rattle.hardware_table.specs.Noise.{LiveNoise}
 use Rattle.trace_replay.specs.Script as script
 use Rattle.trace_replay.specs.Script.{Input}
 use Rattle.driver_laws.specs.rules.Machine.{Blocks}
 use Rattle.driver_machine.specs.World.{World}
-use Rattle.driver_machine.specs.Acts.{Act, Refuse, Submit, Of, Change, Nothing, Taken, Tried, after, after_all}
+use Rattle.driver_machine.specs.Acts.{Act, Change, Taken, Tried, after, after_all}
 use Rattle.driver_machine.specs.Events.{submit_acts, event_acts}
 use Rattle.driver_machine.specs.Sound.{Sound}
 use Rattle.driver_machine.specs.Runs.{Run}
@@ -23,11 +24,8 @@ pub record IsPlain (act : Act) : Type 0 where
   pub arms : (armed : List LiveNoise) → armed_with armed act ≡ armed
   pub takes : is_taking act ≡ false
 
-true_false : true ≡ false → ⊥
-true_false e = cc
-
 same_map : (w : World) (act : Act) (maps : ℕ → Blocks) → is_taking act ≡ false → maps_after w act maps ≡ maps
-same_map w Taken maps is = absurd (true_false is)
+same_map w Taken maps is = absurd (true≢false is)
 same_map w other maps is = refl
 
 runs_bear : (armed : List LiveNoise) (w : World) (acts : List Act) (held : ℕ → Pack) (maps : ℕ → Blocks) → Sound w → AreAll IsPlain acts → Run w acts → ReadAll w held acts

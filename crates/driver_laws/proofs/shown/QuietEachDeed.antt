@@ -1,5 +1,5 @@
 -- Each deed at a unit keeps what the driver stands for.
-use Rattle.std.proofs.Common.{◌≡◌, ◌≢◌, inl, inr, ℕ, ◌<◌, Bool, true, false, List, [], ◌∷◌, ◌++◌, length, All, Option, Some, refl, sym, ap, ◌∙◌, subst, arith}
+use Rattle.std.proofs.Common.{◌≡◌, ◌≢◌, inl, inr, ℕ, Bool, true, false, List, [], ◌∷◌, ◌++◌, All, Option, Some, refl, sym, ap, ◌∙◌, subst}
 use Rattle.std.specs.Prelude.{if◌then◌else◌, unwrap_or, slice_index_or}
 use Rattle.std.proofs.lemmas.Bool.{cases_eq, eq-eqb, ne_eqb}
 use Rattle.std.proofs.lemmas.Bool.Decides.{eqb_tells}
@@ -37,14 +37,7 @@ use Rattle.driver_laws.proofs.shown.QuietSector.{pack_tried}
 use Rattle.driver_laws.proofs.shown.Tries.{Given, sector_bears}
 use Rattle.driver_laws.proofs.shown.Others.{LeavesMoves, leaves_moves, other_bears}
 use Rattle.driver_laws.proofs.shown.Answers.{Stays, StaySlots, steps_stay, steps_more}
-
--- a unit with a request is set up
-pub set_up : (b : Bool) (queue : List Waiter) → (b ≡ false → queue ≡ []) → 0 < length queue → b ≡ true
-set_up true queue none some = refl
-set_up false queue none some = absurd (no_less (subst (λ (q : List Waiter). 0 < length q) (none refl) some))
-  where
-    no_less : 0 < 0 → ⊥
-    no_less e = omega (arith, e)
+use Rattle.driver_laws.proofs.shown.Facts.{set_up}
 
 -- WHAT A DEED LEAVES of its scene: but for an end the queue and the answers, and but for a sector the noise
 same_queue : (line u p : ℕ) (d : Deed) (s : Scene) → ((kind : AnswerKind) → d ≢ deed.End kind) → ((effect line u p d s).unit.queue ≡ s.unit.queue) × ((effect line u p d s).answers ≡ s.answers)
@@ -182,11 +175,11 @@ left_by : (b : Bool) (held : ℕ → Pack) (u block : ℕ) (bytes : List ℕ) �
 left_by true held u block bytes = rw (eq-eqb u u refl) refl
 left_by false held u block bytes = refl
 
-other_by : (b : Bool) (held : ℕ → Pack) (u block : ℕ) (bytes : List ℕ) (x : ℕ) → x ≢ u → (if b then with_written held u block bytes else held) x ≡ held x
+pub other_by : (b : Bool) (held : ℕ → Pack) (u block : ℕ) (bytes : List ℕ) (x : ℕ) → x ≢ u → (if b then with_written held u block bytes else held) x ≡ held x
 other_by true held u block bytes x other = rw (ne_eqb x u other) refl
 other_by false held u block bytes x other = refl
 
-marks_by : (b : Bool) (held : ℕ → Pack) (u block : ℕ) (bytes : List ℕ) (x : ℕ) → ((if b then with_written held u block bytes else held) x).marks ≡ (held x).marks
+pub marks_by : (b : Bool) (held : ℕ → Pack) (u block : ℕ) (bytes : List ℕ) (x : ℕ) → ((if b then with_written held u block bytes else held) x).marks ≡ (held x).marks
 marks_by false held u block bytes x = refl
 marks_by true held u block bytes x = elim (eqb_tells x u) [
   | inl same ↦ rw same.0 (ap (λ k. (held k).marks) (sym same.1))

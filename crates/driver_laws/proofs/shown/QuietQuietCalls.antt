@@ -1,6 +1,5 @@
 -- Calls from any state of a replay that is consistent and shows the driver.
-use Rattle.std.proofs.Common.{◌≡◌, ℕ, ◌≤◌, ◌&&◌, nat_lt, Bool, true, false, List, [], ◌∷◌, ◌++◌, refl, sym, ap, subst, arith, ◌∙◌}
-use Rattle.std.proofs.lemmas.Bool.Decides.{nat_tests}
+use Rattle.std.proofs.Common.{◌≡◌, ℕ, ◌≤◌, ◌&&◌, nat_lt, Bool, true, false, List, [], ◌∷◌, ◌++◌, refl, sym, ap, subst, ◌∙◌}
 use Rattle.pack_geometry.specs.Pack.{Pack}
 use Rattle.trace_replay.specs.requests.ServiceOrder.{Waiting as Waiter, Service}
 use Rattle.trace_replay.proofs.requests.ServiceOrderRuns.{IsService}
@@ -10,7 +9,7 @@ use Rattle.trace_replay.specs.Script as script
 use Rattle.trace_replay.specs.Script.{Input}
 use Rattle.trace_replay.specs.Service.{cylinder_of}
 use Rattle.trace_replay.specs.Events.{is_no_line}
-use Rattle.trace_replay.specs.Replay.{Replay, are_at_work, WorkMay, InputMay, after_moment, after_moments}
+use Rattle.trace_replay.specs.Replay.{Replay, WorkMay, after_moment, after_moments}
 use Rattle.driver_laws.specs.rules.Consistent.{IsConsistent}
 use Rattle.driver_laws.proofs.rules.Consistency.{stays_consistent, moments_consistent}
 use Rattle.driver_laws.proofs.rules.Working.{all_at_work}
@@ -34,11 +33,14 @@ use Rattle.driver_laws.proofs.shown.ReadSectors.{tried_on}
 use Rattle.driver_laws.proofs.shown.Resting.{shows_one, shows_all}
 use Rattle.driver_laws.proofs.shown.Submits.{calm}
 use Rattle.driver_laws.proofs.shown.DrainsLaws.{GoesOn, drain_goes_on, drain_between, drain_begins, drain_idle, event_goes, call_left, drain_left}
-use Rattle.driver_laws.proofs.shown.TraceRuns.{moments_append, follows_append, there_after, played_there}
+use Rattle.driver_laws.proofs.shown.TraceRuns.{there_after, played_there}
 use Rattle.driver_laws.proofs.shown.Calls.{submit_told}
 use Rattle.driver_laws.specs.rules.Sessions.{MayPlay}
-use Rattle.driver_laws.proofs.rules.Parts.{numbered, same_behind}
+use Rattle.driver_laws.proofs.rules.Parts.{numbered, same_behind, may_input}
 use Rattle.driver_laws.specs.shown.QuietCalls.{IsOpen, QuietOpens, QuietSubmits, DrainsFindNothing, DrainsBegin, DrainsContinue, DrainsAreOver, TakingsOpen, TakingsDrain}
+use Rattle.driver_laws.proofs.rules.Conserved.{work_of}
+use Rattle.driver_laws.proofs.rules.Quiet.{after_parts}
+use Rattle.trace_replay.proofs.Following.{joined as follows_append}
 
 -- ---- consistent, whatever the line before
 work_numbered : (b : Bool) (s : Replay) (n : ℕ) → WorkMay b s → WorkMay b (numbered n s)
@@ -52,15 +54,9 @@ numbered_consistent s n c = record {
   event = record { speaker = c.event.speaker; served = c.event.served; started = c.event.started; act = c.event.act; due = c.event.due; first = c.event.first; at_work = work_numbered s.event.between s n c.event.at_work };
 }
 
-low_may : (s : Replay) (line : ℕ) → 1 ≤ line → MayPlay s → InputMay (numbered 0 s) line
-low_may s line some may = record { later = below line some; over = may.over; finished = may.finished; at_work = may.at_work }
-  where
-    below : (n : ℕ) → 1 ≤ n → nat_lt 0 n ≡ true
-    below n is = grind (arith, nat_tests)
-
 pub played_consistent : (s : Replay) (line : ℕ) (input : Input) → 1 ≤ line → MayPlay s → IsConsistent s → IsConsistent (after_moment s (Played line input))
 played_consistent s line input some may c =
-    subst IsConsistent (same_behind s 0 line input) (stays_consistent (numbered 0 s) (Played line input) (low_may s line some may) (numbered_consistent s 0 c))
+    subst IsConsistent (same_behind s 0 line input) (stays_consistent (numbered 0 s) (Played line input) (may_input s line some may) (numbered_consistent s 0 c))
 
 may_of : (held : ℕ → Pack) (w : World) (s : Replay) → Stands held w s → IsConsistent s → s.event.drains && nat_lt 0 s.outstanding ≡ false → MayPlay s
 may_of held w s stands c finished = record { over = stands.over; finished = finished; at_work = all_at_work s c (ap is_no_line stands.over) }
@@ -123,10 +119,6 @@ drains_begin line input tried held w s opened some is may on =
       consistent = moments_consistent first (lines_of_all w acts) told.follows (played_consistent s line script.Drain some opened.may opened.consistent);
     }
 
-work_of : (b : Bool) (s : Replay) → b ≡ true → WorkMay b s → are_at_work s ≡ true
-work_of true s is w = w
-work_of false s is w = absurd (grind (arith, is))
-
 pub drains_continue : DrainsContinue
 drains_continue line input tried held w s moments from is may on =
     let acts : List Act = event_acts line input tried w in
@@ -138,7 +130,7 @@ drains_continue line input tried held w s moments from is may on =
     let goes : GoesOn line input held w now = drain_goes_on line input held w now far.ends far.work far.there is (work_of now.event.between now between from.consistent.event.at_work) in
     let told : IsTold line true held w now acts =
     event_goes line true input tried held w now (next_can w input goes.rests.sound is) goes.rests goes.packs (tried_on input tried held w now goes.rests.shows goes.packs on) works.run in
-    let at : after_moments first (moments ++ lines_of_all w acts) ≡ after_moments now (lines_of_all w acts) = moments_append first moments (lines_of_all w acts) in
+    let at : after_moments first (moments ++ lines_of_all w acts) ≡ after_moments now (lines_of_all w acts) = after_parts first moments (lines_of_all w acts) in
     record {
       draining = record {
         follows = follows_append first moments (lines_of_all w acts) far.follows told.follows;

@@ -1,9 +1,10 @@
 -- A quiet driver stands for a replay at rest.
-use Rattle.std.proofs.Common.{◌≡◌, ◌⊎◌, inl, inr, ℕ, suc, ◌+◌, ◌≤◌, ◌<◌, ◌==◌, ◌&&◌, ◌||◌, not, Bool, true, false, List, [], ◌∷◌, length, Option, Some, None, refl, sym, ap, subst, arith, ◌∙◌}
+use Rattle.std.proofs.Common.{◌≡◌, inl, inr, ℕ, suc, ◌+◌, ◌≤◌, ◌<◌, ◌==◌, ◌&&◌, ◌||◌, not, Bool, true, false, List, [], ◌∷◌, length, Option, Some, None, refl, sym, ap, subst, arith, ◌∙◌}
 use Rattle.std.specs.Prelude.{if◌then◌else◌, Contains, slice_index_or, unwrap_or}
 use Rattle.std.specs.Int.{bit_at}
 use Rattle.std.proofs.lemmas.List.{get_or_past}
 use Rattle.std.proofs.lemmas.Nat.Bits.{bit_at-zero}
+use Rattle.std.proofs.lemmas.Bool.{false≢true, false_from_ne_true, cases_lt}
 use Rattle.pack_geometry.specs.Pack.{Pack}
 use Rattle.pack_geometry.specs.declared.DriveKind.TheVariants.{Rp06}
 use Rattle.hardware_table.specs.Drive.{DriveState, has_error, on, is_positioning, is_transferring}
@@ -14,7 +15,7 @@ use Rattle.driver_laws.specs.rules.Consistent.{Agrees, IsConsistent}
 use Rattle.driver_laws.specs.rules.Calm.{IsGood, IsCalm}
 use Rattle.driver_laws.specs.rules.Rest.{IsAtRest}
 use Rattle.driver_machine.specs.declared.Phase.{Phase}
-use Rattle.driver_machine.specs.declared.Phase.TheVariants.{Waiting, Positioning, Queued, Transferring, Due}
+use Rattle.driver_machine.specs.declared.Phase.TheVariants.{Waiting, Due}
 use Rattle.driver_machine.specs.World.{World, UnitView, AdapterView, Held, unit_at, adapter_at, held_in, slot_in_hand, adapter_of, drive_of, unit_on, no_unit, new_adapter_view}
 use Rattle.driver_machine.specs.Guards.{IsSetUp}
 use Rattle.driver_machine.specs.Sound.{Sound, AtWork, WorkOf, IsStill, IsPhase, is_waiting, frames_by, frames_used}
@@ -24,9 +25,8 @@ use Rattle.driver_laws.specs.shown.Stages.{stage_by, IsProgress}
 use Rattle.driver_laws.specs.shown.Within.{ShowsAll}
 use Rattle.driver_laws.specs.shown.Calls.{Stands}
 use Rattle.driver_laws.specs.shown.Quiet.{IsQuiet, kind_if, table_if, drive_if, setup_of, unit_rested, rested, StandsQuiet, QuietRests}
-
-no : false ≡ true → ⊥
-no e = grind (arith, e)
+use Rattle.driver_laws.proofs.rules.Own.{drive_below}
+use Rattle.driver_laws.proofs.invariant.Frame.{adapter_of-small, unit_on-own, unit_on-small}
 
 -- ---- lists without requests
 no_waiter : (xs : List Waiter) → ((x : Waiter) → Contains xs x → ⊥) → xs ≡ []
@@ -44,7 +44,7 @@ waits_only Waiting queue none works head = refl
 waits_only (Due task) queue none works head = absurd works
 waits_only other queue none works head = none_first queue none (head refl)
 
-none_counted : (slots : List (Option Held)) → ((p : ℕ) (h : Held) → slice_index_or slots p None ≡ Some h → h.ended ≡ true) → outstanding_in slots ≡ 0
+pub none_counted : (slots : List (Option Held)) → ((p : ℕ) (h : Held) → slice_index_or slots p None ≡ Some h → h.ended ≡ true) → outstanding_in slots ≡ 0
 none_counted [] ended = refl
 none_counted (None ∷ slots) ended = none_counted slots (λ p h is. ended (suc p) h is)
 none_counted (Some h ∷ slots) ended = ap (λ b. counted_by b (outstanding_in slots)) (ended 0 h refl) ∙ none_counted slots (λ p g is. ended (suc p) g is)
@@ -54,7 +54,7 @@ none_more n none = omega (arith, none)
 
 used_by : (b : Bool) (h : Held) (others : ℕ) → b ≡ true → others ≡ 0 → frames_by b h + others ≡ 0
 used_by true h others ended none = none_more others none
-used_by false h others ended none = absurd (no ended)
+used_by false h others ended none = absurd (false≢true ended)
 
 none_used : (slots : List (Option Held)) → ((p : ℕ) (h : Held) → slice_index_or slots p None ≡ Some h → h.ended ≡ true) → frames_used slots ≡ 0
 none_used [] ended = refl
@@ -80,27 +80,9 @@ kind_seen true d u = refl
 kind_seen false d u = refl
 
 -- ---- numbers
-less_or : (x n : ℕ) → (x < n) ⊎ (n ≤ x)
-less_or x n = grind arith
-
-own_unit : (x : ℕ) → unit_on (adapter_of x) (drive_of x) ≡ x
-own_unit x = omega arith
-
-small_drive : (x : ℕ) → drive_of x < 8
-small_drive x = omega arith
-
-small_adapter : (x : ℕ) → x < 32 → adapter_of x < 4
-small_adapter x lt = omega (arith, lt)
 
 large_adapter : (x : ℕ) → 32 ≤ x → 4 ≤ adapter_of x
 large_adapter x le = omega (arith, le)
-
-unit_small : (a d : ℕ) → a < 4 → d < 8 → unit_on a d < 32
-unit_small a d one two = omega (arith, one, two)
-
-true_false : (b : Bool) → (b ≡ true → ⊥) → b ≡ false
-true_false true never = absurd (never refl)
-true_false false never = refl
 
 module _ (w : World) (held : ℕ → Pack) (sound : Sound w) (works : AtWork w) (q : IsQuiet w) where
   queue_none : (u : ℕ) → u < 32 → (unit_at w u).queue ≡ []
@@ -108,14 +90,14 @@ module _ (w : World) (held : ℕ → Pack) (sound : Sound w) (works : AtWork w) 
     where
       never : (x : Waiter) → Contains (unit_at w u).queue x → ⊥
       never x is =
-          no (sym ((sound.each_unit u lt).queue x is).going_on
+          false≢true (sym ((sound.each_unit u lt).queue x is).going_on
           ∙ q.none x.number ((sound.each_unit u lt).queue x is).held ((sound.each_unit u lt).queue x is).slot)
 
   phase_waiting : (u : ℕ) → u < 32 → (unit_at w u).phase ≡ Waiting
   phase_waiting u lt = waits_only (unit_at w u).phase (unit_at w u).queue (queue_none u lt) (works.units u lt) (sound.each_unit u lt).head
 
   drive_still : (u : ℕ) → StillSeen (unit_at w u).drive
-  drive_still u = elim (less_or u 32) [
+  drive_still u = elim (cases_lt u 32) [
     | inl lt ↦ still_seen (unit_at w u).drive
         (subst (IsPhase u (unit_at w u) (adapter_at w (adapter_of u)) (held_in w (slot_in_hand (unit_at w u)))) (phase_waiting u lt) (sound.each_unit u lt).phase).0
     | inr le ↦ subst (λ (v : UnitView). StillSeen v.drive) (sym (get_or_past w.units u no_unit (subst (λ n. n ≤ u) (sym sound.units) le))) (refl, refl, refl)
@@ -125,45 +107,45 @@ module _ (w : World) (held : ℕ → Pack) (sound : Sound w) (works : AtWork w) 
   not_declared u le = ap (λ (v : UnitView). v.declared) (get_or_past w.units u no_unit (subst (λ n. n ≤ u) (sym sound.units) le))
 
   free : (a : ℕ) → a < 4 → (adapter_at w a).state.busy ≡ false
-  free a lt = true_false (adapter_at w a).state.busy (λ busy. never busy)
+  free a lt = false_from_ne_true (adapter_at w a).state.busy (λ busy. never busy)
     where
       never : (adapter_at w a).state.busy ≡ true → ⊥
       never busy =
-          no (sym (ap is_waiting ((sound.each_adapter a lt).busy busy).1.phase)
-          ∙ ap is_waiting (phase_waiting (unit_on a (adapter_at w a).state.drive) (unit_small a (adapter_at w a).state.drive lt (sound.each_adapter a lt).drive)))
+          false≢true (sym (ap is_waiting ((sound.each_adapter a lt).busy busy).1.phase)
+          ∙ ap is_waiting (phase_waiting (unit_on a (adapter_at w a).state.drive) (unit_on-small a (adapter_at w a).state.drive lt (sound.each_adapter a lt).drive)))
 
   past_adapter : (a : ℕ) → 4 ≤ a → adapter_at w a ≡ new_adapter_view
   past_adapter a le = get_or_past w.adapters a new_adapter_view (subst (λ n. n ≤ a) (sym sound.adapters) le)
 
   all_free : (a : ℕ) → (adapter_at w a).state.busy ≡ false
-  all_free a = elim (less_or a 4) [
+  all_free a = elim (cases_lt a 4) [
     | inl lt ↦ free a lt
     | inr le ↦ ap (λ (v : AdapterView). v.state.busy) (past_adapter a le)
   ]
 
   all_down : (a : ℕ) → (adapter_at w a).state.completion ≡ false
-  all_down a = elim (less_or a 4) [
+  all_down a = elim (cases_lt a 4) [
     | inl lt ↦ (sound.each_adapter a lt).rest (free a lt)
     | inr le ↦ ap (λ (v : AdapterView). v.state.completion) (past_adapter a le)
   ]
 
   all_named : (a : ℕ) → (adapter_at w a).state.drive < 8
-  all_named a = elim (less_or a 4) [
+  all_named a = elim (cases_lt a 4) [
     | inl lt ↦ (sound.each_adapter a lt).drive
     | inr le ↦ subst (λ (v : AdapterView). v.state.drive < 8) (sym (past_adapter a le)) (omega arith)
   ]
 
   calls : (x : ℕ) → bit_at (adapter_at w (adapter_of x)).state.attentions (drive_of x) ≡ 0
-  calls x = elim (less_or x 32) [
-    | inl lt ↦ (sound.each_adapter (adapter_of x) (small_adapter x lt)).raised (drive_of x) (small_drive x)
-        ∙ ap (λ (b : Bool). if b then 1 else 0) (ap (λ u. (unit_at w u).drive.attention) (own_unit x) ∙ (drive_still x).1)
+  calls x = elim (cases_lt x 32) [
+    | inl lt ↦ (sound.each_adapter (adapter_of x) (adapter_of-small x lt)).raised (drive_of x) (drive_below x)
+        ∙ ap (λ (b : Bool). if b then 1 else 0) (ap (λ u. (unit_at w u).drive.attention) (unit_on-own x) ∙ (drive_still x).1)
     | inr le ↦ ap (λ (v : AdapterView). bit_at v.state.attentions (drive_of x)) (past_adapter (adapter_of x) (large_adapter x le)) ∙ bit_at-zero (drive_of x)
   ]
 
   good_by : (b : Bool) (u : ℕ) → (unit_at w u).declared ≡ b → IsGood (drive_if b (unit_at w u).drive u)
-  good_by true u is = elim (less_or u 32) [
+  good_by true u is = elim (cases_lt u 32) [
     | inl lt ↦ q.good u (record { unit = lt; declared = is })
-    | inr le ↦ absurd (no (sym (not_declared u le) ∙ is))
+    | inr le ↦ absurd (false≢true (sym (not_declared u le) ∙ is))
   ]
   good_by false u is = (refl, refl, refl)
 
@@ -208,7 +190,7 @@ module _ (w : World) (held : ℕ → Pack) (sound : Sound w) (works : AtWork w) 
       verdict = refl;
       late = refl;
       attentions = refl;
-      counted = λ busy. absurd (no (sym (free a lt) ∙ busy));
+      counted = λ busy. absurd (false≢true (sym (free a lt) ∙ busy));
     };
     ready = λ a lt. sym (works.adapters a lt (free a lt));
     noise = sym q.live;
@@ -239,22 +221,22 @@ module _ (w : World) (held : ℕ → Pack) (sound : Sound w) (works : AtWork w) 
     attention = calls x ∙ sym (ap (λ b. on b 1) (seen x).1);
     queued = refl;
     held = refl;
-    errors = λ error. absurd (no (sym (seen x).2 ∙ error));
+    errors = λ error. absurd (false≢true (sym (seen x).2 ∙ error));
     said = refl;
-    counts = λ moving. absurd (no moving);
+    counts = λ moving. absurd (false≢true moving);
   }
 
   consistent : IsConsistent (rested w held)
   consistent = record {
     units = agrees;
-    adapters = λ a. record { drive = all_named a; completion = λ _. all_down a; own = λ u is. absurd (no is); once = tt };
+    adapters = λ a. record { drive = all_named a; completion = λ _. all_down a; own = λ u is. absurd (false≢true is); once = tt };
     event = record {
-      speaker = λ u is. absurd (no is);
-      served = λ is. absurd (no is);
+      speaker = λ u is. absurd (false≢true is);
+      served = λ is. absurd (false≢true is);
       started = λ a _. inl refl;
       act = tt;
       due = tt;
-      first = λ is. absurd (no is);
+      first = λ is. absurd (false≢true is);
       at_work = tt;
     };
   }

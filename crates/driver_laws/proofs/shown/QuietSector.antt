@@ -1,7 +1,7 @@
 -- A SECTOR IS TRIED: a block more is done, or the segment stopped at it.
 use Rattle.std.proofs.Common.{◌≡◌, ◌≢◌, ℕ, ◌+◌, ◌<◌, ◌≤◌, not, Bool, true, false, List, [], length, take, Option, Some, None, refl, sym, ap, ◌∙◌, subst, arith}
 use Rattle.std.specs.Prelude.{if◌then◌else◌, is_some, IsTrue, option_map}
-use Rattle.std.proofs.lemmas.Bool.{lt-ltb}
+use Rattle.std.proofs.lemmas.Bool.{lt-ltb, false≢true}
 use Rattle.std.proofs.lemmas.Option.{none-some}
 use Rattle.std.proofs.lemmas.List.{get_or-set_same}
 use Rattle.pack_geometry.specs.declared.DriveKind.{DriveKind}
@@ -16,7 +16,7 @@ use Rattle.pack_geometry.proofs.PackLaws.{length-block_at}
 use Rattle.hardware_table.specs.declared.Moved.{Moved}
 use Rattle.hardware_table.specs.declared.Moved.TheVariants as verdict
 use Rattle.hardware_table.specs.Drive.{DriveState, is_writing}
-use Rattle.hardware_table.specs.Moves.{stop_of, first_armed, IsVerdict, IsVerdictBy, has_bytes, was_read, was_written}
+use Rattle.hardware_table.specs.Moves.{IsVerdict, IsVerdictBy, has_bytes, was_read, was_written}
 use Rattle.hardware_table.specs.declared.FaultKind.{FaultKind}
 use Rattle.main_memory.specs.Bytes.{filled}
 use Rattle.main_memory.specs.Blocks.{size_at}
@@ -32,6 +32,7 @@ use Rattle.driver_machine.specs.World.{Held, block_in, with_block_in}
 use Rattle.driver_laws.specs.shown.Bytes.{asked_of, IsSureFor, IsForwarded, sector_for, HandBears}
 use Rattle.driver_laws.proofs.shown.Hand.{next_home, hand_stopped, hand_read, hand_struck, hand_written}
 use Rattle.driver_laws.proofs.shown.Struck.{clean_read, burst_read}
+use Rattle.trace_replay.proofs.Unusable.{marked_only}
 
 -- THE SECTOR that is tried carries the first block not done,
 pub tried_sector : (index : Option ℕ) (job : Job) (kind : DriveKind) (done moved block : ℕ) → job.kind ≡ kind → moved < (segment_by index job done).count
@@ -71,12 +72,6 @@ marked_by None true write places other is = refl
 marked_by None false true places other is = absurd (cc)
 marked_by None false false None other is = absurd (cc)
 marked_by None false false (Some places) other is = absurd is
-
-was_marked : (d : DriveState) (marked : Bool) (places : Option (List ℕ)) → IsVerdict d marked places verdict.Marked → marked ≡ true
-was_marked d marked places is = marked_by (stop_of d) marked (is_writing d.work) places (λ x e. is_stop d.online (first_armed d.armed) x e) is
-
-both : false ≡ true → ⊥
-both e = cc
 
 abbrev clean_sort : Moved → ℕ
 clean_sort verdict.Clean = 0
@@ -169,7 +164,7 @@ module _ (sure : ℕ → Type 0) (kind : DriveKind) (table : Option Table) (pack
 
   -- ANY OTHER verdict moves no bytes.
   marked_there : Try verdict.Marked → Hand pack h done verdict.Marked
-  marked_there is = hand_stopped sure kind table pack blocks h t done verdict.Clean b verdict.Marked (was_marked d (is_marked pack sector) places is.verdict_is)
+  marked_there is = hand_stopped sure kind table pack blocks h t done verdict.Clean b verdict.Marked (marked_only d (is_marked pack sector) places is.verdict_is)
 
   by_clean : (w : Bool) → is_writing d.work ≡ w → Try verdict.Clean → Hand (pack_tried w pack sector bytes) (held_tried (not w) done bytes h) (done + 1) verdict.Clean
   by_clean true is try = clean_written try is
@@ -177,12 +172,12 @@ module _ (sure : ℕ → Type 0) (kind : DriveKind) (table : Option Table) (pack
 
   by_burst : (at q : ℕ) (w : Bool) → is_writing d.work ≡ w → MovedBy w places (verdict.Burst at q) → Try (verdict.Burst at q)
       → Hand (pack_tried w pack sector bytes) (held_tried (not w) done bytes h) done (verdict.Burst at q)
-  by_burst at q true is moved try = absurd (both (sym (not_written true places (verdict.Burst at q) refl moved)))
+  by_burst at q true is moved try = absurd (false≢true (sym (not_written true places (verdict.Burst at q) refl moved)))
   by_burst at q false is moved try = burst_got at q try is
 
   by_hard : (w : Bool) → is_writing d.work ≡ w → MovedBy w places verdict.Hard → Try verdict.Hard
       → Hand (pack_tried w pack sector bytes) (held_tried (not w) done bytes h) done verdict.Hard
-  by_hard true is moved try = absurd (both (sym (not_written true places verdict.Hard refl moved)))
+  by_hard true is moved try = absurd (false≢true (sym (not_written true places verdict.Hard refl moved)))
   by_hard false is moved try = hard_got try is
 
   pub tried_bears : (v : Moved) → Try v → Hand (pack_tried (was_written d v) pack sector bytes) (held_tried (was_read d v) done bytes h) (done_tried v done) v

@@ -1,5 +1,5 @@
 -- The blocks of a write stay, whatever act comes.
-use Rattle.std.proofs.Common.{◌≡◌, ◌≢◌, inl, inr, ℕ, zero, suc, ◌&&◌, not, Bool, true, false, List, [], ◌∷◌, get_or-set_other, Option, Some, None, refl, sym, ap, ◌∙◌, subst}
+use Rattle.std.proofs.Common.{◌≡◌, inl, inr, ℕ, zero, suc, ◌&&◌, not, Bool, true, false, List, [], ◌∷◌, get_or-set_other, Option, Some, None, refl, sym, ap, ◌∙◌, subst}
 use Rattle.std.specs.Prelude.{if◌then◌else◌, slice_index_or, slice_set, unwrap_or}
 use Rattle.std.specs.Option.{option_map_or}
 use Rattle.std.proofs.lemmas.Bool.{cases_eq, false≢true}
@@ -11,7 +11,6 @@ use Rattle.hardware_table.specs.Moves.{has_bytes, was_read}
 use Rattle.hardware_table.specs.Adapter.{next_window}
 use Rattle.trace_replay.specs.Script as script
 use Rattle.trace_replay.specs.Script.{Input}
-use Rattle.driver_machine.specs.declared.Made.{Made}
 use Rattle.driver_machine.specs.declared.Phase.TheVariants.{Transferring}
 use Rattle.driver_machine.specs.declared.Task.TheVariants.{Judge}
 use Rattle.driver_machine.specs.World.{World, Held, no_held, unit_at, slot_at, held_in, slot_in_hand, with_block_in}
@@ -25,6 +24,7 @@ use Rattle.driver_laws.proofs.invariant.DeedFacts.{judged_is, transfer_at}
 use Rattle.driver_laws.proofs.invariant.Frame.{scene_ok, slot_here}
 use Rattle.driver_laws.proofs.invariant.Hand.{in_slot}
 use Rattle.driver_laws.specs.shown.QuietLaws.{WritesStay}
+use Rattle.driver_laws.proofs.answers.Ids.{freed_was}
 
 unread : (b c : Bool) → c ≡ true → b && not c ≡ false
 unread true c is = ap not is
@@ -70,10 +70,6 @@ freed_or slots (Some q) p g is = elim (cases_eq p q) [
         none_there (x ∷ xs) zero = refl
         none_there (x ∷ xs) (suc k) = none_there xs k
 
-taken_from : (answers : List Made) (slots : List (Option Held)) (p : ℕ) (g : Held) → slice_index_or (freed answers slots) p None ≡ Some g → slice_index_or slots p None ≡ Some g
-taken_from [] slots p g is = is
-taken_from (made ∷ rest) slots p g is = freed_or slots made.slot p g is
-
 changed_slot : (w : World) (input : Input) (p : ℕ) → MayChange w input → slot_at (after w (Change input)) p ≡ slot_at w p
 changed_slot w (script.Turn u sector) p may = refl
 changed_slot w (script.Noise noise) p may = refl
@@ -87,7 +83,7 @@ pub writes_stay : WritesStay
 writes_stay w (Refuse line r kind) p h g s may was writes is = kept w (after w (Refuse line r kind)) p h g refl was is
 writes_stay w (Nothing line) p h g s may was writes is = kept w w p h g refl was is
 writes_stay w (Change input) p h g s may was writes is = kept w (after w (Change input)) p h g (changed_slot w input p may) was is
-writes_stay w Taken p h g s may was writes is = ap (λ (x : Held). x.blocks) (same_Some g h (sym (taken_from w.answers w.slots p g is) ∙ was))
+writes_stay w Taken p h g s may was writes is = ap (λ (x : Held). x.blocks) (same_Some g h (sym (freed_was w.answers w.slots p g is) ∙ was))
 writes_stay w (Submit line q k) p h g s may was writes is =
     kept w (after w (Submit line q k)) p h g
     (get_or-set_other w.slots q p (Some k) None (λ same. none-some h (sym may.slot ∙ subst (λ x. slot_at w x ≡ Some h) same was))) was is

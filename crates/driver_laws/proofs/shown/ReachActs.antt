@@ -1,7 +1,7 @@
 -- An act keeps the reach, and what lies beyond it.
-use Rattle.std.proofs.Common.{◌≡◌, inl, inr, ℕ, ◌+◌, ◌*◌, ◌<◌, ◌≤◌, ◌&&◌, Bool, true, false, List, [], ◌∷◌, drop, length, get_or-set_same, get_or-set_other, Option, Some, None, refl, sym, ap, subst, ◌∙◌}
+use Rattle.std.proofs.Common.{◌≡◌, inl, inr, ℕ, ◌+◌, ◌*◌, ◌<◌, ◌≤◌, true, List, [], ◌∷◌, drop, length, get_or-set_same, get_or-set_other, Option, Some, None, refl, sym, ap, subst, ◌∙◌}
 use Rattle.std.specs.Prelude.{slice_index_or, slice_set, unwrap_or}
-use Rattle.std.proofs.lemmas.Bool.{cases_eq, false≢true}
+use Rattle.std.proofs.lemmas.Bool.{cases_eq}
 use Rattle.std.proofs.lemmas.Option.{same_Some}
 use Rattle.pack_geometry.specs.declared.DriveKind.{DriveKind}
 use Rattle.pack_geometry.specs.Geometry.{block_count}
@@ -14,7 +14,7 @@ use Rattle.trace_replay.specs.Script as script
 use Rattle.trace_replay.specs.Script.{Input}
 use Rattle.driver_machine.specs.World.{World, Held, no_held, unit_at, held_in, slot_in_hand}
 use Rattle.driver_machine.specs.Acts as deed
-use Rattle.driver_machine.specs.Acts.{Act, Refuse, Submit, Of, Change, Nothing, Taken, Deed, Scene, scene_of, effect, after}
+use Rattle.driver_machine.specs.Acts.{Act, Submit, Of, Change, Taken, Deed, Scene, scene_of, effect, after}
 use Rattle.driver_machine.specs.Guards.{Allowed, InHand, MayChange}
 use Rattle.driver_machine.specs.Sound.{Sound}
 use Rattle.driver_machine.proofs.Frame.{effect_same}
@@ -26,10 +26,7 @@ use Rattle.driver_laws.proofs.shown.RunsPasses.{set_up}
 use Rattle.driver_laws.proofs.shown.Acts.{beyond_by, is_inside}
 use Rattle.driver_laws.specs.shown.Reach.{Reaches, StayFrom, JoinsBelow, ActsKeepReach}
 use Rattle.driver_laws.proofs.shown.Blocks.{next_in_reach}
-
-both_writes : (b c : Bool) → b && c ≡ true → c ≡ true
-both_writes true c is = is
-both_writes false c is = absurd (false≢true is)
+use Rattle.driver_laws.proofs.rules.Stages.{second_of}
 
 -- THE PACKS: a sector that is written lies within the reach.
 deed_stays : (ends : ℕ → ℕ) (line u id : ℕ) (d : Deed) (w : World) (held : ℕ → Pack) (unit : ℕ) → Sound w → Allowed w (Of line u id d) → Reaches ends w
@@ -40,7 +37,7 @@ deed_stays ends line u id (deed.Sector block t) w held unit sound allowed reache
       (is_inside w line u id block t sound allowed given).long,
       λ same. subst (λ (k : ℕ). block < ends k) (sym same) (subst (λ (b : ℕ). b < ends u) (sym allowed.1.1)
           (next_in_reach ends w u id sound allowed.0 (set_up w u sound allowed.0.unit allowed.0.some).declared reaches allowed.1.0
-          (both_writes (has_bytes t.verdict) (is_writing (unit_at w u).drive.work) given))),
+          (second_of (has_bytes t.verdict) (is_writing (unit_at w u).drive.work) given))),
     ))
 deed_stays ends line u id d w held unit sound allowed reaches = refl
 

@@ -29,6 +29,9 @@ use Rattle.driver_laws.proofs.shown.Frame.{progress_stays, same_transfer}
 use Rattle.driver_laws.proofs.shown.Queues.{each_of, match_same}
 use Rattle.driver_laws.proofs.shown.Joins.{joined_shows}
 use Rattle.driver_laws.proofs.shown.Changes.{turn_shows, arm_shows, online_shows, locked_shows, noise_shows}
+use Rattle.driver_laws.proofs.answers.Ids.{replicate_at}
+use Rattle.driver_laws.proofs.rules.Lookups.{true_false}
+use Rattle.driver_laws.proofs.shown.Facts.{some_one}
 
 -- A REFUSAL
 pub record IsRefusal (kind : AnswerKind) (met : Submission) : Type 0 where
@@ -45,7 +48,7 @@ refused_by Eof room kind e = record { why = AtEnd; is = refl; answer = ap (λ k.
 refused_by (Inside first) true kind e = absurd (grind (arith, e))
 refused_by (Inside first) false kind e = record { why = FramesShort; is = refl; answer = ap (λ k. answer_told k []) (some_same e) }
 
-joins_by : (adm : Admission) (room : Bool) → refusal_by adm room ≡ None → submission_by adm room ≡ Joined
+pub joins_by : (adm : Admission) (room : Bool) → refusal_by adm room ≡ None → submission_by adm room ≡ Joined
 joins_by Outside room e = absurd (grind (arith, e))
 joins_by Eof room e = absurd (grind (arith, e))
 joins_by (Inside first) true e = refl
@@ -110,12 +113,6 @@ outstanding_freed (Some x ∷ slots) zero h is over =
 outstanding_freed (None ∷ slots) (suc p) h is over = outstanding_freed slots p h is over
 outstanding_freed (Some x ∷ slots) (suc p) h is over = ap (counted_by x.ended) (outstanding_freed slots p h is over)
 
-some_held : {g h : Held} → Some g ≡ Some h → g ≡ h
-some_held e = grind (arith, e)
-
-not_both : {b : Bool} → b ≡ true → b ≡ false → ⊥
-not_both e f = grind (arith, e, f)
-
 freed_slot : (slot : Option ℕ) (slots : List (Option Held)) → ((p : ℕ) → slot ≡ Some p → (h : Held) × (slice_index_or slots p None ≡ Some h) × (h.ended ≡ true))
     → IsFreed slots (option_map_or (λ p. slice_set slots p None) slot slots)
 freed_slot None slots over = record { keeps = λ q h is going. is; count = refl }
@@ -123,8 +120,8 @@ freed_slot (Some p) slots over =
     let g : Held = (over p refl).0 in
     record {
       keeps = λ q h is going. elim (eqb_tells q p) [
-        | inl same ↦ absurd (not_both (over p refl).2
-            (ap (λ (y : Held). y.ended) (some_held (sym (over p refl).1 ∙ ap (λ n. slice_index_or slots n None) (sym same.1) ∙ is)) ∙ going))
+        | inl same ↦ absurd (true_false (over p refl).2
+            (ap (λ (y : Held). y.ended) (some_one (sym (over p refl).1 ∙ ap (λ n. slice_index_or slots n None) (sym same.1) ∙ is)) ∙ going))
         | inr other ↦ get_or-set_other slots p q None None other.1 ∙ is
       ];
       count = outstanding_freed slots p g (over p refl).1 (over p refl).2;
@@ -199,16 +196,11 @@ speakers_change u x w s shows calm next small small' = record {
     ]
 
 -- THE START
-all_alike : {A : Type 0} (n k : ℕ) (x : A) → slice_index_or (replicate n x) k x ≡ x
-all_alike zero k x = refl
-all_alike (suc n) zero x = refl
-all_alike (suc n) (suc k) x = all_alike n k x
-
 none_outstanding : (n : ℕ) → 0 ≡ outstanding_in (replicate n None)
 none_outstanding zero = refl
 none_outstanding (suc n) = none_outstanding n
 
-waiting_calm : (phase : Phase) → is_coming phase told.Waiting ≡ false
+pub waiting_calm : (phase : Phase) → is_coming phase told.Waiting ≡ false
 waiting_calm phases.Waiting = refl
 waiting_calm other = refl
 
@@ -233,12 +225,12 @@ start_is_shown u drives tables surface setups outstanding noises start quiet = r
       subst (λ v. IsUnitSeen (held_in (new_world setups outstanding noises)) v (adapter_at (new_world setups outstanding noises) (adapter_of x)).state
       ((new_replay drives tables surface).units x)) (sym (start x set))
       (record { drive = refl; table = refl; queue = tt; stage = refl; progress = refl });
-  adapters = λ a less. subst (λ (v : AdapterView). IsAdapterSeen v.state new_adapter) (sym (all_alike 4 a new_adapter_view)) new_adapters;
+  adapters = λ a less. subst (λ (v : AdapterView). IsAdapterSeen v.state new_adapter) (sym (replicate_at 4 a new_adapter_view)) new_adapters;
   own_ready =
-      sym (ap (λ (v : AdapterView). v.queue) (all_alike 4 (adapter_of u) new_adapter_view))
+      sym (ap (λ (v : AdapterView). v.queue) (replicate_at 4 (adapter_of u) new_adapter_view))
       ∙ sym (ap (λ b. with_coming b u (adapter_at (new_world setups outstanding noises) (adapter_of u)).queue)
       (waiting_calm (unit_at (new_world setups outstanding noises) u).phase));
-  other_ready = λ a less other. sym (ap (λ (v : AdapterView). v.queue) (all_alike 4 a new_adapter_view));
+  other_ready = λ a less other. sym (ap (λ (v : AdapterView). v.queue) (replicate_at 4 a new_adapter_view));
   noise = quiet;
   frames = refl;
   outstanding = none_outstanding outstanding;

@@ -1,16 +1,17 @@
 -- A unit speaks until nothing is due at it; then no unit speaks.
 use Rattle.std.proofs.Common.{◌≡◌, ◌≢◌, ◌⊎◌, inl, inr, ℕ, ◌+◌, ◌*◌, ◌/◌, ◌<◌, Bool, true, false, List, [], ◌∷◌, length, refl, sym, ap, subst, arith, ◌∙◌}
+use Rattle.std.proofs.lemmas.Bool.{cases_eq}
 use Rattle.disksort.specs.declared.Waiter.{Waiter}
 use Rattle.trace_replay.specs.Moments as moment
 use Rattle.trace_replay.specs.Conversation.{goes_on}
 use Rattle.trace_replay.specs.Events.{Act, act_after}
 use Rattle.trace_replay.specs.Replay.{Replay}
 use Rattle.driver_machine.specs.declared.Phase.{Phase}
-use Rattle.driver_machine.specs.declared.Phase.TheVariants.{Waiting, Positioning, Queued, Transferring, Due}
+use Rattle.driver_machine.specs.declared.Phase.TheVariants.{Waiting, Due}
 use Rattle.driver_machine.specs.World.{World, UnitView, adapter_of, unit_at, adapter_at, held_in, slot_in_hand}
 use Rattle.driver_machine.specs.Acts.{Deed, after}
 use Rattle.driver_machine.specs.Due.{next_by}
-use Rattle.driver_machine.specs.Events.{in_hand_by, due_by, next_acts, due_acts, begun}
+use Rattle.driver_machine.specs.Events.{due_by, next_acts, due_acts, begun}
 use Rattle.driver_machine.proofs.Measure.{is_resting}
 use Rattle.driver_machine.specs.Sound.{Sound, is_waiting}
 use Rattle.driver_laws.proofs.shown.Passes.{due_over}
@@ -23,12 +24,9 @@ use Rattle.driver_laws.proofs.shown.Telling.{Speaks, Tells}
 use Rattle.driver_laws.proofs.shown.Joined.{tells_append, tells_too}
 use Rattle.driver_laws.proofs.shown.Due.{IsQuiet, rest_quiet}
 use Rattle.driver_laws.proofs.shown.Speaking.{IsUntried, MayTell, tells_line, due_turns}
+use Rattle.driver_laws.proofs.invariant.Due.{none_due}
 
 -- WHERE NOTHING IS DUE a unit rests, or waits with no request.
-none_due : (queue : List Waiter) (line u : ℕ) (d : Deed) (w : World) → in_hand_by queue line u d w ≡ [] → queue ≡ []
-none_due [] line u d w none = refl
-none_due (x ∷ rest) line u d w none = absurd (grind (arith, none))
-
 abbrev pub IsAtRest : Phase → List Waiter → Type 0
 IsAtRest phase queue = (is_resting phase ≡ true) ⊎ ((phase ≡ Waiting) × (queue ≡ []))
 
@@ -44,15 +42,12 @@ rest_by other w line u is sound lt none = inl refl
 pub at_rest : (w : World) (line u : ℕ) → Sound w → u < 32 → next_acts line u w ≡ [] → IsAtRest (unit_at w u).phase (unit_at w u).queue
 at_rest w line u sound lt none = rest_by (unit_at w u).phase w line u refl sound lt none
 
-same_or : (x y : ℕ) → (x ≡ y) ⊎ (x ≢ y)
-same_or x y = grind arith
-
 -- THE SPEAKER CHANGES. Of a unit that is not coming all is seen as of any other.
 pub shows_all : (u : ℕ) (w : World) (s : Replay) → Shows u w s → is_coming (unit_at w u).phase (s.units u).stage ≡ false → ShowsAll w s
 shows_all u w s shows still = record {
   units = shows.units;
   adapters = shows.adapters;
-  ready = λ a. λ lt. by a lt (same_or a (adapter_of u));
+  ready = λ a. λ lt. by a lt (cases_eq a (adapter_of u));
   noise = shows.noise;
   frames = shows.frames;
   outstanding = shows.outstanding;
@@ -95,7 +90,7 @@ speaks_rest line drains act others raised u w s speaks none =
         sound = speaks.sound;
         shows = shows_all u w s speaks.shows quiet.coming;
         event = speaks.event;
-        quiet = λ x. by quiet x (same_or x u);
+        quiet = λ x. by quiet x (cases_eq x u);
       };
       others_are = speaks.others_are;
       raised_is = speaks.raised_is;

@@ -13,7 +13,7 @@ use Rattle.disksort.specs.declared.Waiter.{Waiter}
 use Rattle.driver_laws.specs.rules.Stands.{is_sure_among, IsLive}
 use Rattle.driver_machine.specs.declared.Made.{Made}
 use Rattle.driver_machine.specs.declared.Phase.{Phase}
-use Rattle.driver_machine.specs.declared.Phase.TheVariants.{Waiting, Positioning, Queued, Transferring, Due}
+use Rattle.driver_machine.specs.declared.Phase.TheVariants.{Waiting, Due}
 use Rattle.driver_machine.specs.World.{World, UnitView, Held, Setup, new_unit, new_world, no_transfer, adapter_of, unit_at, adapter_at, held_in, slot_in_hand, transfer_of}
 use Rattle.driver_machine.specs.Guards.{IsSetUp}
 use Rattle.driver_machine.specs.Sound.{Among, Sound, AtWork, WorkOf, is_waiting}

@@ -1,6 +1,6 @@
 -- From the start of a run on each call keeps the reach.
-use Rattle.std.proofs.Common.{◌≡◌, ℕ, zero, suc, ◌+◌, ◌≤◌, true, List, [], ◌∷◌, replicate, Option, Some, None, refl, sym, ap, subst, arith, ◌∙◌}
-use Rattle.std.specs.Prelude.{is_some, unwrap_or, slice_index_or}
+use Rattle.std.proofs.Common.{◌≡◌, ℕ, ◌+◌, ◌≤◌, true, List, [], ◌∷◌, replicate, Option, Some, None, refl, sym, ap, subst, arith, ◌∙◌}
+use Rattle.std.specs.Prelude.{is_some, unwrap_or}
 use Rattle.std.proofs.lemmas.Bool.{false≢true}
 use Rattle.std.proofs.lemmas.Option.{none-some}
 use Rattle.pack_geometry.specs.declared.DriveKind.{DriveKind}
@@ -26,6 +26,7 @@ use Rattle.driver_laws.specs.shown.RunsRuns.{AreDeclared}
 use Rattle.driver_laws.proofs.shown.RunsLaws.{is_small}
 use Rattle.driver_laws.specs.shown.Reach.{AsksBelow, IsWithinReach, JoinsBelow, StartsWithinReach, EventsKeepReach, SubmissionsKeepReach, AnswersKeepReach}
 use Rattle.driver_laws.proofs.shown.ReachActs.{acts_keep_reach}
+use Rattle.driver_laws.proofs.answers.Ids.{replicate_at}
 
 -- ACTS one after another
 runs_keep_reach : (ends : ℕ → ℕ) (old held : ℕ → Pack) (w : World) (acts : List Act) → Sound w → Run w acts → AreAll (JoinsBelow ends) acts
@@ -89,11 +90,6 @@ submissions_keep_reach ends drives old held w line p r h sound work may is decla
     runs_keep_reach ends old held w (submit_acts r line p h w) sound works.run (joins_below ends drives w line p r h may is declared asks) within
 
 -- THE START
-replicate_at : {A : Type 0} (n i : ℕ) (x : A) → slice_index_or (replicate n x) i x ≡ x
-replicate_at zero i x = refl
-replicate_at (suc n) zero x = refl
-replicate_at (suc n) (suc i) x = replicate_at n i x
-
 table_below : (ends : ℕ → ℕ) (unit : ℕ) (drive : Option DriveKind) (table : Table) → is_some drive ≡ true
     → ((kind : DriveKind) → drive ≡ Some kind → block_count kind ≤ ends unit) → block_count (unwrap_or drive Rp06) ≤ ends unit
 table_below ends unit None table some below = absurd (false≢true some)

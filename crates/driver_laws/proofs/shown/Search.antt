@@ -3,7 +3,7 @@ use Rattle.std.proofs.Common.{◌≡◌, ◌<◌, ℕ, List, [], ◌∷◌, Some
 use Rattle.std.specs.Prelude.{if◌then◌else◌}
 use Rattle.pack_geometry.specs.declared.DriveKind.{DriveKind}
 use Rattle.pack_geometry.specs.declared.Place.{Place}
-use Rattle.pack_geometry.specs.declared.DriveKind.TheVariants.{Rp06, Rm03, Rm05}
+use Rattle.pack_geometry.specs.declared.DriveKind.TheVariants.{Rp06}
 use Rattle.pack_geometry.specs.Geometry.{sectors_of, place_at, block_count, IsInside}
 use Rattle.drive_registers.specs.declared.Function.TheVariants as function
 use Rattle.hardware_table.specs.declared.Work.TheVariants as work
@@ -36,7 +36,7 @@ use Rattle.driver_laws.proofs.shown.Talk.{guarded_command}
 use Rattle.driver_laws.proofs.shown.Facts.{At, inside_limit}
 use Rattle.driver_laws.proofs.shown.Plain.{plain_says, ready_plain}
 use Rattle.driver_laws.proofs.shown.DeedFacts.{no, said_by}
-use Rattle.driver_laws.proofs.shown.Drives.{addressed_is, place_inside, below_limit}
+use Rattle.driver_laws.proofs.invariant.Drives.{place_inside, below_limit, is_addressed-addressed}
 
 -- a first try has no steps of a retry
 no_steps : (kind : DriveKind) (first count : ℕ) (write : Bool) → steps_of (begun (record { kind = kind; first = first; count = count; write = write })) ≡ []
@@ -89,7 +89,7 @@ search_talk h v a seen sector is head phase at go =
 -- WHAT IS TAKEN by a drive that stands still and is online
 search_taken : (d : DriveState) (place : Place) → d.work ≡ work.Ready → d.online ≡ true → IsInside d.kind place
     → takes function.Search (addressed place d) ≡ true
-search_taken d place still online at = rw (still, online, addressed_is d place at) refl
+search_taken d place still online at = rw (still, online, is_addressed-addressed d place at) refl
 
 sector_before_small : (kind : DriveKind) (sector : ℕ) → sector_before (sectors_of kind) 3 sector < sectors_of kind
 sector_before_small Rp06 sector = omega arith

@@ -1,5 +1,5 @@
 -- A SECTOR is tried: its line may be said, and what it leaves is shown.
-use Rattle.std.proofs.Common.{◌≡◌, ◌<◌, ℕ, ◌≤◌, List, [], ◌∷◌, ◌++◌, take, length, ◌+◌, ◌-◌, Option, Some, None, ◌*◌, ◌==◌, ◌&&◌, Bool, true, false, refl, sym, ap, not, subst, arith, ◌∙◌}
+use Rattle.std.proofs.Common.{◌≡◌, ◌<◌, ℕ, ◌≤◌, List, [], ◌++◌, take, length, ◌+◌, ◌-◌, Option, Some, None, ◌*◌, ◌==◌, ◌&&◌, Bool, true, false, refl, sym, ap, not, subst, arith, ◌∙◌, append-nil}
 use Rattle.std.specs.Prelude.{if◌then◌else◌, min, nat_lt, option_map}
 use Rattle.pack_geometry.specs.declared.DriveKind.{DriveKind}
 use Rattle.hardware_table.specs.declared.Moved.{Moved}
@@ -22,7 +22,7 @@ use Rattle.trace_replay.specs.Service.{in_hand}
 use Rattle.trace_replay.specs.Replay.{UnitSeen, Replay, hand_of, at_unit, unit_after, bytes_of}
 use Rattle.trace_replay.specs.Conversation as told
 use Rattle.trace_replay.specs.Moments as moment
-use Rattle.trace_replay.specs.Packs.{Surface, flips_at, read_as, size_of_block, bytes_read, surface_written, surface_read}
+use Rattle.trace_replay.specs.Packs.{Surface, flips_at, read_as, size_of_block, bytes_read, surface_read}
 use Rattle.trace_replay.specs.Adapters as rule
 use Rattle.driver_machine.specs.declared.Phase.TheVariants.{Transferring}
 use Rattle.driver_machine.specs.declared.Phase.TheVariants as phases
@@ -36,11 +36,12 @@ use Rattle.driver_laws.specs.shown.Shows.{IsAdapterSeen, is_coming, with_coming,
 use Rattle.driver_laws.proofs.shown.Told.{seen_told}
 use Rattle.driver_laws.specs.shown.Laws.{IsSaid}
 use Rattle.driver_laws.proofs.shown.Core.{Core, IsHead}
-use Rattle.driver_laws.proofs.shown.Facts.{At}
+use Rattle.driver_laws.proofs.shown.Facts.{At, some_one}
 use Rattle.driver_laws.proofs.shown.Plain.{ready_plain}
 use Rattle.driver_laws.proofs.shown.DeedFacts.{judged_start, no, kept_block, said_by}
 use Rattle.driver_laws.proofs.shown.Busy.{Moves, moves, only_one}
 use Rattle.driver_laws.proofs.shown.Fronts.{front_more, front_same, block_set}
+use Rattle.driver_laws.proofs.rules.Known.{written_live}
 
 -- THE COMPLETION goes up behind a clean sector where it was the last, in bytes as in blocks.
 bytes_over : (n count moved last : ℕ) → n ≡ 512 * count - (512 - last) - 512 * moved → 1 ≤ last → last ≤ 512 → moved < count
@@ -198,10 +199,6 @@ abbrev pub bytes_got : Bool → List ℕ → List ℕ
 bytes_got true bytes = bytes
 bytes_got false bytes = []
 
-append_nil : (xs : List ℕ) → xs ++ [] ≡ xs
-append_nil [] = refl
-append_nil (x ∷ xs) = ap (λ ys. x ∷ ys) (append_nil xs)
-
 no_front : (write : Bool) (x y : List ℕ) → write ≡ true → (if write then [] else x) ≡ (if write then [] else y)
 no_front true x y is = refl
 no_front false x y is = absurd (grind (arith, is))
@@ -209,7 +206,7 @@ no_front false x y is = absurd (grind (arith, is))
 -- the front behind a sector that moved
 front_got : (write : Bool) (k : ℕ) (bytes : List ℕ) (h : Held) → h.write ≡ write → k < length h.blocks
     → front_of h k ++ bytes_got (not write) bytes ≡ front_of (read_into (not write) k bytes h) (k + 1)
-front_got true k bytes h writes inside = append_nil (front_of h k) ∙ no_front h.write _ _ writes
+front_got true k bytes h writes inside = append-nil (front_of h k) ∙ no_front h.write _ _ writes
 front_got false k bytes h reads inside = sym (front_more h k bytes reads inside)
 
 front_kept : (read : Bool) (k : ℕ) (bytes : List ℕ) (h : Held) → front_of h k ≡ front_of (read_into read k bytes h) k
@@ -219,7 +216,7 @@ front_kept false k bytes h = refl
 not_none : (n failures : ℕ) → 0 ≡ failures_at (n + 1) failures
 not_none n failures = grind (arith)
 
-more_done : (done moved : ℕ) → done + moved + 1 ≡ done + (moved + 1)
+pub more_done : (done moved : ℕ) → done + moved + 1 ≡ done + (moved + 1)
 more_done done moved = omega arith
 
 tried_progress : (v : Moved) (write : Bool) (a : AdapterState) (bytes : List ℕ) (t : TransferState) (h : Held) → h.write ≡ write
@@ -338,10 +335,6 @@ got_bytes true s u d block r k loan bytes size read = ap (λ n. take n (read_as 
 got_bytes false s u d block r k loan bytes size read = refl
 
 -- the noise that is left
-noise_written : (b : Bool) (s : Surface) (u block : ℕ) (r : Request) (k : ℕ) → (surface_written b s u block r k).live ≡ s.live
-noise_written true s u block r k = refl
-noise_written false s u block r k = refl
-
 noise_read : (b : Bool) (s : Surface) (u : ℕ) (d : DriveState) (block : ℕ) (book : Book) → s.live ≡ book.live
     → (surface_read b s u d block).live ≡ (if b then book_struck u block d.offset book else book).live
 noise_read true s u d block book is = ap (after_strike u block d.offset) is
@@ -374,9 +367,6 @@ pub record IsSector (u : ℕ) (w : World) (s : Replay) (last : Moved) : Type 0 w
   pub block : (adapter_at w (adapter_of u)).state.block ≡ (engine.segment_of (transfer_of (unit_at w u))).block
   pub count : (adapter_at w (adapter_of u)).state.count ≡ (engine.segment_of (transfer_of (unit_at w u))).count
   pub some : 1 ≤ (adapter_at w (adapter_of u)).state.blocks
-
-some_one : {g h : Held} → Some g ≡ Some h → g ≡ h
-some_one e = grind (arith, e)
 
 pub sector_facts : (u id block : ℕ) (w : World) (s : Replay) (t : Tried) → Sound w → At u id w s
     → IsBusyFor (adapter_at w (adapter_of u)).state (drive_of u) false → IsTried u block t (scene_of w u) → IsSector u w s t.verdict
@@ -474,7 +464,7 @@ sector_line line u id block w s t sound shows hand at busy here tried surface =
           (λ e. grind (arith, is.moving.phase, e)) (λ e. no waits e));
       apart = λ x other one phase. only_one w u x sound hand.unit other one phase busy.drive;
       noise =
-          noise_written (was_written (s.units u).drive t.verdict) (surface_read (was_read (s.units u).drive t.verdict) s.surface u (s.units u).drive block) u block
+          written_live (was_written (s.units u).drive t.verdict) (surface_read (was_read (s.units u).drive t.verdict) s.surface u (s.units u).drive block) u block
           (in_hand (s.units u).service) (s.units u).progress.done
           ∙ rw at.core.drive (noise_read (was_read v.drive t.verdict) s.surface u v.drive block w.book shows.noise);
       frames = shows.frames;

@@ -1,12 +1,10 @@
 -- What silent deeds share: where what is seen stays as it is, the same replay shows the world behind them.
 use Rattle.std.proofs.Common.{◌≡◌, ◌<◌, ℕ, ◌≤◌, List, length, ◌+◌, refl, sym, ap, subst, arith, ◌∙◌}
-use Rattle.std.specs.Prelude.{slice_index_or}
 use Rattle.pack_geometry.specs.declared.DriveKind.{DriveKind}
 use Rattle.pack_geometry.specs.Geometry.{place_at}
 use Rattle.pack_geometry.specs.Homes.{index_in}
 use Rattle.hardware_table.specs.declared.Moved.{Moved}
 use Rattle.hardware_table.specs.Adapter.{AdapterState}
-use Rattle.disksort.specs.declared.Waiter.{Waiter}
 use Rattle.transfer_engine.specs.State.{begun}
 use Rattle.trace_replay.specs.requests.Requests.{Request}
 use Rattle.trace_replay.specs.Replay.{UnitSeen, Replay, hand_of, at_unit}
@@ -20,9 +18,10 @@ use Rattle.driver_machine.specs.Sound.{Sound, IsBegun}
 use Rattle.driver_laws.specs.shown.Stages.{failures_at}
 use Rattle.driver_laws.specs.shown.Shows.{Match, is_coming, with_coming, Shows}
 use Rattle.driver_laws.proofs.shown.Core.{Core, IsHead}
-use Rattle.driver_laws.proofs.shown.Frame.{step_shows, same_transfer, same_held, slot_there}
+use Rattle.driver_laws.proofs.shown.Frame.{step_shows, same_transfer, same_held}
 use Rattle.driver_laws.proofs.shown.Facts.{At}
-use Rattle.driver_laws.proofs.shown.Plain.{outstanding_same}
+use Rattle.driver_laws.proofs.shown.Plain.{outstanding_same, same_slot}
+use Rattle.driver_laws.proofs.invariant.Frame.{slot_there}
 
 pub plus_none : (n : ℕ) → n ≡ n + 0
 plus_none n = omega arith
@@ -50,9 +49,6 @@ pub record Silently (u : ℕ) (w : World) (s : Replay) (v : UnitView) (h : Held)
 abbrev pub scene_with : (u : ℕ) (w : World) (v : UnitView) (h : Held) (queue : List ℕ) → Scene
 scene_with u w v h queue =
     record (scene_of w u) { unit = v; held = h; adapter = record (adapter_at w (adapter_of u)) { queue = queue } }
-
-same_slot : (v v' : UnitView) → v'.queue ≡ v.queue → slot_in_hand v' ≡ slot_in_hand v
-same_slot v v' e = ap (λ (q : List Waiter). (slice_index_or q 0 (record { number = 0; cylinder = 0 })).number) e
 
 pub silent_shows : (u id : ℕ) (w : World) (s : Replay) (v : UnitView) (h : Held) (queue : List ℕ) → Sound w → Shows u w s → InHand w u id → At u id w s
     → Silently u w s v h queue → Shows u (with_scene w u (slot_in_hand (unit_at w u)) (scene_with u w v h queue)) s

@@ -1,5 +1,5 @@
 -- A unit speaks: what is due at it, deed by deed, until nothing is.
-use Rattle.std.proofs.Common.{◌≡◌, ◌≢◌, ◌⊎◌, inl, inr, ℕ, zero, suc, ◌<◌, Bool, true, false, List, [], ◌∷◌, ◌++◌, length, Some, refl, sym, ap, subst, arith, ◌∙◌}
+use Rattle.std.proofs.Common.{◌≡◌, ◌≢◌, ◌⊎◌, inl, inr, ℕ, zero, suc, ◌<◌, Bool, true, false, List, [], ◌∷◌, ◌++◌, length, Some, refl, sym, ap, subst, ◌∙◌}
 use Rattle.std.proofs.lemmas.Bool.Decides.{eqb_tells}
 use Rattle.pack_geometry.specs.Pack as model
 use Rattle.trace_replay.specs.Moments as moment
@@ -30,7 +30,7 @@ use Rattle.driver_laws.proofs.shown.EachDeed.{lines_are_said, silent_deeds_show}
 use Rattle.driver_laws.specs.shown.Within.{IsEvent}
 use Rattle.driver_laws.proofs.shown.Telling.{told_within, within_all, LinesFollow, Speaks, Tells}
 use Rattle.driver_laws.proofs.shown.Joined.{nothing_told, then_tells}
-use Rattle.driver_laws.proofs.shown.Due.{IsOwn, told_cases, due_own, own_line, same_raised, due_goes}
+use Rattle.driver_laws.proofs.shown.Due.{IsOwn, told_cases, due_own, own_line, same_raised, due_goes, one_same, some_line}
 
 -- no sector is tried
 abbrev pub IsUntried : Deed → Type 0
@@ -40,12 +40,6 @@ IsUntried other = Unit {0}
 pub own_untried : (d : Deed) → IsOwn d → IsUntried d
 own_untried (deed.Sector block tried) own = own
 own_untried other own = tt
-
-one_same : {x y : moment.Deed} → x ∷ [] ≡ y ∷ [] → x ≡ y
-one_same e = grind (arith, e)
-
-some_line : {x : moment.Deed} → [] ≡ x ∷ [] → ⊥
-some_line e = grind (arith, e)
 
 step_keeps : (s : Replay) (u : ℕ) (step : RetryStep) → surface_after s u (step_told step) ≡ s.surface
 step_keeps s u step.Recalibrate = refl

@@ -1,5 +1,5 @@
 -- The start of a run, and answers that are taken between two calls.
-use Rattle.std.proofs.Common.{◌≡◌, ℕ, false, List, [], Option, refl}
+use Rattle.std.proofs.Common.{◌≡◌, ℕ, List, [], Option, refl}
 use Rattle.std.specs.Prelude.{is_some}
 use Rattle.pack_geometry.specs.declared.DriveKind.{DriveKind}
 use Rattle.pack_geometry.specs.Pack.{Pack}
@@ -8,26 +8,20 @@ use Rattle.trace_replay.specs.Moments.{Moment}
 use Rattle.trace_replay.specs.Packs.{surface_of}
 use Rattle.trace_replay.specs.Conversation as told
 use Rattle.trace_replay.specs.Replay.{Replay, all_units, new_replay, after_moments}
-use Rattle.driver_machine.specs.declared.Phase.{Phase}
-use Rattle.driver_machine.specs.declared.Phase.TheVariants.{Waiting, Positioning, Queued, Transferring, Due}
 use Rattle.driver_machine.specs.World.{World, Setup, new_world, unit_at}
 use Rattle.driver_machine.specs.Acts.{Taken, after}
 use Rattle.driver_machine.specs.Guards.{IsSetUp}
 use Rattle.driver_machine.specs.Sound.{Sound, AtWork}
 use Rattle.driver_laws.specs.answers.Passes.{AreSetups}
 use Rattle.driver_laws.proofs.answers.Passes.{sound_new, rests_new}
-use Rattle.driver_laws.specs.shown.Shows.{Shows, is_coming}
+use Rattle.driver_laws.specs.shown.Shows.{Shows}
 use Rattle.driver_laws.specs.shown.Acts.{AreSetUp}
-use Rattle.driver_laws.proofs.shown.Rest.{start_is_shown, rest_shows}
+use Rattle.driver_laws.proofs.shown.Rest.{start_is_shown, rest_shows, waiting_calm}
 use Rattle.driver_laws.specs.shown.Calls.{Stands}
 use Rattle.driver_laws.specs.shown.Runs.{IsSoFar}
 use Rattle.driver_laws.proofs.shown.Resting.{shows_one, shows_all}
 use Rattle.driver_laws.proofs.shown.Submits.{calm}
 use Rattle.driver_laws.proofs.shown.TraceRuns.{filter_by}
-
-waiting_calm : (phase : Phase) → is_coming phase told.Waiting ≡ false
-waiting_calm Waiting = refl
-waiting_calm other = refl
 
 -- AT THE START, where the drives and tables are those of the units that are set up
 pub starts : (drives : ℕ → Option DriveKind) (tables : ℕ → Option Table) (held : ℕ → Pack) (setups : List Setup) (outstanding noises : ℕ)

@@ -1,6 +1,5 @@
 -- What a read gives of a sector at which no alias is among the noise that was armed.
-use Rattle.std.proofs.Common.{◌≡◌, ℕ, ◌+◌, ◌*◌, ◌/◌, ◌%◌, ◌<◌, ◌≤◌, List, length, get_or, take, [], ◌∷◌, suc, Option, Some, None, refl, sym, ap, subst, arith, ◌∙◌}
-use Rattle.std.specs.Prelude.{bit_xor}
+use Rattle.std.proofs.Common.{◌≡◌, ℕ, ◌+◌, ◌*◌, ◌/◌, ◌%◌, ◌<◌, ◌≤◌, List, length, get_or, take, Option, Some, None, sym, ap, subst, arith, ◌∙◌}
 use Rattle.std.specs.Int.{bit_at}
 use Rattle.std.proofs.lemmas.Nat.Bits.{same_from_bits_below}
 use Rattle.std.proofs.lemmas.Grind.{same_number_lists}
@@ -11,27 +10,27 @@ use Rattle.hardware_table.specs.declared.Moved.TheVariants as verdict
 use Rattle.hardware_table.specs.Moves.{IsStruck, IsReadVerdict}
 use Rattle.request_slots.specs.Move.{IsFrontRead}
 use Rattle.trace_replay.specs.Bytes.{ArePlaces}
-use Rattle.trace_replay.specs.Packs.{read_as, repaired_from}
+use Rattle.trace_replay.specs.Packs.{read_as}
 use Rattle.trace_replay.proofs.ReadBytes.{reads_as_told}
 use Rattle.ecc_repair.specs.Repaired.{repaired}
 use Rattle.driver_laws.proofs.rules.Noises.{Harmless, read_clean, read_burst}
 use Rattle.ecc_repair.specs.Repaired as machine
-use Rattle.fire_code.specs.Repair.{burst_byte}
+use Rattle.driver_laws.proofs.shown.Fronts.{repaired_same}
 
 -- two words with the same places flipped have the same bytes
-row : (i j : ℕ) → j < 8 → (8 * i + j) / 8 ≡ i
+pub row : (i j : ℕ) → j < 8 → (8 * i + j) / 8 ≡ i
 row i j less = omega (arith, less)
 
-column : (i j : ℕ) → j < 8 → (8 * i + j) % 8 ≡ j
+pub column : (i j : ℕ) → j < 8 → (8 * i + j) % 8 ≡ j
 column i j less = omega (arith, less)
 
-bit_here : (bytes : List ℕ) (check i j : ℕ) → i < 512 → j < 8 → bit_of_word bytes check (8 * i + j) ≡ bit_at (get_or bytes i 0) j
+pub bit_here : (bytes : List ℕ) (check i j : ℕ) → i < 512 → j < 8 → bit_of_word bytes check (8 * i + j) ≡ bit_at (get_or bytes i 0) j
 bit_here bytes check i j small less =
     bit_of_data bytes check (8 * i + j) (omega (arith, small, less))
     ∙ ap (λ (n : ℕ). bit_at (get_or bytes n 0) ((8 * i + j) % 8)) (row i j less)
     ∙ ap (λ (n : ℕ). bit_at (get_or bytes i 0) n) (column i j less)
 
-struck_once : (places sector one other : List ℕ) → IsStruck places sector one → IsStruck places sector other → one ≡ other
+pub struck_once : (places sector one other : List ℕ) → IsStruck places sector one → IsStruck places sector other → one ≡ other
 struck_once places sector one other a b =
     same_number_lists one other (a.read.size ∙ sym b.read.size) (λ i less. at_byte i (subst (λ n. i < n) a.read.size less))
   where
@@ -45,7 +44,7 @@ struck_once places sector one other a b =
         ∙ sym (b.flipped.bits (8 * i + j) (omega (arith, small, less))) ∙ bit_here other b.check i j small less)
 
 -- what a read gives is the front of the sector as the noise leaves it
-front_read : (flips : Option (List ℕ)) (sector : List ℕ) (size : ℕ) (window : List ℕ) → ArePlaces flips → IsFrontRead flips sector size window
+pub front_read : (flips : Option (List ℕ)) (sector : List ℕ) (size : ℕ) (window : List ℕ) → ArePlaces flips → IsFrontRead flips sector size window
     → window ≡ take size (read_as flips sector)
 unfolding front
 front_read None sector size window are is = is.cut ∙ ap (take size) is.whole
@@ -53,14 +52,6 @@ front_read (Some places) sector size window are is =
     let whole : IsStruck places sector is.bytes = is.whole in
     let told : IsStruck places sector (read_as (Some places) sector) = reads_as_told (Some places) sector are whole.right in
     is.cut ∙ ap (take size) (struck_once places sector is.bytes (read_as (Some places) sector) whole told)
-
-repaired_same : (i at pattern : ℕ) (bytes : List ℕ) → repaired_from i at pattern bytes ≡ machine.repaired_from i at pattern bytes
-unfolding machine.repaired_from
-repaired_same i at pattern [] = refl
-repaired_same i at pattern (b ∷ bytes) =
-    let one : i + 1 ≡ suc i = omega arith in
-    ap (λ ys. bit_xor b (burst_byte at pattern i) ∷ ys)
-    (ap (λ j. repaired_from j at pattern bytes) one ∙ repaired_same (suc i) at pattern bytes)
 
 -- CLEAN at a sure sector, a read gives the sector's own bytes;
 pub clean_read : (claimed : Type 0) (flips : Option (List ℕ)) (sector : List ℕ) (size : ℕ) (window : List ℕ)

@@ -1,11 +1,9 @@
 -- A condition that changes, and a request that is refused or joins.
-use Rattle.std.proofs.Common.{◌≡◌, ◌≢◌, inl, inr, ℕ, ◌+◌, ◌/◌, ◌<◌, Bool, true, false, ◌&&◌, List, [], ◌∷◌, length, None, refl, sym, ap, subst, arith, ◌∙◌, get_or-set_same}
+use Rattle.std.proofs.Common.{◌≡◌, ◌≢◌, inl, inr, ℕ, ◌+◌, ◌<◌, Bool, true, false, ◌&&◌, List, [], ◌∷◌, length, None, refl, sym, ap, subst, ◌∙◌, get_or-set_same}
 use Rattle.std.specs.Prelude.{nat_lt, nat_le}
 use Rattle.pack_geometry.specs.declared.DriveKind.{DriveKind}
 use Rattle.pack_geometry.specs.Pack.{Pack}
 use Rattle.partitions.specs.Partitions.{admission}
-use Rattle.partitions.specs.declared.Admission.{Admission}
-use Rattle.partitions.specs.declared.Admission.TheVariants.{Inside, Eof, Outside}
 use Rattle.hardware_table.specs.Drive.{DriveState}
 use Rattle.hardware_table.specs.Events.{turned, fault_armed, online_set, locked_set}
 use Rattle.disksort.specs.declared.Waiter.{Waiter}
@@ -21,12 +19,12 @@ use Rattle.trace_replay.specs.Events.{Wish, Refusal, wanted, Done, Refusing, Ser
 use Rattle.trace_replay.specs.Replay.{Replay, Submission, Refused, Joined, ToldMay, next_wish, act_done, told_after, drained, after_moment, after_moments, act_of, act_submitted, event_of, is_drain, replay_played, submitted, submission, submission_by, has_frames, unit_joined}
 use Rattle.trace_replay.specs.declared.requests.answers.AnswerKind.{AnswerKind}
 use Rattle.driver_machine.specs.declared.Phase.{Phase}
-use Rattle.driver_machine.specs.declared.Phase.TheVariants.{Waiting, Positioning, Queued, Transferring, Due}
+use Rattle.driver_machine.specs.declared.Phase.TheVariants.{Waiting, Due}
 use Rattle.driver_machine.specs.World.{World, UnitView, Held, adapter_of, unit_at, adapter_at, held_in, no_unit}
 use Rattle.driver_machine.specs.Acts as deed
 use Rattle.driver_machine.specs.Acts.{Act as MachineAct, Refuse, Submit, Change, joined, after, after_all}
 use Rattle.driver_machine.specs.Lines.{lines_of_all, answer_told}
-use Rattle.driver_machine.specs.Events.{followed, and_then, choose_by, choose_acts, adapter_start, due_acts, joined_acts, refusal_by, refusal_of, is_room}
+use Rattle.driver_machine.specs.Events.{followed, and_then, choose_by, choose_acts, adapter_start, due_acts, joined_acts, refusal_of, is_room}
 use Rattle.driver_machine.specs.Guards.{Allowed, IsSetUp, IsHeldFor, MayChange}
 use Rattle.driver_machine.specs.Sound.{Sound, AtWork, WorkOf}
 use Rattle.driver_machine.specs.Runs.{Run}
@@ -36,7 +34,7 @@ use Rattle.driver_laws.proofs.answers.Passes.{sound_after}
 use Rattle.driver_laws.specs.answers.Packs.{packs_after_all}
 use Rattle.driver_laws.specs.shown.Shows.{Shows}
 use Rattle.driver_laws.specs.shown.Acts.{IsRefused, IsAtWorkFor}
-use Rattle.driver_laws.proofs.shown.Rest.{refusals_show, joins_show, changes_show}
+use Rattle.driver_laws.proofs.shown.Rest.{refusals_show, joins_show, changes_show, joins_by}
 use Rattle.driver_laws.specs.shown.Within.{ShowsAll, Rests}
 use Rattle.driver_laws.proofs.shown.Telling.{within_all, Speaks, Tells, IsTold}
 use Rattle.driver_laws.specs.shown.Calls.{IsSurfaceOf, Stands, IsOverWithin, Ends}
@@ -46,6 +44,7 @@ use Rattle.driver_laws.proofs.shown.Speaking.{quiet_after}
 use Rattle.driver_laws.proofs.shown.Resting.{IsAtRest, Rested, shows_one, shows_all, due_told}
 use Rattle.driver_laws.proofs.shown.Starting.{wish_resting, start_told}
 use Rattle.driver_laws.proofs.shown.Events.{not_drained, same_packs, drained_there}
+use Rattle.driver_laws.proofs.invariant.Calls.{eighth}
 
 -- OUTSIDE A DRAIN behind its lines an event is over.
 not_in_drain : (s : Replay) → s.event.drains ≡ false → drained s ≡ s
@@ -219,9 +218,6 @@ refused_told line r kind why held w s stands sound answer = record {
       quiet = stands.quiet;
     }
 
-eighth : (u : ℕ) → u < 32 → u / 8 < 4
-eighth u lt = omega (arith, lt)
-
 pub refused_played : (line : ℕ) (r : Request) (kind : AnswerKind) (held : ℕ → Pack) (w : World) (s : Replay) → Stands held w s
     → Allowed w (Refuse line r kind)
     → IsTold line false held w (after_moment s (Played line (script.Submit r))) (followed (Refuse line r kind ∷ []) (adapter_start line (adapter_of r.unit)) w)
@@ -239,12 +235,6 @@ refused_played line r kind held w s stands allowed =
     (refused_told line r kind is.why held w s stands (sound_after w (Refuse line r kind) stands.sound allowed) is.answer))
 
 -- A REQUEST JOINS.
-joins_by : (adm : Admission) (room : Bool) → refusal_by adm room ≡ None → submission_by adm room ≡ Joined
-joins_by Outside room e = absurd (grind (arith, e))
-joins_by Eof room e = absurd (grind (arith, e))
-joins_by (Inside first) true e = refl
-joins_by (Inside first) false e = absurd (grind (arith, e))
-
 joins : (r : Request) (w : World) (s : Replay) → ShowsAll w s → IsSetUp w r.unit → refusal_of r w ≡ None → submission s r ≡ Joined
 joins r w s shows unit none =
     ap (λ (kind : DriveKind). submission_by (admission kind r.part r.block r.count) (has_frames s r))

@@ -1,7 +1,7 @@
 -- A run goes on call by call.
-use Rattle.std.proofs.Common.{◌≡◌, ◌≢◌, ◌⊎◌, inl, inr, ℕ, suc, ◌<◌, Bool, true, false, filter, List, [], ◌∷◌, ◌++◌, length, Option, Some, None, refl, sym, ap, subst, arith, ◌∙◌, get_or-set_same, get_or-set_other}
+use Rattle.std.proofs.Common.{◌≡◌, ◌≢◌, ◌⊎◌, inl, inr, ℕ, ◌<◌, Bool, true, false, filter, List, [], ◌∷◌, ◌++◌, length, Option, Some, None, refl, sym, ap, subst, ◌∙◌, get_or-set_same, get_or-set_other}
 use Rattle.std.specs.Prelude.{if◌then◌else◌, nat_lt}
-use Rattle.std.proofs.lemmas.Bool.Decides.{leb_tells}
+use Rattle.std.proofs.lemmas.Bool.{lt-ltb, cases_eq}
 use Rattle.pack_geometry.specs.declared.DriveKind.{DriveKind}
 use Rattle.pack_geometry.specs.Pack.{Pack}
 use Rattle.pack_geometry.specs.TableSpelling.{Table}
@@ -10,11 +10,11 @@ use Rattle.trace_replay.specs.Moments.{Moment, Played}
 use Rattle.trace_replay.specs.Packs.{Surface}
 use Rattle.trace_replay.specs.Script as script
 use Rattle.trace_replay.specs.Script.{Input}
-use Rattle.trace_replay.specs.Replay.{Replay, Submission, Refused, Joined, all_units, new_replay, are_at_work, InputMay, after_moment, after_moments, replay_played, submitted, submission, Follows, Legal}
+use Rattle.trace_replay.specs.Replay.{Replay, Submission, Refused, Joined, all_units, new_replay, are_at_work, InputMay, after_moment, after_moments, replay_played, submitted, submission, Legal}
 use Rattle.driver_laws.proofs.rules.Conserved.{is_conserved}
 use Rattle.driver_machine.specs.World.{World, UnitView, unit_at, slot_in_hand, no_unit}
 use Rattle.driver_machine.specs.Acts as deed
-use Rattle.driver_machine.specs.Acts.{Act, Refuse, Submit, Of, Change, Nothing, Taken, Tried, effect, scene_of, joined, after, after_all}
+use Rattle.driver_machine.specs.Acts.{Act, Refuse, Submit, Of, Change, Nothing, Tried, effect, scene_of, joined, after, after_all}
 use Rattle.driver_machine.specs.Lines.{lines_of_all}
 use Rattle.driver_machine.specs.Events.{event_acts, next_event}
 use Rattle.driver_machine.specs.Guards.{Allowed}
@@ -29,14 +29,14 @@ use Rattle.driver_laws.proofs.shown.Telling.{IsTold}
 use Rattle.driver_laws.proofs.shown.Named.{IsTriedOn}
 use Rattle.driver_laws.specs.shown.Runs.{IsSoFar, IsDraining}
 use Rattle.driver_laws.proofs.shown.DrainsLaws.{GoesOn, drain_goes_on, drain_between, drain_begins, drain_idle, event_goes, call_left, drain_left, none_outstanding}
+use Rattle.driver_laws.proofs.rules.Quiet.{after_parts}
+use Rattle.driver_laws.proofs.invariant.Next.{unit_there}
+use Rattle.trace_replay.proofs.Following.{joined as follows_append}
 
 -- THE UNITS that are set up stay so.
-same_or : (x y : ℕ) → (x ≡ y) ⊎ (x ≢ y)
-same_or x y = grind arith
-
 set_declared : (w : World) (u : ℕ) (v : UnitView) (x : ℕ) → u < length w.units → v.declared ≡ (unit_at w u).declared
     → (unit_at (record w { units = Rattle.std.specs.Prelude.slice_set w.units u v }) x).declared ≡ (unit_at w x).declared
-set_declared w u v x lt same = by (same_or x u)
+set_declared w u v x lt same = by (cases_eq x u)
   where
     by : (x ≡ u) ⊎ (x ≢ u) → (unit_at (record w { units = Rattle.std.specs.Prelude.slice_set w.units u v }) x).declared ≡ (unit_at w x).declared
     by (inl is) =
@@ -44,26 +44,23 @@ set_declared w u v x lt same = by (same_or x u)
         ∙ ap (λ (y : UnitView). y.declared) (get_or-set_same w.units u v no_unit lt) ∙ same ∙ ap (λ (k : ℕ). (unit_at w k).declared) (sym is)
     by (inr other) = ap (λ (y : UnitView). y.declared) (get_or-set_other w.units u x v no_unit other)
 
-within_units : (w : World) (u : ℕ) → Sound w → u < 32 → u < length w.units
-within_units w u sound lt = subst (λ (k : ℕ). u < k) (sym sound.units) lt
-
 change_declared : (w : World) (input : Input) (x : ℕ) → Sound w → Allowed w (Change input) → (unit_at (after w (Change input)) x).declared ≡ (unit_at w x).declared
 change_declared w (script.Turn u sector) x sound may =
-    set_declared w u (deed.with_drive (turned sector) (unit_at w u)) x (within_units w u sound may.0.unit) refl
+    set_declared w u (deed.with_drive (turned sector) (unit_at w u)) x (unit_there w u sound may.0.unit) refl
 change_declared w (script.Arm u kind times) x sound may =
-    set_declared w u (deed.with_drive (fault_armed kind times) (unit_at w u)) x (within_units w u sound may.0.unit) refl
+    set_declared w u (deed.with_drive (fault_armed kind times) (unit_at w u)) x (unit_there w u sound may.0.unit) refl
 change_declared w (script.SetOnline u on) x sound may =
-    set_declared w u (deed.with_drive (online_set on) (unit_at w u)) x (within_units w u sound may.unit) refl
+    set_declared w u (deed.with_drive (online_set on) (unit_at w u)) x (unit_there w u sound may.unit) refl
 change_declared w (script.SetLocked u on) x sound may =
-    set_declared w u (deed.with_drive (locked_set on) (unit_at w u)) x (within_units w u sound may.unit) refl
+    set_declared w u (deed.with_drive (locked_set on) (unit_at w u)) x (unit_there w u sound may.unit) refl
 change_declared w (script.Noise noise) x sound may = refl
 change_declared w other x sound may = absurd may
 
 act_declared : (w : World) (act : Act) (x : ℕ) → Sound w → Allowed w act → (unit_at (after w act) x).declared ≡ (unit_at w x).declared
 act_declared w (Submit line p h) x sound allowed =
-    set_declared w h.unit (joined p h (unit_at w h.unit)) x (within_units w h.unit sound allowed.unit.unit) refl
+    set_declared w h.unit (joined p h (unit_at w h.unit)) x (unit_there w h.unit sound allowed.unit.unit) refl
 act_declared w (Of line u id d) x sound allowed =
-    set_declared w u (effect line u (slot_in_hand (unit_at w u)) d (scene_of w u)).unit x (within_units w u sound allowed.0.unit)
+    set_declared w u (effect line u (slot_in_hand (unit_at w u)) d (scene_of w u)).unit x (unit_there w u sound allowed.0.unit)
     (effect_same line u (slot_in_hand (unit_at w u)) d (scene_of w u)).declared
 act_declared w (Change input) x sound allowed = change_declared w input x sound allowed
 act_declared w other x sound allowed = refl
@@ -93,30 +90,12 @@ pub played_there : (s : Replay) (input : Input) → (replay_played s input).ther
 played_there s (script.Submit r) = submit_there s r (submission s r)
 played_there s other = refl
 
--- MOMENTS behind others
-pub moments_append : (s : Replay) (ms ns : List Moment) → after_moments s (ms ++ ns) ≡ after_moments (after_moments s ms) ns
-moments_append s [] ns = refl
-moments_append s (m ∷ ms) ns = moments_append (after_moment s m) ms ns
-
-pub follows_append : (s : Replay) (ms ns : List Moment) → Follows s ms → Follows (after_moments s ms) ns → Follows s (ms ++ ns)
-follows_append s [] ns first later = later
-follows_append s (m ∷ ms) ns first later = (first.0, follows_append (after_moment s m) ms ns first.1 later)
-
-less_is : (n m : ℕ) → n < m → nat_lt n m ≡ true
-less_is n m less = elim (leb_tells (suc n) m) [
-  | inl is ↦ is.0
-  | inr more ↦ absurd (apart n m less more.1)
-]
-  where
-    apart : (n m : ℕ) → n < m → m < suc n → ⊥
-    apart n m less more = omega (arith, less, more)
-
 module _ (drives : ℕ → Option DriveKind) (tables : ℕ → Option Table) (surface : Surface) where
   -- A LINE OF THE SCRIPT may be played.
   pub may_play : (line next : ℕ) (moments : List Moment) (held : ℕ → Pack) (w : World) → IsSoFar (new_replay drives tables surface) line moments held w
       → line < next → InputMay (after_moments (new_replay drives tables surface) moments) next
   may_play line next moments held w far less = record {
-    later = ap (λ (n : ℕ). nat_lt n next) far.left.line_is ∙ less_is line next less;
+    later = ap (λ (n : ℕ). nat_lt n next) far.left.line_is ∙ lt-ltb line next less;
     over = far.left.stands.over;
     finished = far.left.finished;
     at_work = is_conserved drives tables surface moments far.follows (inl far.left.stands.over);
@@ -131,7 +110,7 @@ module _ (drives : ℕ → Option DriveKind) (tables : ℕ → Option Table) (su
       let s : Replay = after_moments (new_replay drives tables surface) moments in
       let at : after_moments (new_replay drives tables surface) (moments ++ Played next input ∷ lines_of_all w acts)
       ≡ after_moments (after_moment s (Played next input)) (lines_of_all w acts) =
-      moments_append (new_replay drives tables surface) moments (Played next input ∷ lines_of_all w acts) in
+      after_parts (new_replay drives tables surface) moments (Played next input ∷ lines_of_all w acts) in
       record {
         follows = follows_append (new_replay drives tables surface) moments (Played next input ∷ lines_of_all w acts) far.follows
             (may_play line next moments held w far less, told.follows);
@@ -151,7 +130,7 @@ module _ (drives : ℕ → Option DriveKind) (tables : ℕ → Option Table) (su
       let told : IsTold next true held w (after_moment s (Played next script.Drain)) (Nothing next ∷ []) = drain_idle next held w s far.left.stands idle in
       let at : after_moments (new_replay drives tables surface) (moments ++ Played next script.Drain ∷ lines_of_all w (Nothing next ∷ []))
       ≡ after_moments (after_moment s (Played next script.Drain)) (lines_of_all w (Nothing next ∷ [])) =
-      moments_append (new_replay drives tables surface) moments (Played next script.Drain ∷ lines_of_all w (Nothing next ∷ [])) in
+      after_parts (new_replay drives tables surface) moments (Played next script.Drain ∷ lines_of_all w (Nothing next ∷ [])) in
       record {
         follows = follows_append (new_replay drives tables surface) moments (Played next script.Drain ∷ lines_of_all w (Nothing next ∷ [])) far.follows
             (may_play line next moments held w far less, told.follows);
@@ -175,7 +154,7 @@ module _ (drives : ℕ → Option DriveKind) (tables : ℕ → Option Table) (su
       event_goes next true input tried held w (after_moment s (Played next script.Drain)) (next_can w input far.left.stands.sound is) goes.rests goes.packs on run in
       let at : after_moments (new_replay drives tables surface) (moments ++ Played next script.Drain ∷ lines_of_all w acts)
       ≡ after_moments (after_moment s (Played next script.Drain)) (lines_of_all w acts) =
-      moments_append (new_replay drives tables surface) moments (Played next script.Drain ∷ lines_of_all w acts) in
+      after_parts (new_replay drives tables surface) moments (Played next script.Drain ∷ lines_of_all w acts) in
       record {
         follows = follows_append (new_replay drives tables surface) moments (Played next script.Drain ∷ lines_of_all w acts) far.follows
             (may_play line next moments held w far less, told.follows);
@@ -201,7 +180,7 @@ module _ (drives : ℕ → Option DriveKind) (tables : ℕ → Option Table) (su
       let told : IsTold line true held w s acts =
       event_goes line true input tried held w s (next_can w input goes.rests.sound is) goes.rests goes.packs on run in
       let at : after_moments (new_replay drives tables surface) (moments ++ lines_of_all w acts) ≡ after_moments s (lines_of_all w acts) =
-      moments_append (new_replay drives tables surface) moments (lines_of_all w acts) in
+      after_parts (new_replay drives tables surface) moments (lines_of_all w acts) in
       record {
         follows = follows_append (new_replay drives tables surface) moments (lines_of_all w acts) far.follows told.follows;
         ends = subst (Ends line true (packs_after_all w held acts) (after_all w acts)) (sym at) told.ends;

@@ -1,6 +1,6 @@
 -- A sector that is tried at a unit.
 use Rattle.std.proofs.Common.{◌≡◌, ℕ, ◌+◌, ◌<◌, ◌≤◌, Bool, true, false, List, length, All, Option, Some, None, refl, sym, ap, ◌∙◌, subst, arith}
-use Rattle.std.specs.Prelude.{if◌then◌else◌, ◌==◌, IsTrue}
+use Rattle.std.specs.Prelude.{if◌then◌else◌, IsTrue}
 use Rattle.pack_geometry.specs.declared.DriveKind.{DriveKind}
 use Rattle.pack_geometry.specs.Geometry.{limit_of}
 use Rattle.pack_geometry.specs.Pack.{Pack, block_at, is_marked}
@@ -13,7 +13,7 @@ use Rattle.hardware_table.specs.Drive.{is_writing}
 use Rattle.hardware_table.specs.Moves.{was_read, was_written, IsVerdict}
 use Rattle.hardware_table.specs.Noise.{LiveNoise, strikes}
 use Rattle.hardware_table.specs.Adapter.{AdapterState, stepped, next_window}
-use Rattle.main_memory.specs.Blocks.{Loan, IsLoan, size_at}
+use Rattle.main_memory.specs.Blocks.{size_at}
 use Rattle.request_slots.specs.Move.{IsFrontRead}
 use Rattle.transfer_engine.specs.declared.job.Job.{Job}
 use Rattle.transfer_engine.specs.declared.job.Segment.{Segment}
@@ -28,19 +28,17 @@ use Rattle.driver_machine.specs.Acts.{Scene, Tried, effect}
 use Rattle.driver_machine.specs.Guards.{May}
 use Rattle.driver_machine.specs.Sound.{IsPhase}
 use Rattle.driver_laws.proofs.invariant.Scene.{SceneOk, phase_is}
-use Rattle.driver_laws.proofs.invariant.DeedFacts.{transfer_at}
+use Rattle.driver_laws.proofs.invariant.DeedFacts.{transfer_at, left_by}
 use Rattle.driver_laws.proofs.invariant.Sector.{moved_less}
 use Rattle.driver_laws.specs.shown.Bytes.{sector_for, HandBears}
-use Rattle.driver_laws.proofs.shown.Deeds.{At, SceneBears, one_sector, left_in}
+use Rattle.driver_laws.proofs.shown.Deeds.{At, SceneBears, one_sector}
 use Rattle.driver_laws.proofs.shown.QuietSector.{tried_sector, tried_home, IsTry, pack_tried, held_tried, done_tried, tried_bears, tried_table}
+use Rattle.main_memory.proofs.BlockLaws.{size_few}
+use Rattle.driver_laws.proofs.shown.Sector.{more_done}
 
 segment_skip : (index : Option ℕ) (job : Job) (done : ℕ) → (segment_by index job done).skip ≡ done
 segment_skip None job done = refl
 segment_skip (Some i) job done = refl
-
--- how far the adapter is behind it
-more_done : (done moved : ℕ) → done + moved + 1 ≡ done + (moved + 1)
-more_done done moved = omega arith
 
 done_stepped : (v : Moved) (done : ℕ) (a : AdapterState) → done_tried v (done + a.moved) ≡ done + (stepped v a).moved
 done_stepped verdict.Clean done a = more_done done a.moved
@@ -56,13 +54,6 @@ last_stepped other a = refl
 
 below_limit : (first done count job limit : ℕ) → done < job → job ≡ count → first + count ≤ limit → first + done < limit
 below_limit first done count job limit less same inside = omega (arith, less, same, inside)
-
-size_few : (loan : Loan) (k : ℕ) → IsLoan loan → size_at loan k ≤ 512
-size_few loan k is = by (k + 1 == loan.count)
-  where
-    by : (b : Bool) → (if b then loan.last else 512) ≤ 512
-    by true = is.shape.last_few
-    by false = omega arith
 
 -- what a try goes by, beside the scene
 pub record Given (armed : List LiveNoise) (pack : Pack) (u block : ℕ) (t : Tried) (s : Scene) : Type 0 where
@@ -94,7 +85,7 @@ sector_bears armed pack blocks line u p block tried s ok may given table b =
     tried_sector t.index t.job kind t.done a.moved block (ap (λ (j : Job). j.kind) job) less at
     ∙ ap (λ (j : Job). sector_for kind t.index (j.first + (t.done + a.moved))) job in
     let count : t.job.count ≡ h.loan.count = ap (λ (j : Job). j.count) job in
-    let inside : t.done + a.moved < t.job.count = left_in t.index t.job t.done a.moved is.0.is.left less in
+    let inside : t.done + a.moved < t.job.count = left_by t.index t.job t.done a.moved is.0.is.left less in
     let counted : t.done + a.moved < h.loan.count = subst (λ n. t.done + a.moved < n) count inside in
     let below : h.first + (t.done + a.moved) < limit_of kind = below_limit h.first (t.done + a.moved) h.loan.count t.job.count (limit_of kind) inside count ok.inside in
     let does : s.unit.drive.work ≡ work.Transfer a.write = is.1.work ∙ ap (λ c. if c then work.Ready else work.Transfer a.write) may.0.completion in

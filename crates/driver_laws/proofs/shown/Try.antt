@@ -26,7 +26,7 @@ use Rattle.driver_machine.specs.Guards.{InHand}
 use Rattle.driver_machine.specs.Due.{steps_of, steps_for, offset_steps, task_for, try_of}
 use Rattle.driver_machine.specs.Acts.{with_transfer, transfer_tried}
 use Rattle.driver_machine.specs.Acts as deed
-use Rattle.driver_machine.specs.Sound.{Sound, IsBegun, IsTask, IsEndedAt}
+use Rattle.driver_machine.specs.Sound.{Sound, IsBegun, IsTask}
 use Rattle.driver_machine.specs.DueFacts.{IsJudged, IsFailure}
 use Rattle.driver_laws.specs.shown.Stages.{stage_by, IsProgress, steps_seen, segment_seen, progress_judged, front_of, progress_with}
 use Rattle.driver_laws.specs.shown.Shows.{Shows}
@@ -36,6 +36,8 @@ use Rattle.driver_laws.proofs.shown.Core.{Core, IsHead}
 use Rattle.driver_laws.proofs.shown.Facts.{At}
 use Rattle.driver_laws.proofs.shown.Plain.{plain_says, ready_plain}
 use Rattle.driver_laws.proofs.shown.DeedFacts.{judged_progress, judged_start, no, said_by}
+use Rattle.driver_laws.proofs.shown.Silent.{plus_none}
+use Rattle.driver_laws.proofs.invariant.Try.{failed_less}
 
 -- A FAILURE counts, and leaves this progress.
 abbrev pub progress_failed : ℕ → TransferState → Held → told.Progress
@@ -99,9 +101,6 @@ retried_stage (retry.Recalibrate code) cylinder moved done v t a hand head is =
     ∙ ap (λ steps. told.Steps (steps_seen steps) (segment_seen t)) (sym is)
 retried_stage other cylinder moved done v t a hand head is = refl
 
-plus_none : (n : ℕ) → n ≡ n + 0
-plus_none n = omega arith
-
 failed_same : (moved : ℕ) (t : TransferState) (h : Held) → progress_failed moved t h ≡ progress_with 0 (engine.failed moved t) h
 failed_same moved t h =
     ap (λ n. record { done = n; failures = failures_after moved t.failures; bytes = front_of h n; struck = [] }) (plus_none (t.done + moved))
@@ -153,11 +152,6 @@ one_sector : (index : Option ℕ) (job : Job) (done moved : ℕ) → moved < (en
 one_sector None job done moved less i is = absurd (grind (arith, is))
 one_sector (Some j) job done moved less i is = omega (arith, less)
 
-fails_at : (last : Moved) (moved count : ℕ) → IsFailure last → IsEndedAt last moved count → moved < count
-fails_at verdict.Hard moved count fails is = is
-fails_at (verdict.Faulted kind) moved count fails is = is
-fails_at other moved count fails is = absurd fails
-
 pub try_line : (line u id : ℕ) (w : World) (s : Replay) (last : Moved) (moved : ℕ) → Sound w → Shows u w s → InHand w u id → At u id w s
     → IsFailure last → IsJudged (unit_at w u) moved last
     → IsSaid line u id w s
@@ -168,7 +162,7 @@ try_line line u id w s last moved sound shows hand at fails due =
     let h : Held = held_in w (slot_in_hand (unit_at w u)) in
     let v : UnitView = unit_at w u in
     let task : IsTask v h (Judge moved last) = rw due.phase at at.ok.phase in
-    let none : (i : ℕ) → (transfer_of v).index ≡ Some i → moved ≡ 0 = one_sector (transfer_of v).index (transfer_of v).job (transfer_of v).done moved (fails_at last moved (engine.segment_of (transfer_of v)).count fails task.2) in
+    let none : (i : ℕ) → (transfer_of v).index ≡ Some i → moved ≡ 0 = one_sector (transfer_of v).index (transfer_of v).job (transfer_of v).done moved (failed_less last moved (engine.segment_of (transfer_of v)).count fails task.2) in
     let waits : told.waits (s.units u).stage ≡ false =
     rw (try_stage last h v (adapter_at w (adapter_of u)).state (s.units u) moved fails at.core due) refl in
     said_by line u id w s

@@ -7,11 +7,11 @@ use Rattle.trace_replay.specs.Script as script
 use Rattle.trace_replay.specs.Script.{Input}
 use Rattle.driver_machine.specs.World.{World, UnitView, unit_at, slot_in_hand, no_unit}
 use Rattle.driver_machine.specs.Acts as deed
-use Rattle.driver_machine.specs.Acts.{Act, Refuse, Submit, Of, Change, Nothing, Taken, effect, scene_of, joined, after}
+use Rattle.driver_machine.specs.Acts.{Act, Submit, Of, Change, effect, scene_of, joined, after}
 use Rattle.driver_machine.specs.Guards.{Allowed}
 use Rattle.driver_machine.specs.Sound.{Sound}
 use Rattle.driver_machine.proofs.Frame.{effect_same}
-use Rattle.driver_machine.proofs.KindStays.{online_kind}
+use Rattle.trace_replay.proofs.Kept.{online_kind}
 
 pub record IsSameUnit (v x : UnitView) : Type 0 where
   pub declared : x.declared ≡ v.declared

@@ -1,12 +1,10 @@
-//! That the parts of a replay agree, whatever legal beginning led to it, and what follows: work is conserved, and the causes of
-//! answers as they are known from the script and the packs alone. The functions here do nothing: each stands for a law.
+//! That the parts of a replay agree, whatever legal beginning led to it, and what follows of the causes of answers from the script
+//! and the packs alone. The functions here do nothing: each stands for a law.
 //!
 //! What is proved: `consistent_law`: in each state that a legal beginning reaches, stages, drives, adapters, ready units and
-//! the event agree. `work_law`: after each event all units are at work, so the rule of work follows from the others.
-//! `told_causes_law`: what follows of a cause from script and packs alone.
+//! the event agree. `told_causes_law`: what follows of a cause from script and packs alone.
 
 ghost use Rattle.driver_laws.specs.rules.Consistent.{StartsConsistent, StaysConsistent, IsAlwaysConsistent};
-ghost use Rattle.driver_laws.specs.rules.Working.{IsConserved, WorkFollows, AllWork, AreReady, AreEmptyFree, AreErrorFree, OneMoves, InterruptsAgree};
 ghost use Rattle.driver_laws.specs.rules.Grounds.{OfflineIsTold, LockedIsTold, UnforwardedIsHomeless, FaultIsTold};
 
 /// The units, their drives, the adapters and the event agree: at the start, behind each moment that may come, and so always.
@@ -14,20 +12,6 @@ pub fn consistent_law()
     ensures start { StartsConsistent }
     ensures step { StaysConsistent }
     ensures always { IsAlwaysConsistent }
-{}
-
-/// Work is conserved: behind each event all units are at work that have a request, so the rule of work follows from the others. A
-/// unit that waits has a ready drive, a free adapter has no unit ready, a drive has an error only where its completion is up, and an
-/// adapter transfers for one unit at a time, whose interrupt is due exactly where the completion is up.
-pub fn work_law()
-    ensures conserved { IsConserved }
-    ensures follows { WorkFollows }
-    ensures works { AllWork }
-    ensures ready { AreReady }
-    ensures empty { AreEmptyFree }
-    ensures errors { AreErrorFree }
-    ensures one { OneMoves }
-    ensures interrupt { InterruptsAgree }
 {}
 
 /// What follows of the causes of a legal run's answers from the script and the packs alone: offline only where the script had the unit

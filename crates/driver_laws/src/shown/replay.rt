@@ -7,9 +7,6 @@
 //! seen. `inputs_law`: the same of requests that join or are refused, and of conditions. `start_law`: at the start they fit.
 
 ghost use Rattle.driver_laws.specs.shown.Laws.{LinesAreSaid, SilentDeedsShow};
-ghost use Rattle.driver_laws.specs.shown.Moments.{LinesCome, DueIsWished, EventIsWished, ComingIsWished, AllAtWork, InputsShow, IdleShows};
-ghost use Rattle.driver_laws.specs.shown.Events.{EventsAreTheirs, BroughtIsWished};
-ghost use Rattle.driver_laws.specs.shown.Speech.{DueIsSpoken, BegunIsSpoken};
 ghost use Rattle.driver_laws.specs.shown.Acts.{StartIsShown, JoinsShow, RefusalsShow, ChangesShow, RestShows, SpeakersChange, WritesShow};
 
 /// The replay of the drives that are set up, and of their tables, shows the new world.
@@ -36,24 +33,4 @@ pub fn inputs_law()
 /// What a write gives a sector in the replay is the block of its buffer.
 pub fn writes_law()
     ensures writes { WritesShow }
-{}
-
-/// A line comes where it is wished: the unit that spoke last goes on, or leaves the word to the event, which brings the next line.
-/// Between two events all units are at work.
-pub fn moments_law()
-    ensures come { LinesCome }
-    ensures due { DueIsWished }
-    ensures event { EventIsWished }
-    ensures coming { ComingIsWished }
-    ensures brought { BroughtIsWished }
-    ensures events { EventsAreTheirs }
-    ensures at_work { AllAtWork }
-    ensures inputs { InputsShow }
-    ensures idle { IdleShows }
-{}
-
-/// What an event begins at a unit is told, and behind it what is due there, line by line, as long as worlds stay sound.
-pub fn speech_law()
-    ensures due { DueIsSpoken }
-    ensures begun { BegunIsSpoken }
 {}

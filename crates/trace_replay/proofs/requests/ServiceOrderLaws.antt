@@ -1,14 +1,13 @@
 -- Laws of the service order: the sort, the two runs, and how a queue with one more looks.
-use Rattle.std.proofs.Common.{◌≡◌, ℕ, ◌+◌, ◌<◌, ◌≤◌, nat_lt, Bool, true, false, not, ◌&&◌, ◌||◌, cond, List, [], ◌∷◌, ◌++◌, map, filter, length, zero, suc, slice_index_or, refl, sym, ◌∙◌, ap, subst, add-one, arith}
+use Rattle.std.proofs.Common.{◌≡◌, ℕ, ◌+◌, ◌<◌, ◌≤◌, nat_lt, Bool, true, false, not, ◌&&◌, ◌||◌, cond, List, [], ◌∷◌, ◌++◌, map, filter, length, zero, suc, slice_index_or, refl, sym, ◌∙◌, ap, subst, arith}
 use Rattle.std.proofs.lemmas.Bool.{cond_both, cond-true, cond-false}
 use Rattle.std.proofs.lemmas.Bool.Decides.{nat_tests}
-use Rattle.std.proofs.lemmas.List.{length-map}
 use Rattle.std.proofs.lemmas.List.Sorted.{IsPermutation-refl, IsPermutation-cons, IsPermutation-trans, IsPermutation-middle, IsPermutation-map, length_permutation, All-permutation}
 use Rattle.std.proofs.lemmas.List.Elements.{All-cons}
 use Rattle.std.specs.List.{All, AllByRecursion}
-use Rattle.std.specs.List.Sorted.{IsPermutation, IsSortedBy, IsNonDecreasingBy}
-use Rattle.trace_replay.specs.requests.ServiceOrder.{Waiting, is_before, put, service_order, Service, sweep_for, after_join, queue_of, waiting_from, service_of, queue_with, IsInOrder, IsTwoRuns, first_run, second_run, put_behind, put_in_run, in_runs, empty_service, Joins, Leaves, service_after}
-use Rattle.trace_replay.proofs.requests.ServiceOrderRuns.{Ascends, service_order-ascends, goes_before, put_in, inserted, AreRuns, are_runs, newcomer, counted, queue_with-inserted, queue_of-service_of}
+use Rattle.std.specs.List.Sorted.{IsPermutation, IsNonDecreasingBy}
+use Rattle.trace_replay.specs.requests.ServiceOrder.{Waiting, is_before, put, service_order, after_join, queue_of, service_of, queue_with, IsInOrder, IsTwoRuns, first_run, second_run, put_behind, put_in_run, in_runs, empty_service, Joins, Leaves, service_after}
+use Rattle.trace_replay.proofs.requests.ServiceOrderRuns.{goes_before, put_in, inserted, AreRuns, are_runs, newcomer, queue_with-inserted, queue_of-service_of}
 
 -- the sort: the same elements, and in order
 put-permutation : {A : Type 0} (x : Waiting A) (ys : List (Waiting A)) → IsPermutation (x ∷ ys) (put x ys)
@@ -24,16 +23,6 @@ service_order-permutation [] = IsPermutation-refl []
 service_order-permutation (x ∷ xs) =
     IsPermutation-trans (x ∷ xs) (x ∷ service_order xs) (put x (service_order xs))
     (IsPermutation-cons x xs (service_order xs) (service_order-permutation xs)) (put-permutation x (service_order xs))
-
-ascends-adjacent : {A : Type 0} (xs : List (Waiting A)) → Ascends xs → (k : ℕ) (d : Waiting A) → suc k < length xs
-    → is_before (slice_index_or xs (suc k) d) (slice_index_or xs k d) ≡ false
-ascends-adjacent [] h k d lt = absurd (omega arith)
-ascends-adjacent (x ∷ []) h k d lt = absurd (omega arith)
-ascends-adjacent (x ∷ y ∷ ys) h zero d lt = h.0.0
-ascends-adjacent (x ∷ y ∷ ys) h (suc k) d lt = ascends-adjacent (y ∷ ys) h.1 k d (omega arith)
-
-pub service_order-sorted : {A : Type 0} (xs : List (Waiting A)) → IsSortedBy is_before (service_order xs)
-service_order-sorted xs = λ k d lo lt. rw add-one (ascends-adjacent (service_order xs) (service_order-ascends xs) k d (omega arith))
 
 -- a queue with one more holds those of the queue and the one
 pub queue_with-permutation : {A : Type 0} (c : A → ℕ) (x : A) (q : List A) → IsPermutation (x ∷ q) (queue_with c x q)
@@ -180,64 +169,6 @@ inserted-runs c x (y ∷ ys) h = sym (cond-false _ _ _ (not_first (c y) (c x))) 
 
 pub queue_with-runs : {A : Type 0} (c : A → ℕ) (x : A) (q : List A) → IsInOrder c q → queue_with c x q ≡ in_runs c x q
 queue_with-runs c x q h = queue_with-inserted c x q h ∙ inserted-runs c x q h
-
--- a queue of requests, and that of what is seen of each
-abbrev relabelled : {A B : Type 0} → (A → B) → Waiting A → Waiting B
-relabelled f w = record { request = f w.request; sweep = w.sweep; cylinder = w.cylinder; ticket = w.ticket }
-
-map-cond : {A B : Type 0} (f : A → B) (b : Bool) (xs ys : List A) → map f (cond b xs ys) ≡ cond b (map f xs) (map f ys)
-map-cond f true xs ys = refl
-map-cond f false xs ys = refl
-
-relabelled-put : {A B : Type 0} (f : A → B) (x : Waiting A) (ys : List (Waiting A))
-    → map (relabelled f) (put x ys) ≡ put (relabelled f x) (map (relabelled f) ys)
-relabelled-put f x [] = refl
-relabelled-put f x (y ∷ ys) =
-    map-cond (relabelled f) (is_before y x) (y ∷ put x ys) (x ∷ y ∷ ys) ∙
-    ap (λ l. cond (is_before y x) (relabelled f y ∷ l) (relabelled f x ∷ relabelled f y ∷ map (relabelled f) ys)) (relabelled-put f x ys)
-
-relabelled-service_order : {A B : Type 0} (f : A → B) (xs : List (Waiting A))
-    → map (relabelled f) (service_order xs) ≡ service_order (map (relabelled f) xs)
-relabelled-service_order f [] = refl
-relabelled-service_order f (x ∷ xs) =
-    relabelled-put f x (service_order xs) ∙ ap (put (relabelled f x)) (relabelled-service_order f xs)
-
-relabelled-waiting_from : {A B : Type 0} (f : A → B) (c : B → ℕ) (h k : ℕ) (q : List A)
-    → map (relabelled f) (waiting_from (λ a. c (f a)) h k q) ≡ waiting_from c h k (map f q)
-relabelled-waiting_from f c h k [] = refl
-relabelled-waiting_from f c h k (x ∷ xs) = ap (λ l. counted c h k (f x) ∷ l) (relabelled-waiting_from f c h (k + 1) xs)
-
-map-relabelled : {A B : Type 0} (f : A → B) (ws : List (Waiting A)) → map f (map (λ w. w.request) ws) ≡ map (λ w. w.request) (map (relabelled f) ws)
-map-relabelled f [] = refl
-map-relabelled f (w ∷ ws) = ap (λ l. f w.request ∷ l) (map-relabelled f ws)
-
-sweep_for-relabelled : {A B : Type 0} (f : A → B) (n : ℕ) (ws : List (Waiting A)) → sweep_for n (map (relabelled f) ws) ≡ sweep_for n ws
-sweep_for-relabelled f n [] = refl
-sweep_for-relabelled f n (w ∷ ws) = refl
-
-abbrev service_relabelled : {A B : Type 0} → (A → B) → Service A → Service B
-service_relabelled f s = record { waiting = map (relabelled f) s.waiting; joined = s.joined }
-
-service_of-relabelled : {A B : Type 0} (f : A → B) (c : B → ℕ) (q : List A)
-    → service_relabelled f (service_of (λ a. c (f a)) q) ≡ service_of c (map f q)
-service_of-relabelled f c [] = refl
-service_of-relabelled f c (x ∷ xs) = both (relabelled-waiting_from f c (c (f x)) 0 (x ∷ xs)) (sym (length-map (x ∷ xs) f)) where
-  both : {B : Type 0} {v w : List (Waiting B)} {m n : ℕ} → v ≡ w → m ≡ n → (let s : Service B = record { waiting = v; joined = m } in s) ≡ record { waiting = w; joined = n }
-  both e k = cc
-
-after_join-relabelled : {A B : Type 0} (f : A → B) (c : B → ℕ) (x : A) (s : Service A)
-    → map f (queue_of (after_join (λ a. c (f a)) x s)) ≡ queue_of (after_join c (f x) (service_relabelled f s))
-after_join-relabelled f c x s =
-    let n = newcomer (λ a. c (f a)) x s.joined s.waiting in
-    map-relabelled f (service_order (n ∷ s.waiting)) ∙ ap (map (λ w. w.request)) (relabelled-service_order f (n ∷ s.waiting)) ∙
-    ap (λ k. map (λ w. w.request) (service_order (record { request = f x; sweep = k; cylinder = c (f x); ticket = s.joined } ∷ map (relabelled f) s.waiting)))
-    (sym (sweep_for-relabelled f (c (f x)) s.waiting))
-
-pub map-queue_with : {A B : Type 0} (f : A → B) (c : B → ℕ) (x : A) (q : List A)
-    → map f (queue_with (λ a. c (f a)) x q) ≡ queue_with c (f x) (map f q)
-unfolding queue_with
-map-queue_with f c x q =
-    after_join-relabelled f c x (service_of (λ a. c (f a)) q) ∙ ap (λ s. queue_of (after_join c (f x) s)) (service_of-relabelled f c q)
 
 -- Worked: cylinders 10, 50, 20, 5 and 20 join, as numbers 1 to 5; and a queue that empties begins anew.
 two_sweeps : map (λ (x : ℕ × ℕ). x.0) (queue_of (service_after (λ (x : ℕ × ℕ). x.1) empty_service
