@@ -26,6 +26,7 @@ a block `A` or blocks `A-B`, HH a byte in hexadecimal digits, RUNS are bytes as 
     @each N FIRST WORD ..    runs a command for N numbers from FIRST on, each in the place of `%`, and shows how many end with 0
     @trace, @commands        shows the trace, or its lines that read or write sectors
     @show U BLOCKS ..        shows what blocks hold
+    @keep, @kept             remembers what the packs hold; shows whether they hold just that still, byte for byte and mark for mark
     @size TEXT               shows how many bytes a text has, and their sum; TEXT is source, out or trace
     @has TEXT PIECE          whether it has the piece; `@times` how often; `@begins` whether it begins so, `@front` whether it is a front
     @fronts WORD ..          runs a command with each front of the source

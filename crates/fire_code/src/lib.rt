@@ -31,6 +31,7 @@ pub mod plain;
 pub mod tables;
 
 use crate::tables::{eight_steps, power};
+use arrayvec::ArrayVec;
 use std::marker::Model;
 
 /// A sector's 32 check bits: bit e is the coefficient of x^e.
@@ -138,44 +139,45 @@ fn is_noise(places: &[u16]) -> bool
 /// From 1 to 64 places of a word, each from 0 to 4127 and in ascending order, that are flipped when it is read.
 #[derive(Drop)]
 pub struct Noise {
-    places: [u16; 64],
-    count: u8,
+    places: ArrayVec<u16, 64>,
 }
 
 impl Model for Noise {
     ghost Value = { List ℕ };
 
-    ghost view = { λ n. take n.count n.places };
+    ghost view = { λ n. n.places.items };
 
-    ghost invariant = { λ n. (n.count ≤ 64) × IsNoise (take n.count n.places) };
+    ghost invariant = { λ n. IsNoise n.places.items };
 }
 
 impl Noise {
+    // The noise of places that are known to be some.
+    fn of(places: &[u16]) -> Noise
+        requires { IsNoise places.now }
+        ensures { result ≡ places.now }
+    {
+        let mut kept = ArrayVec::new();
+        kept.try_extend_from_slice(places).unwrap();
+        Noise { places: kept }
+    }
+
     /// The noise of these places. None exactly where the list is empty, longer than 64, not strictly ascending, or
     /// has a place above 4127.
     pub fn new(places: &[u16]) -> Option<Noise>
         ensures { SomeIff result (IsNoise places.now) places.now }
     {
-        if !is_noise(places) {
-            return None;
+        if is_noise(places) {
+            Some(Noise::of(places))
+        } else {
+            None
         }
-        let mut kept = [0; 64];
-        let count = places.len();
-        kept[..count].copy_from_slice(places);
-        Some(Noise {
-            places: kept,
-            count: count as u8,
-        })
     }
 
     /// The same noise again.
     pub fn copy(&self) -> Noise
         ensures { result ≡ self.now }
     {
-        Noise {
-            places: self.places,
-            count: self.count,
-        }
+        Noise::of(self.places())
     }
 
     /// Its places, in ascending order.
@@ -183,7 +185,7 @@ impl Noise {
         ensures value { result.now ≡ self.now }
         ensures noise { IsNoise self.now }
     {
-        &self.places[..usize::from(self.count)]
+        self.places.as_slice()
     }
 }
 

@@ -3,7 +3,7 @@
 #![tactic(auto)]
 
 use hpsim_run::run;
-use row_stage::{Program, RowPacks, RowSink, RowSource, Stage, Text, perform};
+use row_stage::{MemSink, MemSource, Program, RowPacks, Stage, Text, perform};
 use std::alloc::Global;
 use std::io;
 use std::io::Write;
@@ -16,10 +16,10 @@ impl Program for Simulator {
         &self,
         alloc: Global,
         words: &[String],
-        source: &mut RowSource<'_>,
+        source: &mut MemSource,
         packs: &mut RowPacks,
-        out: &mut RowSink,
-        trace: &mut RowSink,
+        out: &mut MemSink,
+        trace: &mut MemSink,
     ) -> u8 {
         run(alloc, words, source, packs, out, trace)
     }

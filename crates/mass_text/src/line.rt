@@ -41,6 +41,13 @@ impl LineBuf {
         }
     }
 
+    /// Takes the text away.
+    pub fn clear(&mut self)
+        ensures { self.new ≡ [] }
+    {
+        self.text.clear();
+    }
+
     /// The text put so far.
     pub fn as_bytes(&self) -> &[u8]
         ensures text { result.now ≡ self.now }

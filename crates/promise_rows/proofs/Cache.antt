@@ -1,5 +1,5 @@
 -- What is promised of the cache refuses these outcomes.
-use Rattle.std.proofs.Common.{◌≡◌, ℕ, ◌+◌, ◌-◌, ◌^◌, ◌<◌, ◌==◌, ◌&&◌, min, Bool, true, false, List, ◌∷◌, take, Option, None, Some, refl, sym, ap, ◌∙◌, arith}
+use Rattle.std.proofs.Common.{◌≡◌, ◌≢◌, ℕ, ◌+◌, ◌-◌, ◌^◌, ◌<◌, ◌==◌, ◌&&◌, min, Bool, true, false, List, ◌∷◌, take, Option, None, Some, refl, sym, ap, ◌∙◌, arith}
 use Rattle.std.specs.Prelude.{if◌then◌else◌}
 use Rattle.std.proofs.lemmas.Bool.{eq-eqb, ne_eqb}
 use Rattle.driver_laws.specs.declared.rules.cached.Entry.{Entry}
@@ -53,8 +53,22 @@ refused_insertion_not_counted line unit block given s s' old new reads none stil
     counted_or_there reads.held reads.refuses s unit block given (reads.gives ∙ ap (λ (d : Done). d.given) found)
     (sym (ap (λ (x : State). entry_of unit block x.entries) state) ∙ still) less (sym (ap (λ (x : State). x.refused) state) ∙ same)
 
+-- A READ THAT COUNTED one more refused insertion leaves the entries, but that there is room.
+found_keeps : (held : Option (List ℕ)) (refuses : Bool) (s : State) (unit block : ℕ)
+    → (read_found held refuses s unit block).state.refused ≢ s.refused → (read_found held refuses s unit block).state.entries ≡ (with_room s).entries
+found_keeps None refuses s unit block counted = absurd (counted refl)
+found_keeps (Some bytes) true s unit block counted = refl
+found_keeps (Some bytes) false s unit block counted = absurd (counted refl)
+
+read_keeps : (e : Option Entry) (held : Option (List ℕ)) (refuses : Bool) (s : State) (unit block : ℕ)
+    → (read_by e held refuses s unit block).state.refused ≢ s.refused → (read_by e held refuses s unit block).state.entries ≡ (with_room s).entries
+read_keeps (Some e) held refuses s unit block counted = absurd (counted refl)
+read_keeps None held refuses s unit block counted = found_keeps held refuses s unit block counted
+
 pub refused_insertion_promotes : RefusedInsertionPromotes
-refused_insertion_promotes e s s' is other = other (ap (λ (t : State). t.entries) is)
+refused_insertion_promotes line unit block given s s' old new reads counted other =
+    other (ap (λ (t : State). t.entries) reads.state
+    ∙ read_keeps (entry_of unit block s.entries) reads.held reads.refuses s unit block (λ same. counted (ap (λ (t : State). t.refused) reads.state ∙ same)))
 
 -- a write of one block leaves another
 pub another_block_written : AnotherBlockWritten

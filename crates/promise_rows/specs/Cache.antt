@@ -3,7 +3,7 @@ use Rattle.std.specs.Prelude.{◌≡◌, ◌≢◌, ℕ, ◌-◌, ◌^◌, ◌<�
 use Rattle.driver_laws.specs.rules.Rest.{HasTables}
 use Rattle.driver_laws.specs.declared.rules.cached.Entry.{Entry}
 use Rattle.driver_laws.specs.rules.Requests.{writes}
-use Rattle.driver_laws.specs.rules.Entries.{State, entry_of, put}
+use Rattle.driver_laws.specs.rules.Entries.{State, entry_of, with_room}
 use Rattle.driver_laws.specs.rules.Contents.{AllFit}
 use Rattle.cached_run.specs.Asks.{Asks, Fetches}
 use Rattle.cached_run.specs.Passes.{Stage, map_at, setup_at}
@@ -31,9 +31,11 @@ abbrev pub SyncStopsEarly : Type 0
 SyncStopsEarly = (line : ℕ) (e : Entry) (s s' : State) (old new : Stage) → Syncs line s s' old new → IsTrue new.packs_tell → HasTables (setup_at old) → AllFit (map_at old) s.entries
     → entry_of e.unit e.block s.entries ≡ Some e → ¬ (map_at new e.unit e.block ≢ Some e.bytes)
 
--- A REFUSED INSERTION PROMOTES another entry: the order of the entries is not what it was.
+-- A REFUSED INSERTION PROMOTES another entry: a read counted one more, and the entries or their order are not what they were, but that the
+-- last one of a full cache is written back.
 abbrev pub RefusedInsertionPromotes : Type 0
-RefusedInsertionPromotes = (e : Entry) (s s' : State) → s' ≡ put true e s → ¬ (s'.entries ≢ s.entries)
+RefusedInsertionPromotes = (line unit block : ℕ) (given : Option (List ℕ)) (s s' : State) (old new : Stage) → Reads line unit block given s s' old new
+    → s'.refused ≢ s.refused → ¬ (s'.entries ≢ (with_room s).entries)
 
 -- ANOTHER BLOCK IS WRITTEN than the one that was to be.
 abbrev pub AnotherBlockWritten : Type 0

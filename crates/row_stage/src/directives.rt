@@ -2,7 +2,7 @@
 // each other line is one of the source.
 use crate::row_packs::RowPacks;
 use crate::scenes::{Program, operation_of};
-use crate::shows::{compare, show_block, show_commands, show_size, show_trace};
+use crate::shows::{compare, show_block, show_commands, show_kept, show_size, show_trace};
 use crate::stage::Stage;
 use crate::stops::stops;
 use crate::sweeps::{counts, each, fronts, play};
@@ -54,6 +54,7 @@ fn arrange(stage: &mut Stage, verb: Verb, rest: &str) {
         Verb::Watch(rule) => add_watches(stage, rule, rest),
         Verb::Unit | Verb::Length => set_unit(&mut stage.scene.packs, verb, rest),
         Verb::Block => put_blocks(stage, rest),
+        Verb::Keep => stage.whole.packs.copy(&stage.scene.packs),
         _ => {}
     }
 }
@@ -61,10 +62,11 @@ fn arrange(stage: &mut Stage, verb: Verb, rest: &str) {
 /// Shows what a line asks for.
 fn show(stage: &Stage, page: &mut Text, verb: Verb, rest: &str) {
     match verb {
-        Verb::Trace => show_trace(page, stage.scene.trace.taken()),
-        Verb::Commands => show_commands(page, stage.scene.trace.taken()),
+        Verb::Trace => show_trace(page, stage.scene.trace.bytes()),
+        Verb::Commands => show_commands(page, stage.scene.trace.bytes()),
         Verb::Size => show_size(page, rest, stage.text(rest)),
         Verb::Compare(relation) => compare(stage, page, relation, rest),
+        Verb::Kept => show_kept(stage, page),
         _ => {}
     }
 }

@@ -8,15 +8,14 @@ mod scenes;
 mod shows;
 mod stage;
 mod stops;
-mod streams;
 mod sweeps;
 mod texts;
 mod verbs;
 mod watches;
 
 pub use directives::perform;
+pub use mass_outside::mem_streams::{MemSink, MemSource};
 pub use row_packs::RowPacks;
 pub use scenes::Program;
 pub use stage::Stage;
-pub use streams::{RowSink, RowSource};
 pub use texts::Text;

@@ -73,6 +73,26 @@ impl RowPacks {
         self.units = units;
     }
 
+    /// Whether the first so many blocks of a unit, and how long its image is, are the same on other packs.
+    fn has_same(&self, other: &RowPacks, unit: u8) -> bool {
+        let room = self.units[unit as usize % 32]
+            .room
+            .max(other.units[unit as usize % 32].room);
+        for block in 0..room.min(500_384) as u32 {
+            let one = self.block(unit, block);
+            let two = other.block(unit, block);
+            if one.bytes != two.bytes || one.is_marked != two.is_marked {
+                return false;
+            }
+        }
+        self.units[unit as usize % 32].length == other.units[unit as usize % 32].length
+    }
+
+    /// Whether other packs hold just the same, byte for byte and mark for mark.
+    pub(crate) fn is_same(&self, other: &RowPacks) -> bool {
+        (0..32u8).all(|unit| self.has_same(other, unit))
+    }
+
     /// From now on these calls fail.
     pub(crate) fn fail(&mut self, fails: [u64; 8]) {
         self.fails = fails;

@@ -1,6 +1,8 @@
 // Runs of the program's commands, and what they come to.
 use crate::row_packs::RowPacks;
-use crate::streams::{RowSink, RowSource};
+use crate::texts::Text;
+use mass_outside::mem_streams::{MemSink, MemSource};
+use outside_traits::traits::NoMemory;
 use std::alloc::Global;
 
 /// A program that runs the words of a command over packs, source and sinks, and answers its status.
@@ -9,10 +11,10 @@ pub trait Program {
         &self,
         alloc: Global,
         words: &[String],
-        source: &mut RowSource<'_>,
+        source: &mut MemSource,
         packs: &mut RowPacks,
-        out: &mut RowSink,
-        trace: &mut RowSink,
+        out: &mut MemSink,
+        trace: &mut MemSink,
     ) -> u8;
 }
 
@@ -85,9 +87,11 @@ pub(crate) fn one_fault(operation: Operation, number: u64) -> Faults {
 pub(crate) struct Scene {
     alloc: Global,
     pub(crate) packs: RowPacks,
-    pub(crate) out: RowSink,
-    pub(crate) trace: RowSink,
+    /// What was printed.
+    pub(crate) out: Text,
+    pub(crate) trace: Text,
     pub(crate) status: u8,
+    is_short: bool,
 }
 
 impl Scene {
@@ -96,15 +100,43 @@ impl Scene {
         Scene {
             alloc,
             packs: RowPacks::new(alloc),
-            out: RowSink::new(alloc),
-            trace: RowSink::new(alloc),
+            out: Text::new(alloc),
+            trace: Text::new(alloc),
             status: 0,
+            is_short: false,
         }
     }
 
     /// Whether something found no room in memory.
     pub(crate) fn is_short(&self) -> bool {
-        self.packs.is_short || self.out.is_short() || self.trace.is_short()
+        let is_short = self.out.is_short() || self.trace.is_short();
+        is_short || self.packs.is_short || self.is_short
+    }
+
+    /// A sink with so much room, of which this call fails.
+    fn sink(&self, room: usize, fail: u64) -> Result<MemSink, NoMemory> {
+        MemSink::new(self.alloc, room, Vec::from_slice(self.alloc, &[fail])?)
+    }
+
+    /// Runs the words of a command; `NoMemory` where a stream finds no room in memory.
+    fn run_words<P: Program>(
+        &mut self,
+        program: &P,
+        words: &[String],
+        source: &[u8],
+        faults: &Faults,
+    ) -> Result<(), NoMemory> {
+        let calls = &faults.fails;
+        let fails = Vec::from_slice(self.alloc, &[calls[Operation::Source as usize]])?;
+        let mut source = MemSource::new(Vec::from_slice(self.alloc, source)?, fails);
+        let mut out = self.sink(faults.out_room, calls[Operation::Out as usize])?;
+        let mut trace = self.sink(faults.trace_room, calls[Operation::Trace as usize])?;
+        self.packs.fail(faults.fails);
+        let packs = &mut self.packs;
+        self.status = program.run(self.alloc, words, &mut source, packs, &mut out, &mut trace);
+        self.out.add_bytes(out.taken());
+        self.trace.add_bytes(trace.taken());
+        Ok(())
     }
 
     /// Runs the words of a command.
@@ -115,19 +147,9 @@ impl Scene {
         source: &[u8],
         faults: &Faults,
     ) {
-        let mut source = RowSource::new(source, faults.fails[Operation::Source as usize]);
-        self.packs.fail(faults.fails);
-        self.out
-            .begin(faults.out_room, faults.fails[Operation::Out as usize]);
-        self.trace
-            .begin(faults.trace_room, faults.fails[Operation::Trace as usize]);
-        self.status = program.run(
-            self.alloc,
-            words,
-            &mut source,
-            &mut self.packs,
-            &mut self.out,
-            &mut self.trace,
-        );
+        self.out.clear();
+        self.trace.clear();
+        let ran = self.run_words(program, words, source, faults);
+        self.is_short |= ran.is_err();
     }
 }

@@ -43,6 +43,16 @@ pub(crate) fn show_block(packs: &RowPacks, page: &mut Text, unit: u8, number: u3
     page.add(if block.is_marked { " marked\n" } else { "\n" });
 }
 
+/// Shows whether the packs hold what was remembered: each image and each mark, byte for byte.
+pub(crate) fn show_kept(stage: &Stage, page: &mut Text) {
+    let is_kept = stage.scene.packs.is_same(&stage.whole.packs);
+    page.add(if is_kept {
+        "packs as they were\n"
+    } else {
+        "packs changed\n"
+    });
+}
+
 /// The sum of bytes modulo 2^32.
 fn sum_of(text: &[u8]) -> u32 {
     let mut sum = 0u32;

@@ -54,8 +54,8 @@ impl Stage {
     pub(crate) fn text(&self, name: &str) -> &[u8] {
         match name {
             "source" => self.source.bytes(),
-            "out" => self.scene.out.taken(),
-            _ => self.scene.trace.taken(),
+            "out" => self.scene.out.bytes(),
+            _ => self.scene.trace.bytes(),
         }
     }
 

@@ -15,10 +15,10 @@ fn wanted(operation: Operation) -> u8 {
 
 /// What of the texts of a run that stopped is not as in the whole run; "" where all is.
 fn texts_amiss(whole: &Scene, left: &Scene) -> &'static str {
-    if !whole.out.taken().starts_with(left.out.taken()) {
+    if !whole.out.bytes().starts_with(left.out.bytes()) {
         return "its text is no front";
     }
-    if !whole.trace.taken().starts_with(left.trace.taken()) {
+    if !whole.trace.bytes().starts_with(left.trace.bytes()) {
         return "its trace is no front";
     }
     ""
@@ -27,8 +27,8 @@ fn texts_amiss(whole: &Scene, left: &Scene) -> &'static str {
 /// Whether a run that stopped printed the answers of the requests that it traced the ends of; the last of them may be missing where no
 /// call of the packs failed.
 fn has_answers(left: &Scene) -> bool {
-    let answers = times(left.out.taken(), b"ans ");
-    let ends = times(left.trace.taken(), b"end ");
+    let answers = times(left.out.bytes(), b"ans ");
+    let ends = times(left.trace.bytes(), b"end ");
     answers == ends || answers < ends && left.status != 6
 }
 
@@ -60,8 +60,8 @@ fn has_whole_packs(stage: &Stage) -> bool {
 
 /// What a run came to that does not stop.
 fn end_of(stage: &Stage) -> &'static str {
-    let is_printed = stage.left.out.taken() == stage.whole.out.taken();
-    let is_traced = stage.left.trace.taken() == stage.whole.trace.taken();
+    let is_printed = stage.left.out.bytes() == stage.whole.out.bytes();
+    let is_traced = stage.left.trace.bytes() == stage.whole.trace.bytes();
     if is_printed && is_traced && has_whole_packs(stage) {
         return "done";
     }

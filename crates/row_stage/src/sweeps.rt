@@ -18,7 +18,7 @@ pub(crate) fn play<P: Program>(
     page.add(line);
     page.add_number(": status ", u64::from(stage.scene.status), "\n");
     if is_shown {
-        show_text(page, stage.scene.out.taken());
+        show_text(page, stage.scene.out.bytes());
     }
 }
 
@@ -58,7 +58,7 @@ pub(crate) fn counts<P: Program>(program: &P, stage: &mut Stage, page: &mut Text
         if stage.left.status == 0 {
             break;
         }
-        let count = times(stage.left.trace.taken(), word.as_bytes());
+        let count = times(stage.left.trace.bytes(), word.as_bytes());
         if stage.left.status == 6 && count == next {
             page.add_number(" ", next, "");
             next = next.saturating_add(1);

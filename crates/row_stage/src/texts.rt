@@ -1,6 +1,7 @@
 //! What rows are written with: numbers, ranges of blocks, bytes as runs, and pieces of text. A text that finds no memory remembers it, so
 //! that one question at the end is enough. For tests alone: that it does no harm and ends is all that is proved.
 
+use hex::FromHex;
 use itoa::Buffer;
 use std::alloc::Global;
 
@@ -27,14 +28,10 @@ pub(crate) fn span(text: &str) -> (u32, u32) {
     (first, last.saturating_add(1))
 }
 
-/// A byte in hexadecimal digits; 0 where it is none.
+/// A byte by its two hexadecimal digits; 0 where it is none.
 fn hex_byte(text: &str) -> u8 {
-    u8::from_str_radix(text, 16).unwrap_or(0)
-}
-
-/// A hexadecimal digit.
-fn digit(value: u8) -> u8 {
-    b"0123456789abcdef"[value as usize % 16]
+    let bytes = <[u8; 1]>::from_hex(text).unwrap_or([0]);
+    bytes[0]
 }
 
 /// The byte that one of a text stands for: `|` for LF and `^` for CR.
@@ -128,7 +125,9 @@ impl Text {
 
     /// Puts a byte as two hexadecimal digits behind it.
     fn add_hex(&mut self, byte: u8) {
-        self.add_bytes(&[digit(byte / 16), digit(byte)]);
+        let mut digits = [0; 2];
+        self.is_short |= hex::encode_to_slice([byte], &mut digits).is_err();
+        self.add_bytes(&digits);
     }
 
     /// Puts the digits of a block behind it: its first byte is this one, and each other one is higher by one.

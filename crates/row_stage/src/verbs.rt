@@ -30,12 +30,16 @@ pub(crate) enum Verb {
     Show,
     Size,
     Compare(Relation),
+    /// Remembers what the packs hold.
+    Keep,
+    /// Shows whether they hold it still.
+    Kept,
     /// It is one of the source.
     Line,
 }
 
 /// The words for what lines do.
-static VERBS: [(&str, Verb); 30] = [
+static VERBS: [(&str, Verb); 32] = [
     ("@run", Verb::Run(true)),
     ("@try", Verb::Run(false)),
     ("@each", Verb::Each),
@@ -66,6 +70,8 @@ static VERBS: [(&str, Verb); 30] = [
     ("@has", Verb::Compare(Relation::Has)),
     ("@begins", Verb::Compare(Relation::Begins)),
     ("@front", Verb::Compare(Relation::IsFront)),
+    ("@keep", Verb::Keep),
+    ("@kept", Verb::Kept),
 ];
 
 /// What a line with this first word does.

@@ -84,12 +84,12 @@ fn is_new(stage: &Stage, watch: &Watch) -> bool {
 /// Whether the run that stopped has traced the text of a watched block.
 fn is_told(stage: &Stage, watch: &Watch) -> bool {
     let text = stage.texts.bytes().get(watch.from..watch.end);
-    holds(stage.left.trace.taken(), text.unwrap_or(b""))
+    holds(stage.left.trace.bytes(), text.unwrap_or(b""))
 }
 
 /// Whether a watched block is one byte throughout that it may hold.
 fn is_left(stage: &Stage, watch: &Watch) -> bool {
-    let is_synced = holds(stage.left.out.taken(), stage.answer.bytes());
+    let is_synced = holds(stage.left.out.bytes(), stage.answer.bytes());
     let from = if is_synced { watch.synced } else { watch.from };
     let fills = stage.texts.bytes().get(from..watch.end).unwrap_or(b"");
     let bytes = stage.left.packs.block(watch.unit, watch.block).bytes;
@@ -102,7 +102,7 @@ fn is_right(stage: &Stage, watch: &Watch, is_front: bool) -> bool {
         Rule::Told => is_new(stage, watch) || is_old(stage, watch) && !is_told(stage, watch),
         Rule::Order => {
             let is_whole = is_front && is_new(stage, watch);
-            stage.left.out.taken().is_empty() && (is_whole || is_old(stage, watch))
+            stage.left.out.bytes().is_empty() && (is_whole || is_old(stage, watch))
         }
         Rule::Left => is_left(stage, watch),
     }

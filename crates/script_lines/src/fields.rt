@@ -54,17 +54,11 @@ pub fn seq_field(field: &[u8]) -> Result<u8, ScriptKind>
     Ok(value as u8)
 }
 
-/// Whether a byte is a hexadecimal digit, of either case.
-fn is_hex_digit(byte: u8) -> bool
-    ensures { result ≡ is_hex_digit byte }
-{
-    (65 <= byte && byte <= 70) || (97 <= byte && byte <= 102) || (48 <= byte && byte <= 57)
-}
-
+/// Whether all bytes are hexadecimal digits, of either case.
 fn are_digits(field: &[u8]) -> bool
     ensures { result ≡ list_all is_hex_digit field.now }
 {
-    field.iter().all(|byte| is_hex_digit(*byte))
+    field.iter().all(|byte| byte.is_ascii_hexdigit())
 }
 
 /// Whether a field is 1,024 hexadecimal digits for each of `count` blocks.

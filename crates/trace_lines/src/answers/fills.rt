@@ -1,9 +1,9 @@
 // The line of a block whose bytes are all one byte, put together from its end.
-ghost use Rattle.std.specs.Prelude.{ℕ, ◌≡◌, ◌≤◌, ◌+◌, ◌++◌, length, replicate, decimal};
+ghost use Rattle.std.specs.Prelude.{ℕ, ◌≡◌, ◌≤◌, ◌+◌, ◌*◌, ◌++◌, length, replicate, decimal};
+ghost use Rattle.std.specs.List.{flat_map};
 ghost use Rattle.mass_text.specs.BlockText.{hex_byte};
 ghost use Rattle.trace_lines.specs.answers.AnswerText.{block_text};
 
-use crate::answers::blocks::write_digits;
 use mass_text::FrontLine;
 
 /// How many bytes the line has at most, with room to spare.
@@ -14,6 +14,14 @@ const ROOM: usize = 96;
 
 /// The text of the line of a block of a read whose bytes are all one byte.
 pub type FillLine = FrontLine<ROOM, END>;
+
+/// Writes two hexadecimal digits for each byte.
+fn write_digits(bytes: &[u8], digits: &mut [u8])
+    requires { length digits.old ≡ 2 * length bytes.now }
+    ensures { digits.new ≡ flat_map hex_byte bytes.now }
+{
+    hex::encode_to_slice(bytes, digits).unwrap();
+}
 
 /// The two hexadecimal digits of a byte.
 fn digits_of(byte: u8) -> [u8; 2]
