@@ -2,7 +2,7 @@
 ghost use Rattle.std.specs.Prelude.{◌≡◌, ◌≤◌, ◌<◌, ◌+◌, ◌^◌, true, false, IsTrue};
 ghost use Rattle.pack_geometry.specs.Geometry.{sectors_of};
 ghost use Rattle.hardware_table.specs.Drive.{new_drive, register_of, is_writable, with_register, is_ready, is_positioning, is_transferring, status, on, type_word};
-ghost use Rattle.hardware_table.specs.Functions.{is_addressed, refusals, effect, performed, needs_online};
+ghost use Rattle.hardware_table.specs.Functions.{is_addressed, refusals, effect, performed, needs_online, attached};
 ghost use Rattle.drive_registers.specs.declared.Function.TheVariants.{Clear, Preset};
 ghost use Rattle.hardware_table.specs.declared.Work.TheVariants.{Positioning};
 ghost use Rattle.hardware_table.specs.Events.{arrived, attention_cleared, transfer_ended, turned, online_set, locked_set, times_armed, fault_armed};
@@ -114,6 +114,18 @@ impl Drive {
         } else {
             self.refuse(refusals);
         }
+    }
+
+    /// Attaches a drive that is ready and online: PRESET, and then PACK, which acknowledges its pack; its offset register says the
+    /// 16-bit format and no offset.
+    pub fn attach(&mut self)
+        requires ready { is_ready self.old.work ≡ true }
+        requires online { self.old.online ≡ true }
+        ensures { self.new ≡ attached self.old }
+    {
+        self.go(Function::Preset);
+        self.go(Function::Pack);
+        self.write_register(Register::Of, Of::FMT22.bits());
     }
 
     // Does a function that is not refused.
@@ -274,20 +286,20 @@ impl Drive {
         }
     }
 
-    // The drive status.
+    // The drive status, put together from its low bits upwards.
     fn status(&self) -> u16
         ensures { result ≡ status self.now }
     {
         let has_error = self.er1.bits() != 0 || self.er2.bits() != 0;
         let is_positioning = matches!(self.work, Work::Positioning { .. });
         let is_ready = matches!(self.work, Work::Ready);
-        bit(self.attention, Ds::ATA)
-            | (bit(has_error, Ds::ERR)
-                | (bit(is_positioning, Ds::PIP)
-                    | (bit(self.online, Ds::MOL)
-                        | (bit(self.locked, Ds::WRL)
-                            | (Ds::DPR.bits()
-                                | (bit(is_ready, Ds::DRY) | bit(self.valid, Ds::VV)))))))
+        let status = bit(is_ready, Ds::DRY) | bit(self.valid, Ds::VV);
+        let status = Ds::DPR.bits() | status;
+        let status = bit(self.locked, Ds::WRL) | status;
+        let status = bit(self.online, Ds::MOL) | status;
+        let status = bit(is_positioning, Ds::PIP) | status;
+        let status = bit(has_error, Ds::ERR) | status;
+        bit(self.attention, Ds::ATA) | status
     }
 
     // Whether Dc and Da name a sector of the drive.

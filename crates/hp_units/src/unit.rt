@@ -3,7 +3,7 @@ ghost use Rattle.std.specs.Prelude.{ℕ, ◌≡◌, ◌<◌, ◌≤◌, ◌+◌,
 ghost use Rattle.pack_geometry.specs.Geometry.{cylinders_of, sectors_of, IsInside};
 ghost use Rattle.drive_registers.specs.Codes.{offset_field};
 ghost use Rattle.hardware_table.specs.declared.Moved.{Moved};
-ghost use Rattle.hardware_table.specs.Drive.{DriveState, is_positioning};
+ghost use Rattle.hardware_table.specs.Drive.{DriveState, is_positioning, status};
 ghost use Rattle.hardware_table.specs.Events.{turned, online_set, locked_set, fault_armed, times_armed};
 ghost use Rattle.hp_interrupts.specs.Verdicts.{IsLeftBy, AreLeft, registers_of, cause_of};
 ghost use Rattle.seek_engine.specs.Seek.{position_for};
@@ -21,7 +21,7 @@ use bad144_table::BadTable;
 use bitflags::Flags;
 use disksort::SortQueue;
 use drive_model::Drive;
-use drive_registers::{Ds, Function, OFFSET_CODE, Of, RM03_TYPE, RP06_TYPE};
+use drive_registers::{Ds, OFFSET_CODE, RM03_TYPE, RP06_TYPE};
 use driver_machine::{Phase, RetryStep};
 use hardware_table::{FaultKind, Register, status_law};
 use hp_interrupts::{DataCause, Sensed, TransferRegs, data_interrupt, needs_pack, sense};
@@ -70,14 +70,12 @@ impl Model for DiskUnit {
     ghost invariant = { λ u. u.declared ≡ true → (u.queue.capacity ≡ 16384) × (u.queue.cylinders ≡ 823) };
 }
 
-/// A drive as it is attached: its volume is acknowledged, and its offset register says the format and no offset.
+/// A new drive, attached.
 fn attached_drive(kind: DriveKind, unit: u8) -> Drive
     ensures { result ≡ attached kind unit }
 {
     let mut drive = Drive::new(kind, u16::from(unit));
-    drive.go(Function::Preset);
-    drive.go(Function::Pack);
-    drive.write_register(Register::Of, Of::FMT22.bits());
+    drive.attach();
     drive
 }
 
@@ -148,12 +146,19 @@ impl DiskUnit {
         self.phase
     }
 
+    /// The drive status register.
+    fn drive_status(&self) -> Ds
+        ensures { result.0 ≡ status self.now.drive }
+    {
+        Ds::from_bits_retain(self.drive.read_register(Register::Ds))
+    }
+
     /// Whether the drive positions.
     pub fn is_positioning(&self) -> bool
         ensures { result ≡ is_positioning self.now.drive.work }
     {
         status_law();
-        self.drive.read_register(Register::Ds) & Ds::PIP.bits() != 0
+        self.drive_status().contains(Ds::PIP)
     }
 
     /// Whether the drive's attention is up.
@@ -161,7 +166,7 @@ impl DiskUnit {
         ensures { result ≡ self.now.drive.attention }
     {
         status_law();
-        self.drive.read_register(Register::Ds) & Ds::ATA.bits() != 0
+        self.drive_status().contains(Ds::ATA)
     }
 
     /// The kind of the drive.

@@ -1,9 +1,9 @@
 -- What a move through a window leaves of the memory.
-use Rattle.std.proofs.Common.{◌≡◌, ℕ, List, Bool, true, false, MatchBool, if◌then◌else◌, sym, ap, ◌∙◌}
+use Rattle.std.proofs.Common.{◌≡◌, ℕ, List, Bool, true, false, MatchBool, if◌then◌else◌, sym, ap, ◌∙◌, subst}
 use Rattle.main_memory.specs.declared.span.Span.{Span}
 use Rattle.main_memory.specs.declared.window.Window.{Window}
 use Rattle.main_memory.specs.Blocks.{Loan, span_of, bytes_in}
-use Rattle.main_memory.specs.Memory.{Memory, with_span, with_block}
+use Rattle.main_memory.specs.Memory.{Memory, IsLent, with_span, with_block}
 use Rattle.main_memory.specs.Windows.{Writes, IsOn, memory_of, window_bytes}
 use Rattle.hardware_table.specs.declared.Moved.{Moved}
 use Rattle.hardware_table.specs.Drive.{DriveState}
@@ -11,11 +11,11 @@ use Rattle.hardware_table.specs.Events.{transfer_ended}
 use Rattle.hardware_table.specs.Moves.{after_move}
 use Rattle.hardware_table.specs.Adapter.{AdapterState, next_block, stepped, drive_stepped}
 
--- the same frames are free
-pub free_after : (was_read : Bool) (loan : Loan) (k : ℕ) (block : List ℕ) (memory memory' : Memory)
-    → memory' ≡ (if was_read then with_block loan k block memory else memory) → memory'.free ≡ memory.free
-free_after true loan k block memory memory' after = ap (λ (m : Memory). m.free) after
-free_after false loan k block memory memory' after = ap (λ (m : Memory). m.free) after
+-- what was lent stays lent
+pub lent_after : (was_read : Bool) (loan other : Loan) (k : ℕ) (block : List ℕ) (memory memory' : Memory)
+    → memory' ≡ (if was_read then with_block loan k block memory else memory) → IsLent memory other → IsLent memory' other
+lent_after true loan other k block memory memory' after lent = subst (λ (m : Memory). IsLent m other) (sym after) lent
+lent_after false loan other k block memory memory' after lent = subst (λ (m : Memory). IsLent m other) (sym after) lent
 
 -- the window is on the same block
 pub same_span : (was_read : Bool) (old new : Window) (block : List ℕ) → MatchBool was_read (Writes old new block) (new ≡ old) → new.span ≡ old.span

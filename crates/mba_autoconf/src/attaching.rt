@@ -14,10 +14,7 @@ ghost use Rattle.mba_autoconf.specs.Attach.{Answers, IsLong};
 
 use crate::probing::kind_of_drive;
 use bad144_table::{BadTable, entries, table_of};
-use bitflags::Flags;
 use drive_model::Drive;
-use drive_registers::{Function, Of};
-use hardware_table::Register;
 use outside_traits::traits::{Packs, StoreFailed};
 use pack_geometry::packs::pack_table_law;
 use pack_geometry::{DriveKind, blocks};
@@ -85,9 +82,7 @@ pub fn attach<P: Packs>(drive: &mut Drive, packs: &mut P, unit: u8) -> Result<At
     ensures store { IsErrOf result AttachFault.Store → Rose (P.faults packs.old) (P.faults packs.new) }
 {
     let kind = kind_of_drive(drive);
-    drive.go(Function::Preset);
-    drive.go(Function::Pack);
-    drive.write_register(Register::Of, Of::FMT22.bits());
+    drive.attach();
     let length = packs.length(unit)?;
     if length > 512 * u64::from(blocks(kind)) {
         return Err(AttachFault::TooLong { length });

@@ -146,6 +146,14 @@ module _ (m : Memory) (slots : List (Option Slot)) (p : ℕ) (loan : Loan) (k : 
   sound_step (Ok v) read moved failed = sound_of (read v) moved
   sound_step (Err e) read moved failed = sound_of false failed
 
+  free_of : (read : Bool) → m' ≡ after read → m'.free ≡ m.free
+  free_of true is = ap (λ (x : Memory). x.free) is
+  free_of false is = ap (λ (x : Memory). x.free) is
+
+  pub free_step : {V E : Type 0} (r : Result V E) (read : V → Bool) → IfOk r (λ v. m' ≡ after (read v)) → OnErr r (m' ≡ m) → m'.free ≡ m.free
+  free_step (Ok v) read moved failed = free_of (read v) moved
+  free_step (Err e) read moved failed = ap (λ (x : Memory). x.free) failed
+
   shown_of : (read : Bool) → m' ≡ after read → IsMemory m' → m'.free ≡ m.free → as_seen m' slots ≡ shown read
   shown_of true reads sound free =
       seen_written m slots p loan k kept at m' (bytes_in (span_of loan k) m'.bytes) (whole_read m slots p loan k kept at m' reads) reads

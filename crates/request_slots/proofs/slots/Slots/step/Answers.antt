@@ -9,7 +9,7 @@ use Rattle.request_slots.specs.Requests.{held_at}
 use Rattle.request_slots.specs.Stored.{loan_of, all_slots, as_seen, IsKept}
 use Rattle.request_slots.proofs.HolderLaws.{stands, adapter_has}
 use Rattle.request_slots.proofs.SlotLaws.{loan_at}
-use Rattle.request_slots.proofs.StepLaws.{IsMoved, moved_block, length-moved_block, kept-same_frames, sound_step, shown_step, moves_as, unchanged_step}
+use Rattle.request_slots.proofs.StepLaws.{IsMoved, moved_block, length-moved_block, kept-same_frames, sound_step, free_step, shown_step, moves_as, unchanged_step}
 use Rattle.request_slots.proofs.slots.Slots.step.Goals as goal
 use Rattle.request_slots.proofs.slots.Slots.step.Given.{Over}
 
@@ -40,9 +40,14 @@ sound g c =
     sound_step c.self.inside.memory (all_slots c.self.inside.slots) c.args.slot c.in-Adapter.buffer (next_window c.args.adapter.now) c.self.invariant (moved g c) c.step_sector.new.memory
     c.step_sector.result (was_read c.args.drive.now) c.step_sector.ensures.memory (search rules)
 
+free : (g : Over) (c : goal.After-step_sector g) → c.step_sector.new.memory.free ≡ c.self.inside.memory.free
+free g c =
+    free_step c.self.inside.memory (all_slots c.self.inside.slots) c.args.slot c.in-Adapter.buffer (next_window c.args.adapter.now) c.self.invariant (moved g c) c.step_sector.new.memory
+    c.step_sector.result (was_read c.args.drive.now) c.step_sector.ensures.memory (search rules)
+
 kept : (g : Over) (c : goal.After-step_sector g) → IsKept c.step_sector.new.memory (all_slots c.self.inside.slots)
 kept g c =
-    kept-same_frames c.self.inside.memory c.step_sector.new.memory (all_slots c.self.inside.slots) c.self.invariant c.step_sector.ensures.free (sound g c)
+    kept-same_frames c.self.inside.memory c.step_sector.new.memory (all_slots c.self.inside.slots) c.self.invariant (free g c) (sound g c)
 
 pub invariant_of-self : goal.invariant_of-self
 invariant_of-self g c = kept g c
@@ -51,7 +56,7 @@ pub returns-clause-slots : goal.returns-clause-slots
 returns-clause-slots g c =
     rw c.self.view_is at
     (shown_step c.self.inside.memory (all_slots c.self.inside.slots) c.args.slot c.in-Adapter.buffer (next_window c.args.adapter.now) c.self.invariant (moved g c) c.step_sector.new.memory
-    c.step_sector.result (was_read c.args.drive.now) (sound g c) c.step_sector.ensures.free c.step_sector.ensures.memory)
+    c.step_sector.result (was_read c.args.drive.now) (sound g c) (free g c) c.step_sector.ensures.memory)
 
 -- the block that is moved, before it is
 block_before : (g : Over) (c : goal.After-step_sector g) → bytes_in (span_of c.in-Adapter.buffer (next_window c.args.adapter.now)) c.self.inside.memory.bytes

@@ -1,8 +1,11 @@
 use Rattle.std.proofs.Common.{◌+◌, ◌<◌, ap, sym, ◌∙◌, subst, arith}
 use Rattle.pack_geometry.specs.declared.DriveKind.{DriveKind}
 use Rattle.pack_geometry.specs.Geometry.{block_count}
-use Rattle.hardware_table.specs.Adapter.{AdapterState}
+use Rattle.hardware_table.specs.Adapter.{AdapterState, next_window}
+use Rattle.hardware_table.specs.Moves.{was_read}
+use Rattle.mba_adapter.specs.Loaded.{next_bytes}
 use Rattle.hardware_table.specs.declared.Work.TheVariants.{Transfer}
+use Rattle.mba_adapter.proofs.WindowLaws.{lent_after}
 use Rattle.pack_format.proofs.testing.ExitLaws.{cause_ok, cause_on, no_value, not_done}
 use Rattle.pack_format.proofs.testing.PollLaws.{cleared, ended, finished, given_up, is_marked_v, old_or_new, on_err, polls_clean, polls_marked, quiet_again, still_quiet}
 use Rattle.pack_format.proofs.testing.station.Station.try_block.Goals as goal
@@ -32,7 +35,11 @@ returns-in-Clean g c = record {
       ended c.args.kind c.args.block c.args.write c.args.frame.now c.args.self.now.adapter c.args.self.now.drive _ c.in_ok-verdict.verdict c.requires.begun.drive c.requires.begun.started
       c.in-Clean.is c.in_ok-verdict.ensures.drive;
   adapter = finished c.args.frame.now c.args.block c.args.write c.args.self.now.adapter _ c.in_ok-verdict.verdict c.requires.begun.started c.in-Clean.is c.in_ok-verdict.ensures.adapter;
-  rest = (quiet_again _ _ _ _ c.args.self.now.book _ c.requires.begun.quiet c.in_ok-verdict.ensures.moves.book, c.step_sector.ensures.lent c.args.frame.now c.requires.begun.lent);
+  rest = (
+    quiet_again _ _ _ _ c.args.self.now.book _ c.requires.begun.quiet c.in_ok-verdict.ensures.moves.book,
+    lent_after (was_read c.args.self.now.drive c.in_ok-verdict.verdict) c.args.frame.now c.args.frame.now (next_window c.args.self.now.adapter)
+        (next_bytes c.args.self.now.adapter c.args.frame.now c.step_sector.new.memory) c.args.self.now.memory c.step_sector.new.memory c.in_ok-verdict.ensures.memory c.requires.begun.lent,
+  );
   failed = tt;
   stuck = tt;
   never_again = c.in_ok-verdict.ensures.failure.never_again;
@@ -67,7 +74,8 @@ returns-in_default g c =
       adapter = given_up c.args.frame.now c.args.block c.args.write c.args.self.now.adapter _ c.in_ok-verdict.verdict c.requires.begun.started is c.in_ok-verdict.ensures.adapter;
       rest = (
         still_quiet c.args.self.now.drive c.in_ok-verdict.verdict c.args.self.now.book _ _ c.requires.begun.quiet is c.in_ok-verdict.ensures.moves.book,
-        c.step_sector.ensures.lent c.args.frame.now c.requires.begun.lent,
+        lent_after (was_read c.args.self.now.drive c.in_ok-verdict.verdict) c.args.frame.now c.args.frame.now (next_window c.args.self.now.adapter)
+            (next_bytes c.args.self.now.adapter c.args.frame.now c.step_sector.new.memory) c.args.self.now.memory c.step_sector.new.memory c.in_ok-verdict.ensures.memory c.requires.begun.lent,
       );
       failed = tt;
       stuck = tt;
