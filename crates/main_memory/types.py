@@ -1,7 +1,7 @@
 #!/usr/bin/env python3
 """Shows that only the driver's buffers are stored and fetched, and only the adapter's have windows: a call with the other one does not
 compile. An edit in `must-fail/` can't show it (`must-fail/store_on_bus.md` says why), so this script tries each call on a copy of the crate,
-and ends with 0 where `rt check` refuses just that, by its types.
+and ends with 0 if `rt check` refuses just these, by their types.
 
     types.py      run it at any place; it takes some seconds, and proves nothing
 """

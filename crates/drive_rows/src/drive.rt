@@ -3,16 +3,19 @@ ghost use Rattle.std.specs.Prelude.{◌≡◌, true};
 ghost use Rattle.hardware_table.specs.Drive.{is_transferring};
 
 use crate::few_blocks::{FewBlocks, Wrong, few_blocks};
+use DriveKind::{Rm03, Rm05, Rp06};
 use FaultKind::{Dte, Hcrc, Late, Opi, Seek};
 use Function::{Centre, Nop, Read, Search, Write, WriteHeader};
 use Moved::Faulted;
 use Trial::{Fault, MarkedWrite, Noisy};
+use bad144_table::{empty_table, serial, write_table};
 use drive_model::{Drive, FaultKind, Moved, NoiseBook, NoiseSpan, Register};
 use drive_registers::Function;
 use fire_code::Noise;
 use main_memory::{MainMemory, Window, to_bus};
-use mba_autoconf::{AttachFault, attach};
-use pack_geometry::DriveKind;
+use mba_autoconf::{AttachFault, ProbeFault, attach, probe};
+use outside_traits::traits::Packs;
+use pack_geometry::{DriveKind, copy_block};
 use std::alloc::Global;
 
 // What a sector meets that is tried.
@@ -245,5 +248,69 @@ fn attached_up_to_the_call_that_fails(rt: HostRuntime) {
         for number in 1..=11 {
             assert!(rt; is_attached(rt.alloc(), row, 0, number, number));
         }
+    }
+}
+
+// A drive type word, and the kind that it names or the bits that name none.
+type Probed = (u16, Result<DriveKind, ProbeFault>);
+
+static TYPES: [Probed; 6] = [
+    (0o020022, Ok(Rp06)),
+    (0o020024, Ok(Rm03)),
+    (0o020027, Ok(Rm05)),
+    (0o177022, Ok(Rp06)),
+    (0o020023, Err(ProbeFault::Unknown(0o023))),
+    (0o020122, Err(ProbeFault::Unknown(0o122))),
+];
+
+fn is_probed(row: &Probed) -> bool {
+    probe(row.0) == row.1
+}
+
+#[test]
+fn drive_types(rt: HostRuntime) {
+    for row in &TYPES {
+        assert!(rt; is_probed(row));
+    }
+}
+
+// The copies of the table of an RP06 that are marked; the serial numbers of the five, where 0 is no table; and the one that is found.
+type Copies = (&'static [u32], [u32; 5], Option<u32>);
+
+static COPIES: [Copies; 5] = [
+    (&[340_648], [1, 2, 3, 0, 0], Some(2)),
+    (&[], [0, 2, 3, 0, 0], Some(2)),
+    (
+        &[340_648, 340_650, 340_652, 340_654],
+        [1, 2, 3, 4, 5],
+        Some(5),
+    ),
+    (&[], [0; 5], None),
+    (&[340_648, 340_650, 340_652, 340_654, 340_656], [1; 5], None),
+];
+
+// The serial number of the table with which such a pack is attached.
+fn serial_found(alloc: Global, marks: &'static [u32], serials: &[u32; 5]) -> Option<u32> {
+    let mut packs = few_blocks(alloc, marks, 0, Wrong::Fails);
+    for k in 0..5u32 {
+        let mut text = [0; 512];
+        write_table(&empty_table(Rp06, serials[k as usize]), &mut text);
+        if serials[k as usize] > 0 {
+            let _ = packs.write(3, copy_block(Rp06, k), &text);
+        }
+    }
+    match attach(&mut Drive::new(Rp06, 3), &mut packs, 3) {
+        Ok(found) => match &found.table {
+            Some(table) => Some(serial(table)),
+            None => None,
+        },
+        Err(_) => None,
+    }
+}
+
+#[test]
+fn second_copy(rt: HostRuntime) {
+    for (marks, serials, wanted) in &COPIES {
+        assert!(rt; serial_found(rt.alloc(), *marks, serials) == *wanted);
     }
 }

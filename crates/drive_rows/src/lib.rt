@@ -1,11 +1,14 @@
-//! Tests of memory, packs in memory, the queue, the drive and its attaching, of numbers that come from outside, of the formatter's single calls, each of
-//! which goes wrong once, and of the caller of `blocking_rows`. There are tests alone here, so that the crates that they test are proved once.
+//! Tests of memory and what an adapter maps of it, of packs in memory, the queue, the drive and its attaching, of numbers that come from
+//! outside, the texts of errors, the formatter's single calls, each of which goes wrong once, and of the caller of `blocking_rows`. There are
+//! tests alone here, so that the crates that they test are proved once.
 #![tactic(auto)]
 
 #[cfg(test)]
 mod asking;
 #[cfg(test)]
 mod drive;
+#[cfg(test)]
+mod errors;
 #[cfg(test)]
 mod few_blocks;
 #[cfg(test)]

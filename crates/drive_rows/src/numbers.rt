@@ -1,9 +1,12 @@
-// Numbers that come from outside: the code's checks and verdicts, the ends of partitions, and headers.
+// Numbers that come from outside: the code's checks and verdicts, the ends of partitions, headers, type words, and digits.
 use Admission::{Eof, Inside, Outside};
 use DriveKind::{Rm03, Rm05, Rp06};
+use NumberFault::{Digit, Empty, Large};
+use drive_registers::{RM03_TYPE, RM05_TYPE, RP06_TYPE};
 use fire_code::{
     Check, Noise, NoiseClass, Verdict, apply, class_of, encode, judge, judge_noise, plain, syndrome,
 };
+use mass_text::{NumberFault, Radix, number};
 use pack_geometry::DriveKind;
 use partitions::{Admission, Part, admit};
 use sector_format::{HeaderFault, header_fault, header_of};
@@ -136,5 +139,49 @@ fn has_header(row: &Row) -> bool {
 fn headers(rt: HostRuntime) {
     for row in &HEADERS {
         assert!(rt; has_header(row));
+    }
+}
+
+// The drives' type words.
+static TYPE_WORDS: [(u16, u16); 3] = [
+    (RP06_TYPE, 0o020022),
+    (RM03_TYPE, 0o020024),
+    (RM05_TYPE, 0o020027),
+];
+
+#[test]
+fn type_words(rt: HostRuntime) {
+    for (named, word) in &TYPE_WORDS {
+        assert!(rt; *named == *word);
+    }
+}
+
+// A text, its radix, the most that it may be, and its number, or what is wrong with it.
+type Number = (&'static [u8], Radix, u64, Result<u64, NumberFault>);
+
+static NUMBERS: [Number; 8] = [
+    (b"", Radix::Decimal, 9, Err(Empty)),
+    (b"1x", Radix::Decimal, 9, Err(Digit(1))),
+    (b"10", Radix::Decimal, 9, Err(Large)),
+    (b"09", Radix::Decimal, 9, Ok(9)),
+    (b"99x", Radix::Decimal, 9, Err(Digit(2))),
+    (b"18", Radix::Octal, 100, Err(Digit(1))),
+    (b"aF", Radix::Hex, 255, Ok(175)),
+    (
+        b"18446744073709551616",
+        Radix::Decimal,
+        u64::MAX,
+        Err(Large),
+    ),
+];
+
+fn is_read(row: &Number) -> bool {
+    number(row.0, row.1, row.2) == row.3
+}
+
+#[test]
+fn numbers(rt: HostRuntime) {
+    for row in &NUMBERS {
+        assert!(rt; is_read(row));
     }
 }

@@ -3,12 +3,12 @@ use mass_outside::slots::Image;
 use outside_traits::traits::{NoMemory, Packs};
 use std::alloc::Global;
 
-// Unit 3 has 700 bytes 255 and room for four blocks, and its second write fails.
+// Unit 3 has 700 bytes 255, the mark bytes 0 and 7, and room for four blocks; its second write fails.
 fn packs(alloc: Global) -> Result<MemPacks, NoMemory> {
     let image = Image {
         unit: 3,
         bytes: vec![in alloc; 0xFF; 700]?,
-        marks: Vec::new(alloc),
+        marks: Vec::from_slice(alloc, &[0, 7])?,
         blocks: 4,
     };
     let images = Vec::from_array(alloc, [image])?;
@@ -22,9 +22,12 @@ fn packs(alloc: Global) -> Result<MemPacks, NoMemory> {
     MemPacks::new(alloc, images, fail)
 }
 
-// Whether the first write extends the image, and the second one fails.
+// Whether block 1 is marked and its neighbours are not; the first write extends the image, and the second one fails.
 fn are_written(packs: &mut MemPacks) -> bool {
-    packs.write(3, 2, &[5; 512]).is_ok()
+    matches!(packs.marked(3, 0), Ok(false))
+        && matches!(packs.marked(3, 1), Ok(true))
+        && matches!(packs.marked(3, 2), Ok(false))
+        && packs.write(3, 2, &[5; 512]).is_ok()
         && packs.write(3, 3, &[5; 512]).is_err()
         && matches!(packs.length(3), Ok(1536))
 }

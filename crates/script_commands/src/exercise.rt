@@ -13,14 +13,17 @@ use outside_traits::whole::write_all;
 use script_reader::meaning::meaning_law;
 use script_reader::{ReadFault, grammar_law, read_script};
 use std::alloc::Global;
+use thiserror::Error;
 use trace_lines::answers::Tally;
 
 /// Why an exercise was not played, or not printed.
-#[derive(Clone, Copy)]
+#[derive(Clone, Copy, Debug, Error)]
 enum ExerciseFault {
     /// There was no memory. Nothing was played.
+    #[error("there is no memory")]
     Memory,
     /// A call of a sink failed.
+    #[error("a sink failed")]
     Sink,
 }
 
