@@ -7,7 +7,7 @@ use Rattle.driver_machine.specs.Events.{can_arrive}
 use Rattle.request_slots.specs.declared.slot.Slot.{Slot}
 use Rattle.request_slots.specs.Requests.{frames_lent, slot_at, held_at}
 use Rattle.request_slots.specs.Stored.{IsKept, as_seen}
-use Rattle.unit_bank.specs.Row.{IsRow, is_on, unit_in}
+use Rattle.hp_units.specs.Row.{IsRow, is_on, unit_in}
 
 -- a frame is neither free nor that of a request
 abbrev pub FrameLost : Type 0

@@ -8,3 +8,5 @@ pub mod Tries
 pub mod Joining
 pub mod Starting
 pub mod Passes
+pub mod Units
+pub mod Steps

@@ -6,11 +6,12 @@ use Rattle.hardware_table.specs.Adapter.{AdapterState}
 use Rattle.hp_interrupts.specs.Verdicts.{IsLeftBy, registers_of, shows_late}
 use Rattle.hp_interrupts.specs.declared.TransferRegs.{TransferRegs}
 use Rattle.driver_machine.specs.declared.Made.{Made}
-use Rattle.driver_machine.specs.World.{World, UnitView, AdapterView, Held, adapter_at, held_in}
+use Rattle.driver_machine.specs.World.{World, UnitView, AdapterView, Held, unit_at, adapter_at, held_in}
 use Rattle.driver_machine.specs.Acts.{with_state}
 use Rattle.driver_machine.specs.Sound.{IsShown}
 use Rattle.hp_core.specs.State.{State, HasRoom}
 use Rattle.hp_core.proofs.Places.{adapter_here}
+use Rattle.hp_core.proofs.Units.{units_after}
 
 -- a slot that is set leaves the room for answers
 pub room_set : (slots slots' : List (Option Held)) (p : ℕ) (o : Option Held) (answers : List Made) (most : ℕ) → HasRoom slots answers most → slots' ≡ slice_set slots p o
@@ -34,38 +35,42 @@ state_changed queue state state' view g is changed =
     ap (λ (s : AdapterState). record { queue = queue; state = s }) changed ∙ ap (with_state g) is
 
 -- a unit and the request in a slot that were changed, and they alone
-pub unit_slot : (inside now : State) (units : List UnitView) (slots : List (Option Held)) (f : List UnitView → List UnitView) (p q k n : ℕ) (h : ℕ → Held → Held)
-    → inside ≡ now → p ≡ q → k ≡ n → units ≡ f inside.world.units → slots ≡ slice_set inside.world.slots p (Some (h k (held_in inside.world p)))
-    → record inside { world = record inside.world { units = units; slots = slots } }
-    ≡ record now { world = record now.world { units = f now.world.units; slots = slice_set now.world.slots q (Some (h n (held_in now.world q))) } }
-unit_slot inside now units slots f p q k n h same at number changed put =
-    ap (λ (us : List UnitView). record inside { world = record inside.world { units = us; slots = slots } }) changed
-    ∙ ap (λ (xs : List (Option Held)). record inside { world = record inside.world { units = f inside.world.units; slots = xs } }) put
-    ∙ ap (λ (m : ℕ). record inside { world = record inside.world { units = f inside.world.units; slots = slice_set inside.world.slots m (Some (h k (held_in inside.world m))) } }) at
-    ∙ ap (λ (m : ℕ). record inside { world = record inside.world { units = f inside.world.units; slots = slice_set inside.world.slots q (Some (h m (held_in inside.world q))) } }) number
-    ∙ ap (λ (s : State). record s { world = record s.world { units = f s.world.units; slots = slice_set s.world.slots q (Some (h n (held_in s.world q))) } }) same
+pub unit_slot : (inside now : State) (i u : ℕ) (old d v : UnitView) (f : UnitView → UnitView) (slots : List (Option Held)) (p q k n : ℕ) (h : ℕ → Held → Held)
+    → inside ≡ now → i ≡ u → u < length now.world.units → old ≡ slice_index_or inside.world.units i d → v ≡ f old
+    → p ≡ q → k ≡ n → slots ≡ slice_set inside.world.slots p (Some (h k (held_in inside.world p)))
+    → record inside { world = record inside.world { units = slice_set inside.world.units i v; slots = slots } }
+    ≡ record now { world = record now.world { units = slice_set now.world.units u (f (unit_at now.world u)); slots = slice_set now.world.slots q (Some (h n (held_in now.world q))) } }
+unit_slot inside now i u old d v f slots p q k n h same place there own changed at number put =
+    let units = slice_set now.world.units u (f (unit_at now.world u)) in
+    ap (λ (us : List UnitView). record inside { world = record inside.world { units = us; slots = slots } }) (units_after inside now i u old d same place there own v f changed)
+    ∙ ap (λ (xs : List (Option Held)). record inside { world = record inside.world { units = units; slots = xs } }) put
+    ∙ ap (λ (m : ℕ). record inside { world = record inside.world { units = units; slots = slice_set inside.world.slots m (Some (h k (held_in inside.world m))) } }) at
+    ∙ ap (λ (m : ℕ). record inside { world = record inside.world { units = units; slots = slice_set inside.world.slots q (Some (h m (held_in inside.world q))) } }) number
+    ∙ ap (λ (s : State). record s { world = record s.world { units = units; slots = slice_set s.world.slots q (Some (h n (held_in s.world q))) } }) same
 
 -- a unit, its adapter and the request in a slot that were changed, and they alone
-pub unit_channel_slot : (inside now : State) (units : List UnitView) (slots : List (Option Held)) (f : List UnitView → List UnitView) (a i : ℕ) (old v : AdapterView) (g : Held → AdapterView → AdapterView)
-    (p q : ℕ) (h : Held → Held) → inside ≡ now → i ≡ a → p ≡ q → a < length now.world.adapters → old ≡ slice_index_or inside.world.adapters i old
-    → units ≡ f inside.world.units → v ≡ g (held_in inside.world p) old → slots ≡ slice_set inside.world.slots p (Some (h (held_in inside.world p)))
-    → record inside { world = record inside.world { units = units; adapters = slice_set inside.world.adapters i v; slots = slots } }
+pub unit_channel_slot : (inside now : State) (j u : ℕ) (before d after : UnitView) (f : UnitView → UnitView) (slots : List (Option Held)) (i a : ℕ) (old v : AdapterView) (g : Held → AdapterView → AdapterView)
+    (p q : ℕ) (h : Held → Held) → inside ≡ now → j ≡ u → u < length now.world.units → before ≡ slice_index_or inside.world.units j d → after ≡ f before
+    → i ≡ a → p ≡ q → a < length now.world.adapters → old ≡ slice_index_or inside.world.adapters i old
+    → v ≡ g (held_in inside.world p) old → slots ≡ slice_set inside.world.slots p (Some (h (held_in inside.world p)))
+    → record inside { world = record inside.world { units = slice_set inside.world.units j after; adapters = slice_set inside.world.adapters i v; slots = slots } }
     ≡ record now {
       world = record now.world {
-        units = f now.world.units;
+        units = slice_set now.world.units u (f (unit_at now.world u));
         adapters = slice_set now.world.adapters a (g (held_in now.world q) (adapter_at now.world a));
         slots = slice_set now.world.slots q (Some (h (held_in now.world q)));
       };
     }
-unit_channel_slot inside now units slots f a i old v g p q h same place at lt own changed made put =
-    let here : v ≡ g (held_in inside.world p) (adapter_at now.world a) =
+unit_channel_slot inside now j u before d after f slots i a old v g p q h same spot there here changed place at lt own made put =
+    let units = slice_set now.world.units u (f (unit_at now.world u)) in
+    let channel : v ≡ g (held_in inside.world p) (adapter_at now.world a) =
     made ∙ ap (g (held_in inside.world p)) (adapter_here a i now.world inside.world.adapters old place (ap (λ (s : State). s.world.adapters) same) lt own) in
-    ap (λ (us : List UnitView). record inside { world = record inside.world { units = us; adapters = slice_set inside.world.adapters i v; slots = slots } }) changed
-    ∙ ap (λ (xs : List (Option Held)). record inside { world = record inside.world { units = f inside.world.units; adapters = slice_set inside.world.adapters i v; slots = xs } }) put
-    ∙ ap (λ (w : AdapterView). record inside { world = record inside.world { units = f inside.world.units; adapters = slice_set inside.world.adapters i w; slots = slice_set inside.world.slots p (Some (h (held_in inside.world p))) } }) here
-    ∙ ap (λ (m : ℕ). record inside { world = record inside.world { units = f inside.world.units; adapters = slice_set inside.world.adapters m (g (held_in inside.world p) (adapter_at now.world a)); slots = slice_set inside.world.slots p (Some (h (held_in inside.world p))) } }) place
-    ∙ ap (λ (m : ℕ). record inside { world = record inside.world { units = f inside.world.units; adapters = slice_set inside.world.adapters a (g (held_in inside.world m) (adapter_at now.world a)); slots = slice_set inside.world.slots m (Some (h (held_in inside.world m))) } }) at
-    ∙ ap (λ (s : State). record s { world = record s.world { units = f s.world.units; adapters = slice_set s.world.adapters a (g (held_in s.world q) (adapter_at now.world a)); slots = slice_set s.world.slots q (Some (h (held_in s.world q))) } }) same
+    ap (λ (us : List UnitView). record inside { world = record inside.world { units = us; adapters = slice_set inside.world.adapters i v; slots = slots } }) (units_after inside now j u before d same spot there here after f changed)
+    ∙ ap (λ (xs : List (Option Held)). record inside { world = record inside.world { units = units; adapters = slice_set inside.world.adapters i v; slots = xs } }) put
+    ∙ ap (λ (w : AdapterView). record inside { world = record inside.world { units = units; adapters = slice_set inside.world.adapters i w; slots = slice_set inside.world.slots p (Some (h (held_in inside.world p))) } }) channel
+    ∙ ap (λ (m : ℕ). record inside { world = record inside.world { units = units; adapters = slice_set inside.world.adapters m (g (held_in inside.world p) (adapter_at now.world a)); slots = slice_set inside.world.slots p (Some (h (held_in inside.world p))) } }) place
+    ∙ ap (λ (m : ℕ). record inside { world = record inside.world { units = units; adapters = slice_set inside.world.adapters a (g (held_in inside.world m) (adapter_at now.world a)); slots = slice_set inside.world.slots m (Some (h (held_in inside.world m))) } }) at
+    ∙ ap (λ (s : State). record s { world = record s.world { units = units; adapters = slice_set s.world.adapters a (g (held_in s.world q) (adapter_at now.world a)); slots = slice_set s.world.slots q (Some (h (held_in s.world q))) } }) same
 
 -- what a drive and its adapter show is left by the verdict of the adapter
 same_registers : (a b c d a' b' c' d' : ℕ) (l l' : Bool) → a ≡ a' → b ≡ b' → c ≡ c' → d ≡ d' → l ≡ l'

@@ -21,12 +21,12 @@ set_or_not true slots p x = length-set slots p x
 set_or_not false slots p x = refl
 
 as_many : {E V : Type 0} (A B C : Type 0) (r : Result V E) (old new : List (Option Held)) (p : ℕ) (x : Option Held) (read : V → Bool)
-    → IfOk r (λ v. new ≡ (if read v then slice_set old p x else old)) → OnErr r (A × (new ≡ old) × B × C) → length new ≡ length old
+    → IfOk r (λ v. new ≡ (if read v then slice_set old p x else old)) → OnErr r ((new ≡ old) × A × B × C) → length new ≡ length old
 as_many A B C (Ok v) old new p x read tried failed = ap length tried ∙ set_or_not (read v) old p x
-as_many A B C (Err e) old new p x read tried failed = ap length failed.1
+as_many A B C (Err e) old new p x read tried failed = ap length failed.0
 
 pub room_kept : {E V : Type 0} (A B C : Type 0) (r : Result V E) (old new : List (Option Held)) (p : ℕ) (x : Option Held) (read : V → Bool) (answers : List Made) (most : ℕ)
-    → IfOk r (λ v. new ≡ (if read v then slice_set old p x else old)) → OnErr r (A × (new ≡ old) × B × C) → HasRoom old answers most → HasRoom new answers most
+    → IfOk r (λ v. new ≡ (if read v then slice_set old p x else old)) → OnErr r ((new ≡ old) × A × B × C) → HasRoom old answers most → HasRoom new answers most
 room_kept A B C r old new p x read answers most tried failed room =
     let same = as_many A B C r old new p x read tried failed in
     record { few = omega (arith, same, room.few); refused = room.refused; spare = omega (arith, same, room.spare) }

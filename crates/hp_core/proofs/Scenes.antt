@@ -59,12 +59,6 @@ pub by_held : (old mid : State) (u p : ℕ) (v : UnitView) (h : Held)
 by_held old mid u p v h is = is ∙ ap (λ (w : World). record old { world = w }) (unit_held old.world u p v h)
 
 -- WHERE ONE PART of what is inside CHANGES it alone changes
-pub units_inside : (inside now : State) (after : List UnitView) (f : List UnitView → List UnitView) → inside ≡ now → after ≡ f inside.world.units
-    → record inside { world = record inside.world { units = after } } ≡ record now { world = record now.world { units = f now.world.units } }
-units_inside inside now after f same changed =
-    ap (λ (us : List UnitView). record inside { world = record inside.world { units = us } }) changed
-    ∙ ap (λ (s : State). record s { world = record s.world { units = f s.world.units } }) same
-
 pub book_inside : (inside now : State) (after : Book) (f : Book → Book) → inside ≡ now → after ≡ f inside.world.book
     → record inside { world = record inside.world { book = after } } ≡ record now { world = record now.world { book = f now.world.book } }
 book_inside inside now after f same changed =

@@ -1,9 +1,15 @@
 -- Units are set up one after another.
-use Rattle.std.proofs.Common.{◌≡◌, ℕ, zero, suc, ◌+◌, ◌<◌, ◌≤◌, List, [], ◌∷◌, drop, length, get_or, sym, ap, ◌∙◌, arith}
+use Rattle.std.proofs.Common.{◌≡◌, ◌≢◌, ◌==◌, ℕ, zero, suc, ◌+◌, ◌<◌, ◌≤◌, Bool, true, false, List, [], ◌∷◌, drop, length, get_or, get_or-set_same, refl, sym, ap, ◌∙◌, arith}
+use Rattle.std.proofs.lemmas.List.{length-set}
+use Rattle.std.proofs.lemmas.Nat.Bits.{bit_at-zero}
+use Rattle.std.proofs.lemmas.Bool.Decides.{nat_tests}
 use Rattle.std.specs.Prelude.{Contains, slice_set}
-use Rattle.driver_machine.specs.World.{UnitView, Setup, new_unit, set_up}
-use Rattle.unit_bank.specs.UnitSetup.{UnitSetup}
-use Rattle.unit_bank.specs.Setups.{setup_of, setups_of}
+use Rattle.driver_machine.specs.World.{UnitView, Setup, no_unit, new_unit, set_up}
+use Rattle.driver_machine.specs.Events.{can_arrive}
+use Rattle.hp_units.specs.declared.setup.UnitSetup.{UnitSetup}
+use Rattle.hp_units.specs.Setups.{setup_of, setups_of}
+use Rattle.hp_units.specs.Row.{IsRow, is_on, unit_in}
+use Rattle.hp_units.proofs.Rows.{others_kept}
 
 -- the next one is set up
 pub one_more : (xs : List UnitSetup) (i : ℕ) (x : UnitSetup) (units : List UnitView) → i < length xs → x ≡ get_or xs i x
@@ -31,3 +37,20 @@ all_set [] zero units rest end is = is
 all_set [] (suc i) units rest end is = is
 all_set (y ∷ xs) zero units rest end is = absurd (omega (arith, end))
 all_set (y ∷ xs) (suc i) units rest end is = all_set xs i units rest (omega (arith, end)) is
+
+-- and none of them positions
+still_set : (n : ℕ) (units : List UnitView) (v : UnitView) → IsRow 0 units → can_arrive v ≡ false → IsRow 0 (slice_set units n v)
+still_set n units v is still = record { size = length-set units n v ∙ is.size; bits = λ k. λ l. at k l (k == n) refl }
+  where
+    at : (k : ℕ) → k < 32 → (b : Bool) → (k == n) ≡ b → is_on 0 k ≡ can_arrive (unit_in (slice_set units n v) k)
+    at k l true e =
+        let own : k ≡ n = grind (arith, nat_tests) in
+        ap (λ (b : ℕ). b == 1) (bit_at-zero k) ∙ sym still ∙ ap can_arrive (sym (get_or-set_same units n v no_unit (omega (arith, own, l, is.size))))
+        ∙ ap (λ (m : ℕ). can_arrive (unit_in (slice_set units n v) m)) (sym own)
+    at k l false e =
+        let other : k ≢ n = grind (arith, nat_tests) in
+        others_kept 0 n units v is k l other
+
+pub none_positions : (setups : List Setup) (units : List UnitView) → IsRow 0 units → IsRow 0 (set_up setups units)
+none_positions [] units is = is
+none_positions (s ∷ setups) units is = none_positions setups (slice_set units s.unit (new_unit s)) (still_set s.unit units (new_unit s) is refl)

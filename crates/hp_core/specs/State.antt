@@ -2,7 +2,9 @@
 use Rattle.std.specs.Prelude.{ℕ, ◌≤◌, ◌+◌, ◌++◌, List, [], ◌∷◌, length, Option, None, Some}
 use Rattle.pack_geometry.specs.Pack.{Pack}
 use Rattle.driver_machine.specs.declared.Made.{Made}
-use Rattle.driver_machine.specs.World.{World, Held}
+use Rattle.driver_machine.specs.World.{World, UnitView, Held}
+use Rattle.hp_units.specs.Row.{IsRow}
+use Rattle.request_slots.specs.Queues.{AnswerQueue}
 use Rattle.driver_laws.specs.answers.Outcome.{Site}
 
 -- the world, and the text of the trace that is still kept
@@ -29,3 +31,8 @@ pub record HasRoom (slots : List (Option Held)) (answers : List Made) (most : �
   pub few : length slots ≤ 16384
   pub refused : refused_in answers ≤ 1
   pub spare : length slots + 1 ≤ most
+
+-- What the driver keeps: the row of bits says which units position, and there is room for the answers.
+pub record IsKept (row : ℕ) (units : List UnitView) (slots : List (Option Held)) (answers : AnswerQueue) : Type 0 where
+  pub positions : IsRow row units
+  pub room : HasRoom slots answers.made answers.most

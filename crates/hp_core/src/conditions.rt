@@ -16,7 +16,7 @@ impl Core {
         requires may { Allowed self.old.world (Change (script.Turn u sector)) }
         ensures { DoesSilently self.old self.new (Change (script.Turn u sector)) }
     {
-        self.units.turn(u, sector);
+        self.units[usize::from(u)].turn(sector);
     }
 
     /// A fault is armed at a drive for so many more times.
@@ -25,7 +25,7 @@ impl Core {
         requires may { Allowed self.old.world (Change (script.Arm u kind times)) }
         ensures { DoesSilently self.old self.new (Change (script.Arm u kind times)) }
     {
-        self.units.arm(u, kind, times);
+        self.units[usize::from(u)].arm(kind, times);
     }
 
     /// A drive goes online, or offline.
@@ -34,7 +34,7 @@ impl Core {
         requires may { Allowed self.old.world (Change (script.SetOnline u on)) }
         ensures { DoesSilently self.old self.new (Change (script.SetOnline u on)) }
     {
-        self.units.set_online(u, on);
+        self.units[usize::from(u)].set_online(on);
     }
 
     /// A drive is write locked, or unlocked.
@@ -43,7 +43,7 @@ impl Core {
         requires may { Allowed self.old.world (Change (script.SetLocked u on)) }
         ensures { DoesSilently self.old self.new (Change (script.SetLocked u on)) }
     {
-        self.units.set_locked(u, on);
+        self.units[usize::from(u)].set_locked(on);
     }
 
     /// Noise is armed at a sector.

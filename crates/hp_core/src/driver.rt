@@ -16,19 +16,21 @@ use drive_model::NoiseBook;
 use driver_laws::answers::outcome::Stop;
 use driver_machine::RetryStep;
 use hardware_table::Moved;
+use hp_units::DiskUnit;
 use outside_traits::Gather;
 use outside_traits::traits::{Sink, SinkFailed};
 use request_slots::{Answers, Channel, Slots};
 use std::marker::Model;
 use trace_lines::{LineText, Told, clean_line};
 use transfer_engine::Job;
-use unit_bank::UnitBank;
 
 /// 32 units, of which some are set up, four adapters, the slots of requests and the frames that they need, the noise that is armed,
 /// the answers that wait, and the text of the trace that is still kept.
 #[derive(Drop)]
 pub struct Core {
-    pub(crate) units: UnitBank,
+    pub(crate) units: Vec<DiskUnit>,
+    // A row of bits: which units position.
+    pub(crate) row: u32,
     pub(crate) channels: Vec<Channel>,
     pub(crate) slots: Slots,
     pub(crate) frames: u32,
@@ -38,13 +40,13 @@ pub struct Core {
 }
 
 impl Model for Core {
-    ghost use Rattle.hp_core.specs.State.{State, HasRoom};
+    ghost use Rattle.hp_core.specs.State.{State, IsKept};
 
     ghost Value = { State };
 
     ghost view = { λ d. record {
       world = record {
-        units = d.units;
+        units = d.units.items;
         adapters = d.channels.items;
         slots = d.slots;
         frames = d.frames;
@@ -54,7 +56,7 @@ impl Model for Core {
       kept = d.gather;
     } };
 
-    ghost invariant = { λ d. HasRoom d.slots d.answers.made d.answers.most };
+    ghost invariant = { λ d. IsKept d.row d.units.items d.slots d.answers };
 }
 
 /// What is told of a step of a retry.
@@ -139,7 +141,7 @@ impl Core {
         requires some { 0 < length (unit_at self.now.world u).queue }
         ensures { result ≡ slot_in_hand (unit_at self.now.world u) }
     {
-        match self.units.unit(u).head() {
+        match self.unit(u).head() {
             Some(slot) => slot,
             None => unreachable!(),
         }
@@ -155,7 +157,7 @@ impl Core {
         let slot = self.hand(u);
         let asked = self.slots.asked(slot);
         Job {
-            kind: self.units.unit(u).kind(),
+            kind: self.unit(u).kind(),
             first: asked.first,
             count: asked.count,
             write: asked.write,

@@ -41,7 +41,7 @@ impl Core {
         let slot = self.hand(u);
         let asked = self.slots.asked(slot);
         self.frames -= needed(asked.count, asked.offset, asked.last);
-        self.units.end(u);
+        self.units[usize::from(u)].end();
         self.channels[usize::from(u / 8)].leave(u);
         self.slots.end(slot);
         let answer = Answer {

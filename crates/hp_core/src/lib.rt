@@ -21,5 +21,5 @@ mod views;
 
 pub use driver::Core;
 pub use driver_laws::answers::outcome::Stop;
+pub use hp_units::UnitSetup;
 pub use request_slots::Asked;
-pub use unit_bank::UnitSetup;

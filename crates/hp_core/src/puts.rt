@@ -22,6 +22,7 @@ use crate::driver::Core;
 use driver_machine::{RetryStep, Task};
 use hardware_table::{Moved, adapter_law};
 use hp_interrupts::shows_late;
+use hp_units::row::noted;
 use pack_geometry::Place;
 use transfer_engine::{Job, Segment};
 
@@ -37,7 +38,8 @@ impl Core {
           };
         } }
     {
-        self.units.arrive(u);
+        self.units[usize::from(u)].arrive();
+        self.row = noted(self.row, u, self.units.as_slice());
         self.channels[usize::from(u / 8)].raise(u % 8);
     }
 
@@ -52,7 +54,7 @@ impl Core {
           };
         } }
     {
-        self.units.attend(u, taken);
+        self.units[usize::from(u)].attend(taken);
         self.channels[usize::from(u / 8)].lower(u % 8);
     }
 
@@ -71,7 +73,8 @@ impl Core {
           };
         } }
     {
-        self.units.search(u, target, sector, job);
+        self.units[usize::from(u)].search(target, sector, job);
+        self.row = noted(self.row, u, self.units.as_slice());
     }
 
     /// RECAL, SEEK or OFFSET.
@@ -86,7 +89,8 @@ impl Core {
           };
         } }
     {
-        self.units.step(u, step, taken);
+        self.units[usize::from(u)].step(step, taken);
+        self.row = noted(self.row, u, self.units.as_slice());
     }
 
     /// PACK.
@@ -100,7 +104,7 @@ impl Core {
           };
         } }
     {
-        self.units.pack(u);
+        self.units[usize::from(u)].pack();
     }
 
     /// DCLR.
@@ -113,7 +117,7 @@ impl Core {
           };
         } }
     {
-        self.units.clear(u, moved, verdict);
+        self.units[usize::from(u)].clear(moved, verdict);
     }
 
     /// RTC.
@@ -126,7 +130,7 @@ impl Core {
           };
         } }
     {
-        self.units.centre(u);
+        self.units[usize::from(u)].centre();
     }
 
     /// The unit is ready with a new transfer.
@@ -142,7 +146,7 @@ impl Core {
           };
         } }
     {
-        self.units.begin(u, job);
+        self.units[usize::from(u)].begin(job);
         self.channels[usize::from(u / 8)].wait(u);
     }
 
@@ -159,7 +163,7 @@ impl Core {
           };
         } }
     {
-        self.units.ready(u);
+        self.units[usize::from(u)].ready();
         self.channels[usize::from(u / 8)].wait(u);
     }
 
@@ -177,7 +181,7 @@ impl Core {
           };
         } }
     {
-        self.units.retry(u, moved)
+        self.units[usize::from(u)].retry(moved)
     }
 
     /// The data interrupt is taken: the registers show why the transfer ended.
@@ -201,8 +205,9 @@ impl Core {
         let slot = self.hand(u);
         let channel = &mut self.channels[usize::from(u / 8)];
         let ended = self.slots.complete(slot, &mut channel.adapter);
-        let cause = self.units.unit(u).cause(shows_late(ended.last));
-        self.units.interrupt(u, ended.moved, cause);
+        let unit = &mut self.units[usize::from(u)];
+        let cause = unit.cause(shows_late(ended.last));
+        unit.interrupt(ended.moved, cause);
     }
 
     /// RCOM or WCOM, and the adapter's start.
@@ -236,7 +241,7 @@ impl Core {
         channel
             .adapter
             .start(u % 8, segment.block, segment.count, write);
-        self.units.transfer(u, write, segment.block);
+        self.units[usize::from(u)].transfer(write, segment.block);
     }
 
     /// The block behind so many sectors of the segment is repaired.
@@ -259,8 +264,8 @@ impl Core {
         } }
     {
         let slot = self.hand(u);
-        let block = self.units.unit(u).done() + moved;
+        let block = self.unit(u).done() + moved;
         self.slots.repair(slot, block, at, pattern);
-        self.units.judge_again(u, moved + 1);
+        self.units[usize::from(u)].judge_again(moved + 1);
     }
 }

@@ -28,7 +28,7 @@ impl Core {
         requires may { Allowed self.old.world (Of line u id (Continue moved)) }
         ensures { DoesSilently self.old self.new (Of line u id (Continue moved)) }
     {
-        self.units.go_on(u, moved);
+        self.units[usize::from(u)].go_on(moved);
     }
 
     /// At its start the unit is ready with a new transfer of the request in hand.
@@ -47,7 +47,7 @@ impl Core {
         requires may { Allowed self.old.world (Of line u id (Forward moved index)) }
         ensures { DoesSilently self.old self.new (Of line u id (Forward moved index)) }
     {
-        self.units.forward(u, moved, index);
+        let _index = self.units[usize::from(u)].forward(moved);
     }
 
     /// The block behind so many sectors is repaired in the buffer of the request.

@@ -53,12 +53,13 @@ impl Core {
             (step_site self.old.world.book (P.held packs.old) self.old.world.slots p a) result }
     {
         let channel = &mut self.channels[usize::from(u / 8)];
-        self.units.move_sector(
-            u,
-            &mut self.slots,
+        let unit = &mut self.units[usize::from(u)];
+        self.slots.step(
             slot,
             &mut channel.adapter,
+            &mut unit.drive,
             packs,
+            u,
             &mut self.book,
         )
     }

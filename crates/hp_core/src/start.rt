@@ -1,18 +1,18 @@
 // The driver at its start.
-ghost use Rattle.std.specs.Prelude.{◌≡◌, ◌<◌, ◌≤◌, ◌+◌, [], Contains, min, replicate, IfOk, None};
+ghost use Rattle.std.specs.Prelude.{◌≡◌, ◌<◌, ◌≤◌, ◌+◌, [], Contains, length, min, replicate, slice_set, IfOk, None};
 ghost use Rattle.hardware_table.specs.Noise.{empty_book};
 ghost use Rattle.driver_machine.specs.World.{Setup, no_unit, new_unit, new_adapter_view, set_up, new_world};
 ghost use Rattle.driver_laws.specs.invariant.Parts.{AreSetups};
-ghost use Rattle.unit_bank.specs.Setups.{setup_of, setups_of};
+ghost use Rattle.hp_units.specs.Setups.{setup_of, setups_of};
 
 use crate::driver::Core;
 use bad144_table::BadTable;
 use drive_model::NoiseBook;
+use hp_units::{DiskUnit, UnitSetup};
 use outside_traits::Gather;
 use outside_traits::traits::NoMemory;
 use request_slots::{Answers, Channel, Slots};
 use std::alloc::Global;
-use unit_bank::{DiskUnit, UnitBank, UnitSetup};
 
 /// How many bytes of the trace's text are kept at most.
 const TRACE_ROOM: u32 = 65536;
@@ -35,15 +35,35 @@ fn unit_for(alloc: Global, setup: &UnitSetup) -> Result<DiskUnit, NoMemory>
     DiskUnit::set_up(alloc, setup.unit, setup.kind, table)
 }
 
-/// 32 units, of which these are set up.
-fn units_of(alloc: Global, setups: &[UnitSetup]) -> Result<UnitBank, NoMemory>
-    requires small { (s : Setup) → Contains (setups_of setups.now) s → s.unit < 32 }
-    ensures { IfOk result (λ v. v ≡ set_up (setups_of setups.now) (replicate 32 no_unit)) }
+/// 32 units, of which none is set up.
+fn blank_units(alloc: Global) -> Result<Vec<DiskUnit>, NoMemory>
+    ensures { IfOk result (λ v. v.items ≡ replicate 32 no_unit) }
 {
-    let mut units = UnitBank::new(alloc)?;
+    let mut units = Vec::with_capacity(alloc, 32)?;
+    for _ in 0..32u32 {
+        let unit = DiskUnit::blank(alloc)?;
+        units.push_reserved(unit);
+    }
+    Ok(units)
+}
+
+/// A unit takes the place of one.
+fn put(units: &mut Vec<DiskUnit>, u: u8, unit: DiskUnit)
+    requires { u < length units.old.items }
+    ensures { units.new.items ≡ slice_set units.old.items u unit }
+{
+    units[usize::from(u)] = unit;
+}
+
+/// 32 units, of which these are set up.
+fn units_of(alloc: Global, setups: &[UnitSetup]) -> Result<Vec<DiskUnit>, NoMemory>
+    requires small { (s : Setup) → Contains (setups_of setups.now) s → s.unit < 32 }
+    ensures { IfOk result (λ v. v.items ≡ set_up (setups_of setups.now) (replicate 32 no_unit)) }
+{
+    let mut units = blank_units(alloc)?;
     for setup in setups {
         let unit = unit_for(alloc, setup)?;
-        units.put(setup.unit, unit);
+        put(&mut units, setup.unit, unit);
     }
     Ok(units)
 }
@@ -145,6 +165,7 @@ impl Core {
         let tables = Tables::new(alloc, outstanding, noises)?;
         Ok(Core {
             units,
+            row: 0,
             channels,
             slots: tables.slots,
             frames: 0,

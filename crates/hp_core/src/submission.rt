@@ -39,7 +39,7 @@ impl Core {
         requires below { first < block_count (unit_at self.old.world u).drive.kind }
         ensures { self.new ≡ in_queue u slot first self.old }
     {
-        self.units.join(u, slot, first);
+        self.units[usize::from(u)].join(slot, first);
     }
 
     /// A request joins in a free slot, which is given, with its bytes where it is a write.

@@ -16,6 +16,8 @@ ghost use Rattle.driver_machine.specs.Due.{steps_of};
 use crate::driver::Core;
 use driver_machine::{Made, Phase, RetryStep};
 use hp_interrupts::Sensed;
+use hp_units::DiskUnit;
+use hp_units::row::lowest;
 use pack_geometry::{DriveKind, Place};
 use request_slots::Asked;
 use seek_engine::Position;
@@ -23,12 +25,12 @@ use transfer_engine::Segment;
 
 // The units.
 impl Core {
-    /// Whether a unit is set up.
-    pub(crate) fn is_declared(&self, u: u8) -> bool
+    /// A unit, to be looked at.
+    pub fn unit(&self, u: u8) -> &DiskUnit
         requires { u < length self.now.world.units }
-        ensures { result ≡ (unit_at self.now.world u).declared }
+        ensures { result.now ≡ unit_at self.now.world u }
     {
-        self.units.unit(u).is_declared()
+        &self.units[usize::from(u)]
     }
 
     /// The kind of a unit's drive.
@@ -36,7 +38,7 @@ impl Core {
         requires { u < length self.now.world.units }
         ensures { result ≡ (unit_at self.now.world u).drive.kind }
     {
-        self.units.unit(u).kind()
+        self.unit(u).kind()
     }
 
     /// How many requests wait at a unit, with the one in hand.
@@ -44,7 +46,7 @@ impl Core {
         requires { u < length self.now.world.units }
         ensures { result ≡ length (unit_at self.now.world u).queue }
     {
-        self.units.unit(u).queue_len()
+        self.unit(u).queue_len()
     }
 
     /// How a drive that is at a place of its own has to position.
@@ -55,7 +57,7 @@ impl Core {
         requires target { IsInside (unit_at self.now.world u).drive.kind target }
         ensures { result ≡ position_for (unit_at self.now.world u).drive.kind (unit_at self.now.world u).drive.cc ((unit_at self.now.world u).drive.la / 64) target true }
     {
-        self.units.unit(u).position(target)
+        self.unit(u).position(target)
     }
 
     /// How a unit has to position for a first try at a place of its drive.
@@ -75,7 +77,7 @@ impl Core {
         ensures some { IfSome result (λ p. 0 < length (unit_at self.now.world u).queue) }
         ensures none { IfNone result ((unit_at self.now.world u).queue ≡ []) }
     {
-        self.units.unit(u).head()
+        self.unit(u).head()
     }
 
     /// Where a unit is with the head of its queue.
@@ -83,7 +85,7 @@ impl Core {
         requires { u < length self.now.world.units }
         ensures { result ≡ (unit_at self.now.world u).phase }
     {
-        self.units.unit(u).phase()
+        self.unit(u).phase()
     }
 
     /// Whether a unit's drive positions.
@@ -91,14 +93,14 @@ impl Core {
         requires { u < length self.now.world.units }
         ensures { result ≡ is_positioning (unit_at self.now.world u).drive.work }
     {
-        self.units.unit(u).is_positioning()
+        self.unit(u).is_positioning()
     }
 
     /// The lowest unit whose drive positions, found at once. None where none does.
     pub fn positioning(&self) -> Option<u8>
         ensures { result ≡ lowest can_arrive self.now.world.units 0 }
     {
-        self.units.positioning()
+        lowest(self.row)
     }
 
     /// Whether a unit's attention is up.
@@ -106,7 +108,7 @@ impl Core {
         requires { u < length self.now.world.units }
         ensures { result ≡ (unit_at self.now.world u).drive.attention }
     {
-        self.units.unit(u).is_raised()
+        self.unit(u).is_raised()
     }
 
     /// What the drive status says before a command, which is a write's transfer command or not.
@@ -115,7 +117,7 @@ impl Core {
         ensures { result ≡ (if not (unit_at self.now.world u).drive.online then Sensed.Offline
             else if writes && (unit_at self.now.world u).drive.locked then Sensed.Locked else Sensed.Go) }
     {
-        self.units.unit(u).sensed(writes)
+        self.unit(u).sensed(writes)
     }
 
     /// Whether the pack has to be acknowledged before the next command.
@@ -123,7 +125,7 @@ impl Core {
         requires { u < length self.now.world.units }
         ensures { result ≡ not (unit_at self.now.world u).drive.valid }
     {
-        self.units.unit(u).needs_pack()
+        self.unit(u).needs_pack()
     }
 
     /// Whether no offset is set.
@@ -131,7 +133,7 @@ impl Core {
         requires { u < length self.now.world.units }
         ensures { result ≡ (offset_field (unit_at self.now.world u).drive.offset == 0) }
     {
-        self.units.unit(u).is_centred()
+        self.unit(u).is_centred()
     }
 
     /// What the next transfer command moves.
@@ -139,7 +141,7 @@ impl Core {
         requires { u < length self.now.world.units }
         ensures { result ≡ segment_of (transfer_of (unit_at self.now.world u)) }
     {
-        self.units.unit(u).segment()
+        self.unit(u).segment()
     }
 
     /// How many first blocks of the request in hand are done.
@@ -147,7 +149,7 @@ impl Core {
         requires { u < length self.now.world.units }
         ensures { result ≡ (transfer_of (unit_at self.now.world u)).done }
     {
-        self.units.unit(u).done()
+        self.unit(u).done()
     }
 
     /// The next step of a retry, behind so many that are taken. None where all are.
@@ -158,7 +160,7 @@ impl Core {
         ensures some { IfSome result (λ step. drop taken (steps_of (transfer_of (unit_at self.now.world u))) ≡ step ∷ drop (taken + 1) (steps_of (transfer_of (unit_at self.now.world u)))) }
         ensures none { IfNone result (drop taken (steps_of (transfer_of (unit_at self.now.world u))) ≡ []) }
     {
-        self.units.unit(u).next_step(taken, write)
+        self.unit(u).next_step(taken, write)
     }
 
     /// The entry whose replacement takes the place of the sector behind so many others. None where none does.
@@ -169,7 +171,7 @@ impl Core {
         requires moved { moved < (segment_of (transfer_of (unit_at self.now.world u))).count }
         ensures { result ≡ entry_for moved (unit_at self.now.world u).table (transfer_of (unit_at self.now.world u)) }
     {
-        self.units.unit(u).entry(moved)
+        self.unit(u).entry(moved)
     }
 }
 

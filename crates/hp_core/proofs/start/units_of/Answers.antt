@@ -2,7 +2,7 @@ use Rattle.std.proofs.Common.{◌≡◌, ◌+◌, ◌<◌, drop, length, sym, ap
 use Rattle.std.specs.Prelude.{slice_set}
 use Rattle.std.proofs.lemmas.List.{length-set, length-replicate}
 use Rattle.driver_machine.specs.World.{UnitView, no_unit, new_unit, set_up}
-use Rattle.unit_bank.specs.Setups.{setup_of, setups_of}
+use Rattle.hp_units.specs.Setups.{setup_of, setups_of}
 use Rattle.hp_core.proofs.Starting.{one_more, unit_small, all_set}
 use Rattle.hp_core.proofs.start.units_of.Goals as goal
 
@@ -20,17 +20,17 @@ loop-setup-init c = record {
 }
 
 -- the unit stands at its place
-put : (c : goal.After-put) → c.put.new.self ≡ slice_set c.loop-setup.units c.setup-item.result.unit (new_unit (setup_of c.setup-item.result))
-put c = c.put.ensures ∙ ap (λ (v : UnitView). slice_set c.loop-setup.units c.setup-item.result.unit v) c.in_ok-unit.ensures
+put : (c : goal.After-put) → c.put.new.units.items ≡ slice_set c.loop-setup.units.items c.setup-item.result.unit (new_unit (setup_of c.setup-item.result))
+put c = c.put.ensures ∙ ap (λ (v : UnitView). slice_set c.loop-setup.units.items c.setup-item.result.unit v) c.in_ok-unit.ensures
 
 pub loop-setup-preserved : goal.loop-setup-preserved
 loop-setup-preserved c = record {
   all =
       ap (set_up (setups_of (drop (c.loop-setup.setup-index + 1) c.args.setups.now))) (put c)
-      ∙ sym (one_more c.args.setups.now c.loop-setup.setup-index c.setup-item.result c.loop-setup.units c.loop-setup-test.true c.setup-item.is)
+      ∙ sym (one_more c.args.setups.now c.loop-setup.setup-index c.setup-item.result c.loop-setup.units.items c.loop-setup-test.true c.setup-item.is)
       ∙ c.loop-setup.invariant.all;
-  size = ap length (put c) ∙ length-set c.loop-setup.units c.setup-item.result.unit (new_unit (setup_of c.setup-item.result)) ∙ c.loop-setup.invariant.size;
+  size = ap length (put c) ∙ length-set c.loop-setup.units.items c.setup-item.result.unit (new_unit (setup_of c.setup-item.result)) ∙ c.loop-setup.invariant.size;
 }
 
 pub returns : goal.returns
-returns c = all_set c.args.setups.now c.loop-setup.setup-index c.loop-setup.units _ c.loop-setup-test.false c.loop-setup.invariant.all
+returns c = all_set c.args.setups.now c.loop-setup.setup-index c.loop-setup.units.items _ c.loop-setup-test.false c.loop-setup.invariant.all

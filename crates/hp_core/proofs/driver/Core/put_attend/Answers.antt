@@ -1,17 +1,17 @@
-use Rattle.std.proofs.Common.{List, ◌<◌, length, sym, subst}
-use Rattle.std.specs.Prelude.{slice_set, slice_index_or}
-use Rattle.hardware_table.specs.Events.{attention_cleared}
+use Rattle.std.proofs.Common.{ap}
+use Rattle.driver_machine.specs.Acts.{going_to, with_state}
+use Rattle.driver_machine.specs.Events.{can_arrive}
+use Rattle.driver_machine.specs.World.{drive_of}
 use Rattle.hardware_table.specs.Adapter.{attention_lowered}
-use Rattle.driver_machine.specs.World.{UnitView, no_unit, drive_of}
-use Rattle.driver_machine.specs.Acts.{with_state, going_to}
+use Rattle.hardware_table.specs.Events.{attention_cleared}
+use Rattle.hp_core.proofs.Places.{unit_channel}
+use Rattle.hp_core.proofs.Units.{row_still}
 use Rattle.driver_machine.specs.declared.Phase.TheVariants as phase
 use Rattle.driver_machine.specs.declared.Task.TheVariants as task
-use Rattle.hp_core.specs.State.{State}
-use Rattle.hp_core.proofs.Places.{unit_channel}
 use Rattle.hp_core.proofs.driver.Core.put_attend.Goals as goal
 
-pub attend-requires : goal.attend-requires
-attend-requires c = subst (λ (s : State). c.args.u < length s.world.units) (sym c.self.view_is) c.requires.unit
+pub invariant_of-self : goal.invariant_of-self
+invariant_of-self c = record { positions = row_still _ _ _ _ _ _ c.self.view_is c.from.ensures c.requires.unit c.index_mut.ensures.value _ _ c.self.invariant.positions (ap can_arrive c.attend.ensures); room = c.self.invariant.room }
 
 pub returns : goal.returns
-returns c = unit_channel _ _ _ (λ (us : List UnitView). slice_set us c.args.u (going_to (phase.Due (task.Steps c.args.taken)) attention_cleared (slice_index_or us c.args.u no_unit))) _ _ _ _ (with_state (attention_lowered (drive_of c.args.u))) c.self.view_is c.attend.ensures c.from.ensures c.requires.adapter c.index_mut.ensures.value c.lower.ensures
+returns c = unit_channel _ _ _ _ _ _ _ (going_to (phase.Due (task.Steps c.args.taken)) attention_cleared) _ _ _ _ (with_state (attention_lowered (drive_of c.args.u))) c.self.view_is c.from.ensures c.requires.unit c.index_mut.ensures.value c.attend.ensures c.from-2.ensures c.requires.adapter c.index_mut-2.ensures.value c.lower.ensures

@@ -1,17 +1,17 @@
-use Rattle.std.proofs.Common.{List, ◌≡◌, ◌<◌, length, Some, sym, subst}
-use Rattle.std.specs.Prelude.{slice_set, slice_index_or}
-use Rattle.driver_machine.specs.World.{UnitView, no_unit, unit_at, transfer_of}
+use Rattle.std.proofs.Common.{◌≡◌, Some, ap}
 use Rattle.driver_machine.specs.Acts.{waits_too}
-use Rattle.driver_machine.specs.declared.Phase.TheVariants as phase
-use Rattle.hp_core.specs.State.{State}
+use Rattle.driver_machine.specs.Events.{can_arrive}
+use Rattle.driver_machine.specs.World.{UnitView, transfer_of}
 use Rattle.hp_core.proofs.Places.{unit_channel}
+use Rattle.hp_core.proofs.Units.{of_unit, row_still}
+use Rattle.driver_machine.specs.declared.Phase.TheVariants as phase
 use Rattle.hp_core.proofs.driver.Core.put_ready.Goals as goal
 
-pub ready-requires-clause-unit : goal.ready-requires-clause-unit
-ready-requires-clause-unit c = subst (λ (s : State). c.args.u < length s.world.units) (sym c.self.view_is) c.requires.unit
+pub ready-requires : goal.ready-requires
+ready-requires c = record { begun = of_unit _ _ _ _ _ _ c.self.view_is c.from.ensures c.requires.unit c.index_mut.ensures.value (λ (v : UnitView). v.transfer ≡ Some (transfer_of v)) c.requires.begun }
 
-pub ready-requires-clause-begun : goal.ready-requires-clause-begun
-ready-requires-clause-begun c = subst (λ (s : State). (unit_at s.world c.args.u).transfer ≡ Some (transfer_of (unit_at s.world c.args.u))) (sym c.self.view_is) c.requires.begun
+pub invariant_of-self : goal.invariant_of-self
+invariant_of-self c = record { positions = row_still _ _ _ _ _ _ c.self.view_is c.from.ensures c.requires.unit c.index_mut.ensures.value _ _ c.self.invariant.positions (ap can_arrive c.ready.ensures); room = c.self.invariant.room }
 
 pub returns : goal.returns
-returns c = unit_channel _ _ _ (λ (us : List UnitView). slice_set us c.args.u (record (slice_index_or us c.args.u no_unit) { phase = phase.Queued; transfer = Some (transfer_of (slice_index_or us c.args.u no_unit)) })) _ _ _ _ (waits_too c.args.u) c.self.view_is c.ready.ensures c.from.ensures c.requires.adapter c.index_mut.ensures.value c.wait.ensures
+returns c = unit_channel _ _ _ _ _ _ _ (λ (v : UnitView). record v { phase = phase.Queued; transfer = Some (transfer_of v) }) _ _ _ _ (waits_too c.args.u) c.self.view_is c.from.ensures c.requires.unit c.index_mut.ensures.value c.ready.ensures c.from-2.ensures c.requires.adapter c.index_mut-2.ensures.value c.wait.ensures

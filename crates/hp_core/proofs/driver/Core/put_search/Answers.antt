@@ -1,16 +1,12 @@
-use Rattle.std.proofs.Common.{List, ◌≡◌, ◌<◌, length, true, Some, sym, subst}
-use Rattle.std.specs.Prelude.{slice_set, slice_index_or}
-use Rattle.hardware_table.specs.Drive.{is_ready}
-use Rattle.transfer_engine.specs.State.{begun}
-use Rattle.driver_machine.specs.World.{UnitView, no_unit, unit_at}
+use Rattle.std.proofs.Common.{◌≡◌, true, Some}
 use Rattle.driver_machine.specs.Acts.{going_to, searching}
+use Rattle.driver_machine.specs.World.{UnitView}
+use Rattle.hardware_table.specs.Drive.{is_ready}
+use Rattle.hp_core.proofs.Units.{of_unit, unit_inside}
+use Rattle.hp_units.proofs.Rows.{others_at}
+use Rattle.transfer_engine.specs.State.{begun}
 use Rattle.driver_machine.specs.declared.Phase.TheVariants as phase
-use Rattle.hp_core.specs.State.{State}
-use Rattle.hp_core.proofs.Scenes.{units_inside}
 use Rattle.hp_core.proofs.driver.Core.put_search.Goals as goal
-
-pub search-requires-clause-unit : goal.search-requires-clause-unit
-search-requires-clause-unit c = subst (λ (s : State). c.args.u < length s.world.units) (sym c.self.view_is) c.requires.unit
 
 pub search-requires-clause-cylinder : goal.search-requires-clause-cylinder
 search-requires-clause-cylinder c = c.requires.cylinder
@@ -25,10 +21,14 @@ pub search-requires-clause-job : goal.search-requires-clause-job
 search-requires-clause-job c = c.requires.job
 
 pub search-requires-clause-ready : goal.search-requires-clause-ready
-search-requires-clause-ready c = subst (λ (s : State). is_ready (unit_at s.world c.args.u).drive.work ≡ true) (sym c.self.view_is) c.requires.ready
+search-requires-clause-ready c = of_unit _ _ _ _ _ _ c.self.view_is c.from.ensures c.requires.unit c.index_mut.ensures.value (λ (v : UnitView). is_ready v.drive.work ≡ true) c.requires.ready
 
 pub search-requires-clause-online : goal.search-requires-clause-online
-search-requires-clause-online c = subst (λ (s : State). (unit_at s.world c.args.u).drive.online ≡ true) (sym c.self.view_is) c.requires.online
+search-requires-clause-online c = of_unit _ _ _ _ _ _ c.self.view_is c.from.ensures c.requires.unit c.index_mut.ensures.value (λ (v : UnitView). v.drive.online ≡ true) c.requires.online
+
+pub noted-self-inside-requires-clause-others : goal.noted-self-inside-requires-clause-others
+noted-self-inside-requires-clause-others c =
+    others_at c.self.inside.row c.from.result c.args.u c.self.inside.units.items c.as_slice.result.now c.search.new.self c.from.ensures c.as_slice.ensures.value c.self.invariant.positions
 
 pub returns : goal.returns
-returns c = units_inside _ _ _ (λ (us : List UnitView). slice_set us c.args.u (record (going_to (phase.Positioning 0) (searching c.args.target c.args.sector) (slice_index_or us c.args.u no_unit)) { transfer = Some (begun c.args.job) })) c.self.view_is c.search.ensures
+returns c = unit_inside _ _ _ _ _ _ c.self.view_is c.from.ensures c.requires.unit c.index_mut.ensures.value _ (λ (v : UnitView). record (going_to (phase.Positioning 0) (searching c.args.target c.args.sector) v) { transfer = Some (begun c.args.job) }) c.search.ensures

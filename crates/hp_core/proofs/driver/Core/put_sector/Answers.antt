@@ -1,35 +1,62 @@
-use Rattle.std.proofs.Common.{◌≡◌, ap, ◌∙◌}
-use Rattle.driver_machine.specs.World.{AdapterView, adapter_at, adapter_of}
+use Rattle.std.proofs.Common.{◌≡◌, sym, ap, ◌∙◌}
+use Rattle.hardware_table.specs.Adapter.{AdapterState}
+use Rattle.hardware_table.specs.Drive.{DriveState}
+use Rattle.hardware_table.specs.declared.Work.TheVariants.{Transfer}
+use Rattle.driver_machine.specs.Events.{can_arrive}
+use Rattle.driver_machine.specs.World.{UnitView, unit_at, adapter_at, adapter_of}
 use Rattle.hp_core.specs.State.{State}
-use Rattle.hp_core.proofs.Places.{adapter_here}
+use Rattle.hp_core.proofs.Places.{adapter_state}
 use Rattle.hp_core.proofs.Rooms.{room_kept}
+use Rattle.hp_core.proofs.Steps.{may_here, state_kept, step_work, units_moved}
+use Rattle.hp_core.proofs.Units.{row_still, unit_here}
 use Rattle.hp_core.proofs.driver.Core.put_sector.Given.{Over}
 use Rattle.hp_core.proofs.driver.Core.put_sector.Goals as goal
 
+-- the adapter is that of the unit, and the drive is its own
+adapter_is : (g : Over) (c : goal.After-self-2-1 g) → c.channel.inside.adapter ≡ (adapter_at c.args.self.now.world (adapter_of c.args.u)).state
+adapter_is g c = adapter_state _ _ _ _ _ _ c.self.view_is c.from.ensures c.requires.there.adapter c.index_mut-channel.ensures.value c.channel.view_is
+
+drive_is : (g : Over) (c : goal.After-self-2-1 g) → c.unit.inside.drive ≡ (unit_at c.args.self.now.world c.args.u).drive
+drive_is g c =
+    ap (λ (v : UnitView). v.drive) (c.unit.view_is ∙ unit_here _ _ _ _ _ _ c.self.view_is c.from-2.ensures c.requires.there.unit c.index_mut-unit.ensures.value)
+
+pub step-requires : goal.step-requires
+step-requires g c = record {
+  unit = c.requires.there.small;
+  may = may_here _ _ _ _ _ _ _ c.self.view_is (adapter_state _ _ _ _ _ _ c.self.view_is c.from.ensures c.requires.there.adapter c.index_mut-channel.ensures.value c.channel.view_is)
+      (ap (λ (v : UnitView). v.drive) (c.unit.view_is ∙ unit_here _ _ _ _ _ _ c.self.view_is c.from-2.ensures c.requires.there.unit c.index_mut-unit.ensures.value)) c.requires.may;
+}
+
 pub invariant_of-self : goal.invariant_of-self
 invariant_of-self g c =
-    room_kept _ _ _ c.move_sector.result c.self.inside.slots c.move_sector.new.slots _ _ _ c.self.inside.answers.made c.self.inside.answers.most c.move_sector.ensures.slots c.move_sector.ensures.unchanged c.self.invariant
-
--- the adapter is that of the unit
-own : (g : Over) (c : goal.After-self-1 g) → c.channel.inside.adapter ≡ (adapter_at c.args.self.now.world (adapter_of c.args.u)).state
-own g c =
-    ap (λ (v : AdapterView). v.state)
-    (c.channel.view_is ∙ adapter_here _ _ c.args.self.now.world _ _ c.from.ensures (ap (λ (s : State). s.world.adapters) c.self.view_is) c.requires.there.adapter c.index_mut-channel.ensures.value)
+    let moves : c.unit.inside.drive.work ≡ Transfer c.channel.inside.adapter.write =
+    ap (λ (d : DriveState). d.work) (drive_is g c) ∙ c.requires.may.is.transfer ∙ ap (λ (a : AdapterState). Transfer a.write) (sym (adapter_is g c)) in
+    let still = step_work _ _ _ c.step.result c.channel.inside.adapter c.unit.inside.drive c.step.new.drive c.channel.inside.adapter.write moves c.step.ensures.drive c.step.ensures.unchanged in
+    record {
+      positions = row_still _ _ _ _ _ _ c.self.view_is c.from-2.ensures c.requires.there.unit c.index_mut-unit.ensures.value _ _ c.self.invariant.positions (still ∙ ap can_arrive c.unit.view_is);
+      room = room_kept _ _ _ c.step.result c.self.inside.slots c.step.new.self _ _ _ c.self.inside.answers.made c.self.inside.answers.most c.step.ensures.slots c.step.ensures.unchanged c.self.invariant.room;
+    }
 
 pub returns-clause-moves : goal.returns-clause-moves
-returns-clause-moves g c = rw (← c.requires.slot, ← own g c, ← c.self.view_is) c.move_sector.ensures.moves
+returns-clause-moves g c = rw (← c.requires.slot, ← adapter_is g c, ← drive_is g c, ← c.self.view_is) c.step.ensures.moves
 
 pub returns-clause-slots : goal.returns-clause-slots
-returns-clause-slots g c = rw (← c.requires.slot, ← own g c, ← c.self.view_is) c.move_sector.ensures.slots
+returns-clause-slots g c = rw (← c.requires.slot, ← adapter_is g c, ← drive_is g c, ← c.self.view_is) c.step.ensures.slots
 
 pub returns-clause-size : goal.returns-clause-size
-returns-clause-size g c = rw (← c.requires.slot, ← own g c, ← c.self.view_is) c.move_sector.ensures.size
+returns-clause-size g c = rw (← c.requires.slot, ← adapter_is g c, ← c.self.view_is) c.step.ensures.size
 
 pub returns-clause-failure : goal.returns-clause-failure
-returns-clause-failure g c = rw (← c.requires.slot, ← own g c, ← c.self.view_is) c.move_sector.ensures.failure
+returns-clause-failure g c = rw (← c.requires.slot, ← adapter_is g c, ← drive_is g c, ← c.self.view_is) c.step.ensures.failure
 
 pub returns-clause-units : goal.returns-clause-units
-returns-clause-units g c = rw (← own g c, ← c.self.view_is) c.move_sector.ensures.units
+returns-clause-units g c =
+    rw (← adapter_is g c)
+    (units_moved c.step.result c.channel.inside.adapter _ _ _ _ _ _ _ c.step.new.drive c.from-2.ensures (ap (λ (s : State). s.world.units) c.self.view_is) c.requires.there.unit c.index_mut-unit.ensures.value c.unit.view_is c.step.ensures.drive)
 
 pub returns-clause-others : goal.returns-clause-others
 returns-clause-others g c = (ap (λ (s : State). s.world.frames) c.self.view_is, ap (λ (s : State). s.world.answers) c.self.view_is, ap (λ (s : State). s.kept) c.self.view_is)
+
+pub returns-clause-unchanged : goal.returns-clause-unchanged
+returns-clause-unchanged g c =
+    state_kept c.step.result _ _ _ _ _ _ _ _ _ _ _ _ _ _ c.self.view_is c.index_mut-unit.ensures.value c.unit.view_is c.index_mut-channel.ensures.value c.channel.view_is c.step.ensures.unchanged

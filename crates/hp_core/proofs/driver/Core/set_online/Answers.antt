@@ -1,15 +1,13 @@
-use Rattle.std.proofs.Common.{refl, sym, subst, ◌<◌, List, length}
-use Rattle.hardware_table.specs.Events.{online_set}
+use Rattle.std.proofs.Common.{◌<◌, refl, sym, ap, ◌∙◌, subst}
 use Rattle.driver_machine.specs.Acts.{with_drive}
-use Rattle.std.specs.Prelude.{slice_set, slice_index_or}
-use Rattle.driver_machine.specs.World.{UnitView, no_unit}
-use Rattle.hp_core.specs.State.{State}
+use Rattle.driver_machine.specs.Events.{can_arrive}
+use Rattle.hardware_table.specs.Events.{online_set}
 use Rattle.hp_core.proofs.Telling.{silent_act}
-use Rattle.hp_core.proofs.Scenes.{units_inside}
+use Rattle.hp_core.proofs.Units.{online_still, row_still, unit_inside}
 use Rattle.hp_core.proofs.driver.Core.set_online.Goals as goal
 
-pub set_online-requires : goal.set_online-requires
-set_online-requires c = subst (λ (s : State). c.args.u < length s.world.units) (sym c.self.view_is) (subst (λ n. c.args.u < n) (sym c.requires.sound.units) c.requires.may.unit)
+pub invariant_of-self : goal.invariant_of-self
+invariant_of-self c = record { positions = row_still _ _ _ _ _ _ c.self.view_is c.from.ensures (subst (λ n. c.args.u < n) (sym c.requires.sound.units) c.requires.may.unit) c.index_mut.ensures.value _ _ c.self.invariant.positions (ap can_arrive c.set_online.ensures ∙ online_still c.args.on _); room = c.self.invariant.room }
 
 pub returns : goal.returns
-returns c = silent_act _ _ _ (record { reads = λ w p. tt; packs = λ w p. refl }) c.requires.may refl (units_inside _ _ _ (λ (us : List UnitView). slice_set us c.args.u (with_drive (online_set c.args.on) (slice_index_or us c.args.u no_unit))) c.self.view_is c.set_online.ensures)
+returns c = silent_act _ _ _ (record { reads = λ w p. tt; packs = λ w p. refl }) c.requires.may refl (unit_inside _ _ _ _ _ _ c.self.view_is c.from.ensures (subst (λ n. c.args.u < n) (sym c.requires.sound.units) c.requires.may.unit) c.index_mut.ensures.value _ (with_drive (online_set c.args.on)) c.set_online.ensures)
