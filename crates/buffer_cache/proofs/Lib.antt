@@ -5,4 +5,5 @@ mod Orders
 mod Stays
 mod Turns
 mod Wholes
+mod Tills
 pub mod Passes

@@ -35,11 +35,11 @@ pub record Flushing (line : ℕ) (order : List (Key × ℕ)) (slots now : List H
   pub left : entries_of rest now ≡ entries_of rest slots
   pub room : length now ≡ length slots
 
-written_more : (xs ys : List Entry) → written_back (xs ++ ys) ≡ written_back xs ++ written_back ys
+pub written_more : (xs ys : List Entry) → written_back (xs ++ ys) ≡ written_back xs ++ written_back ys
 written_more [] ys = refl
 written_more (x ∷ xs) ys = ap (λ z. write_backs (if_changed (Some x)) ++ z) (written_more xs ys) ∙ sym (append_assoc (write_backs (if_changed (Some x))) (written_back xs) (written_back ys))
 
-same_head : {x y : Entry} {xs ys : List Entry} → x ∷ xs ≡ y ∷ ys → x ≡ y
+pub same_head : {x y : Entry} {xs ys : List Entry} → x ∷ xs ≡ y ∷ ys → x ≡ y
 same_head {x} {y} {xs} {ys} e = ap (head_or x) e
   where
     head_or : Entry → List Entry → Entry

@@ -123,7 +123,7 @@ pub not_changed : (unit block : ℕ) (from : List ℕ) (s : State) → entry_of 
 not_changed unit block from s none = ap (λ o. record s { entries = in_front (rewritten from o) s.entries }) none
 
 -- ---- what stopped a call
-stop_is : {A : Type 0} (result : Result A CacheFault) (stop : Stop) → IsErrAnd result (λ x. x ≡ fault.Stop stop) → stop_of result ≡ Some stop
+pub stop_is : {A : Type 0} (result : Result A CacheFault) (stop : Stop) → IsErrAnd result (λ x. x ≡ fault.Stop stop) → stop_of result ≡ Some stop
 stop_is (Ok value) stop is = absurd is
 stop_is (Err other) stop is = ap (λ (x : CacheFault). stop_of {A = Unit {0}} (Err x)) is
 

@@ -5,9 +5,11 @@ use Rattle.trace_replay.specs.requests.Requests.{Request}
 use Rattle.trace_replay.specs.Moments.{Moment}
 use Rattle.driver_machine.specs.World.{World}
 use Rattle.driver_machine.specs.Guards.{IsSetUp}
+use Rattle.driver_laws.specs.declared.answers.outcome.Stop.{Stop}
 use Rattle.driver_laws.specs.rules.Sessions.{Part, waited}
 use Rattle.driver_laws.specs.rules.Rest.{HasTables}
 use Rattle.blocking_io.specs.FrontsPasses.{Stage, setup_at, GoesOn}
+use Rattle.blocking_io.specs.Stopping.{StopsIn, begun}
 use Rattle.blocking_io.specs.Fronts.{OthersStay}
 use Rattle.blocking_io.specs.Sites.{kind_at, map_at, left_map}
 use Rattle.driver_laws.specs.rules.Requests.{reads, behind_one, behind}
@@ -39,6 +41,16 @@ pub record Asks (line : ℕ) (requests : List Request) (old new : Stage) : Type 
   pub goes : GoesOn (parts_of line waited_for) old new
   pub others : IsTrue new.packs_tell → HasTables (setup_at old) → OthersStay (setup_at old) new.held
   pub map : IsTrue new.packs_tell → HasTables (setup_at old) → map_at new ≡ behind (map_at old) requests
+
+-- WHERE IT STOPPED, these requests were to be made: each was waited for before the next one, up to one in which it stopped.
+pub record AsksTill (stop : Stop) (line : ℕ) (requests : List Request) (old new : Stage) : Type 0 where
+  pub waited_for : List Waited
+  pub cut : Request
+  pub asked : List Moment
+  pub drained : Option (List Moment)
+  pub later : List Request
+  pub are : requests_of waited_for ++ cut ∷ later ≡ requests
+  pub stops : StopsIn stop (parts_of line waited_for ++ begun line cut asked drained) old new
 
 -- A READ of one gives its bytes where it can be used.
 abbrev pub found_bytes : (found : Bool) → List ℕ → Option (List ℕ)

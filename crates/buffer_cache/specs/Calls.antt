@@ -1,5 +1,5 @@
 -- WHAT THE CALLS OF THE CACHE COME TO, over the driver and the packs.
-use Rattle.std.specs.Prelude.{◌≡◌, ℕ, ◌≤◌, Bool, true, false, if◌then◌else◌, IsTrue, List, [], ◌∷◌, Option, None, Some, Result, Ok, Err}
+use Rattle.std.specs.Prelude.{◌≡◌, ◌⊎◌, ℕ, ◌≤◌, Bool, true, false, if◌then◌else◌, is_some, IsTrue, List, [], ◌∷◌, Option, None, Some, Result, Ok, Err}
 use Rattle.std.specs.List.{AllByRecursion}
 use Rattle.driver_laws.specs.declared.answers.outcome.Stop.{Stop}
 use Rattle.driver_laws.specs.rules.Rest.{HasTables}
@@ -9,7 +9,8 @@ use Rattle.buffer_cache.specs.Passes.{State as Driver}
 use Rattle.buffer_cache.specs.Passes.{OthersStay}
 use Rattle.buffer_cache.specs.Passes.{map_at, left_map}
 use Rattle.driver_laws.specs.declared.rules.cached.Entry.{Entry}
-use Rattle.driver_laws.specs.rules.Entries.{State, to_write_back, with_room, write_backs, put, flushed, written_back}
+use Rattle.driver_laws.specs.rules.Entries.{State, to_write_back, with_room, write_backs, counted, put, flushed, written_back}
+use Rattle.trace_replay.specs.requests.Requests.{Request}
 use Rattle.driver_laws.specs.rules.Requests.{reads, writes}
 use Rattle.driver_laws.specs.rules.Calls.{entry, read_done, write_done}
 use Rattle.driver_laws.specs.rules.Contents.{AllFit, Gives, Takes, Flushes, IsOne}
@@ -32,6 +33,10 @@ pub record Fetched (line unit block : ℕ) (found : Bool) (into : List ℕ) (s s
   pub state : s' ≡ (if found then with_room s else s)
   pub asks : Asks line (reads unit block ∷ (if found then write_backs (to_write_back s) else [])) old new
   pub told : IsTrue new.packs_tell → HasTables (setup_at old) → map_at old unit block ≡ found_bytes found into
+
+-- what is asked for that
+abbrev pub fetch_asked : (held : Option (List ℕ)) → State → (unit block : ℕ) → List Request
+fetch_asked held s unit block = reads unit block ∷ (if is_some held then write_backs (to_write_back s) else [])
 
 -- IT IS PUT IN FRONT, changed; where memory refuses that, it is written at once.
 pub record Placed (line unit block : ℕ) (from : List ℕ) (s s' : State) (old new : Stage) : Type 0 where
@@ -68,6 +73,10 @@ pub record Syncs (line : ℕ) (s s' : State) (old new : Stage) : Type 0 where
 pub record Holds (unit block : ℕ) (from : Option (List ℕ)) (s : State) (old new : Stage) : Type 0 where
   pub each : (u b : ℕ) → IsOne (map_at old) s.entries unit block from u b (left_map old new u b)
   pub others : OthersStay (setup_at old) new.held
+
+-- HOW OFTEN MEMORY REFUSED an insertion: once in a call at the most, whatever it answers
+abbrev pub RefusesOnce : (s s' : State) → Type 0
+RefusesOnce s s' = (s'.refused ≡ s.refused) ⊎ (s'.refused ≡ (counted s).refused)
 
 -- THE ANSWER: what stopped a call, if something did; and what it gave where nothing did
 abbrev pub stop_of : {A : Type 0} → Result A CacheFault → Option Stop

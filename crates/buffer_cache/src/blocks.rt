@@ -1,13 +1,13 @@
 // One block is read or written.
-ghost use Rattle.std.specs.Prelude.{◌≡◌, ◌≤◌, ◌∷◌, [], true, IsTrue, IfOk, OnOk, OnErr, if◌then◌else◌};
+ghost use Rattle.std.specs.Prelude.{◌≡◌, ◌≤◌, ◌∷◌, [], true, IsTrue, IfOk, IfErr, OnOk, OnErr, if◌then◌else◌};
 ghost use Rattle.partitions.specs.declared.Part.TheVariants.{C};
 ghost use Rattle.driver_laws.specs.answers.Outcome.{stop_in};
 ghost use Rattle.driver_laws.specs.rules.Rest.{HasTables};
 ghost use Rattle.blocking_io.specs.FrontsPasses.{setup_at};
 ghost use Rattle.blocking_io.specs.Sites.{site, Keeps, MayTransfer, IsUntouched};
 ghost use Rattle.blocking_io.specs.Blocks.{blocks_reached};
-ghost use Rattle.driver_laws.specs.rules.Requests.{writes};
-ghost use Rattle.buffer_cache.specs.Asks.{IsData, Asks, Fetches, LeftBy};
+ghost use Rattle.driver_laws.specs.rules.Requests.{reads, writes};
+ghost use Rattle.buffer_cache.specs.Asks.{IsData, Asks, AsksTill, Fetches, LeftBy};
 
 use blocking_io::{
     Reached, Request, Stop, Subsystem, ask_read, ask_write, fronts_law, sessions_law,
@@ -65,6 +65,9 @@ pub fn fetch_block<P: Packs, T: Sink>(
         → IsUntouched
         (site P.tells P.held T.tells T.taken subsystem.old.world packs.old trace.old)
         (site P.tells P.held T.tells T.taken subsystem.new.world packs.new trace.new)) }
+    ensures till { IfErr result (λ stop. AsksTill stop line (reads unit block ∷ [])
+        (site P.tells P.held T.tells T.taken subsystem.old.world packs.old trace.old)
+        (site P.tells P.held T.tells T.taken subsystem.new.world packs.new trace.new)) }
     ensures keeps { Keeps P.tells P.faults T.tells T.faults subsystem.old subsystem.new packs.old packs.new trace.old trace.new (stop_in result) }
 {
     sessions_law();
@@ -102,6 +105,9 @@ pub fn store_block<P: Packs, T: Sink>(
         (site P.tells P.held T.tells T.taken subsystem.new.world packs.new trace.new)) }
     ensures stops { OnErr result (IsTrue (P.tells packs.new) → HasTables (setup_at (site P.tells P.held T.tells T.taken subsystem.old.world packs.old trace.old))
         → LeftBy (writes unit block from.now)
+        (site P.tells P.held T.tells T.taken subsystem.old.world packs.old trace.old)
+        (site P.tells P.held T.tells T.taken subsystem.new.world packs.new trace.new)) }
+    ensures till { IfErr result (λ stop. AsksTill stop line (writes unit block from.now ∷ [])
         (site P.tells P.held T.tells T.taken subsystem.old.world packs.old trace.old)
         (site P.tells P.held T.tells T.taken subsystem.new.world packs.new trace.new)) }
     ensures keeps { Keeps P.tells P.faults T.tells T.faults subsystem.old subsystem.new packs.old packs.new trace.old trace.new (stop_in result) }

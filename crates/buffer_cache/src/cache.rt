@@ -1,9 +1,12 @@
 // A block is read or written through the cache.
-ghost use Rattle.std.specs.Prelude.{◌≡◌, ◌≤◌, IsSome, None, Some};
+ghost use Rattle.std.specs.Prelude.{◌≡◌, ◌≤◌, true, IsSome, None, Some};
 ghost use Rattle.driver_laws.specs.rules.Entries.{entry_of};
-ghost use Rattle.buffer_cache.specs.Passes.{site, Keeps};
-ghost use Rattle.buffer_cache.specs.Asks.{IsData};
-ghost use Rattle.buffer_cache.specs.Calls.{MayUse, Holds, IfTold, Reads, Writes, stop_of, given_by, is_done};
+ghost use Rattle.driver_laws.specs.rules.Calls.{read_done, write_done};
+ghost use Rattle.driver_laws.specs.rules.Contents.{cached};
+ghost use Rattle.driver_laws.specs.declared.answers.outcome.Stop.{Stop};
+ghost use Rattle.buffer_cache.specs.Passes.{map_at, site, Keeps};
+ghost use Rattle.buffer_cache.specs.Asks.{IsData, AsksTill};
+ghost use Rattle.buffer_cache.specs.Calls.{MayUse, Holds, IfTold, Reads, Writes, stop_of, given_by, is_done, RefusesOnce};
 
 use crate::Subsystem;
 use crate::fault::CacheFault;
@@ -18,8 +21,9 @@ impl Cache {
     /// behind an Ok and `Unusable` it is ready again.
     ///
     /// `Unusable` comes exactly where the block can't be used; cache and packs are as they were then, and of the buffer nothing is said.
-    /// `Stop` comes only where the count of faults of the packs or of the trace rose; no further call may follow then. Want of memory is
-    /// never answered: where an insertion is refused, that is counted, and the block is not in the cache.
+    /// `Stop` comes only where the count of faults of the packs or of the trace rose; no further call may follow then, and the requests were
+    /// those of an Ok or `Unusable`, up to one in which it stopped. Want of memory is never answered: where an insertion is refused, that is
+    /// counted, once in a call at the most, and the block is not in the cache.
     pub fn read<P: Packs, T: Sink>(
         &mut self,
         subsystem: &mut Subsystem,
@@ -44,6 +48,13 @@ impl Cache {
             (site P.tells P.held T.tells T.taken subsystem.old.world packs.old trace.old)
             (site P.tells P.held T.tells T.taken subsystem.new.world packs.new trace.new)) }
         ensures may { stop_of result ≡ None → MayUse self.new subsystem.new }
+        ensures refused { RefusesOnce self.old self.new }
+        ensures till { (stop : Stop) → stop_of result ≡ Some stop → IfTold self.old
+            (site P.tells P.held T.tells T.taken subsystem.old.world packs.old trace.old)
+            (site P.tells P.held T.tells T.taken subsystem.new.world packs.new trace.new)
+            (AsksTill stop line (read_done (cached self.old.entries (map_at (site P.tells P.held T.tells T.taken subsystem.old.world packs.old trace.old)) unit block) true self.old unit block).asked
+            (site P.tells P.held T.tells T.taken subsystem.old.world packs.old trace.old)
+            (site P.tells P.held T.tells T.taken subsystem.new.world packs.new trace.new)) }
         ensures keeps { Keeps P.tells P.faults T.tells T.faults subsystem.old subsystem.new packs.old packs.new trace.old trace.new (stop_of result) }
     {
         cache_law();
@@ -83,6 +94,13 @@ impl Cache {
             (site P.tells P.held T.tells T.taken subsystem.old.world packs.old trace.old)
             (site P.tells P.held T.tells T.taken subsystem.new.world packs.new trace.new)) }
         ensures may { stop_of result ≡ None → MayUse self.new subsystem.new }
+        ensures refused { RefusesOnce self.old self.new }
+        ensures till { (stop : Stop) → stop_of result ≡ Some stop → IfTold self.old
+            (site P.tells P.held T.tells T.taken subsystem.old.world packs.old trace.old)
+            (site P.tells P.held T.tells T.taken subsystem.new.world packs.new trace.new)
+            (AsksTill stop line (write_done (cached self.old.entries (map_at (site P.tells P.held T.tells T.taken subsystem.old.world packs.old trace.old)) unit block) true self.old unit block from.now).asked
+            (site P.tells P.held T.tells T.taken subsystem.old.world packs.old trace.old)
+            (site P.tells P.held T.tells T.taken subsystem.new.world packs.new trace.new)) }
         ensures keeps { Keeps P.tells P.faults T.tells T.faults subsystem.old subsystem.new packs.old packs.new trace.old trace.new (stop_of result) }
     {
         cache_law();

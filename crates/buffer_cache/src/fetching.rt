@@ -3,9 +3,9 @@ ghost use Rattle.std.specs.Prelude.{◌≡◌, ◌≤◌, ◌∷◌, Some, None,
 ghost use Rattle.driver_laws.specs.answers.Outcome.{stop_in};
 ghost use Rattle.driver_laws.specs.rules.Entries.{with_room, to_write_back, write_backs, entry_of};
 ghost use Rattle.driver_laws.specs.rules.Requests.{reads};
-ghost use Rattle.buffer_cache.specs.Passes.{site, Keeps};
-ghost use Rattle.buffer_cache.specs.Asks.{IsData, Asks};
-ghost use Rattle.buffer_cache.specs.Calls.{MayUse, Holds, IfTold, Fetched, stop_of};
+ghost use Rattle.buffer_cache.specs.Passes.{map_at, site, Keeps};
+ghost use Rattle.buffer_cache.specs.Asks.{IsData, Asks, AsksTill};
+ghost use Rattle.buffer_cache.specs.Calls.{MayUse, Holds, IfTold, Fetched, fetch_asked, stop_of};
 
 use crate::fault::CacheFault;
 use crate::slots::Cache;
@@ -34,6 +34,10 @@ impl Cache {
             (Holds 0 0 None self.old
             (site P.tells P.held T.tells T.taken subsystem.old.world packs.old trace.old)
             (site P.tells P.held T.tells T.taken subsystem.new.world packs.new trace.new))) }
+        ensures refused { self.new.refused ≡ self.old.refused }
+        ensures till { IfErr result (λ stop. AsksTill stop line (write_backs (to_write_back self.old))
+            (site P.tells P.held T.tells T.taken subsystem.old.world packs.old trace.old)
+            (site P.tells P.held T.tells T.taken subsystem.new.world packs.new trace.new)) }
         ensures keeps { Keeps P.tells P.faults T.tells T.faults subsystem.old subsystem.new packs.old packs.new trace.old trace.new (stop_in result) }
     {
         self.law();
@@ -75,6 +79,13 @@ impl Cache {
             (site P.tells P.held T.tells T.taken subsystem.old.world packs.old trace.old)
             (site P.tells P.held T.tells T.taken subsystem.new.world packs.new trace.new)
             (Holds 0 0 None self.old
+            (site P.tells P.held T.tells T.taken subsystem.old.world packs.old trace.old)
+            (site P.tells P.held T.tells T.taken subsystem.new.world packs.new trace.new))) }
+        ensures refused { self.new.refused ≡ self.old.refused }
+        ensures till { IfErr result (λ stop. IfTold self.old
+            (site P.tells P.held T.tells T.taken subsystem.old.world packs.old trace.old)
+            (site P.tells P.held T.tells T.taken subsystem.new.world packs.new trace.new)
+            (AsksTill stop line (fetch_asked (map_at (site P.tells P.held T.tells T.taken subsystem.old.world packs.old trace.old) unit block) self.old unit block)
             (site P.tells P.held T.tells T.taken subsystem.old.world packs.old trace.old)
             (site P.tells P.held T.tells T.taken subsystem.new.world packs.new trace.new))) }
         ensures keeps { Keeps P.tells P.faults T.tells T.faults subsystem.old subsystem.new packs.old packs.new trace.old trace.new (stop_in result) }

@@ -4,7 +4,8 @@
 //! What is proved: `Cache::read` gives the cached content of a block, and `Cache::write` replaces it; all other cached contents stay, and
 //! entries, order and requests are those of `read_done` and `write_done`. `Cache::sync` writes each changed entry back, the first one
 //! first. `Unusable` comes exactly where the block can't be used. After any answer the packs hold for each block what they held, what was
-//! cached, or what was to be written (`Holds`). What the packs hold is said where they tell it, and the driver's tables are
+//! cached, or what was to be written (`Holds`), and memory refused one insertion at the most (`RefusesOnce`). Where a call stopped, the trace
+//! took the lines of its requests up to one in which it did (`AsksTill`). What the packs hold is said where they tell it, and the driver's tables are
 //! theirs. Only tested: that an insertion comes into the cache where memory is there.
 //!
 //! Single data blocks of a unit, each read or written by a request of its own that is waited for.

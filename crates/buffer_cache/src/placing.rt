@@ -1,13 +1,15 @@
 // A block that is no entry is read or written.
-ghost use Rattle.std.specs.Prelude.{◌≡◌, ◌≤◌, IsTrue, None, Some, OnOk, OnErr};
+ghost use Rattle.std.specs.Prelude.{◌≡◌, ◌≤◌, ◌∷◌, [], true, IsTrue, None, Some, IfErr, OnOk, OnErr};
 ghost use Rattle.driver_laws.specs.answers.Outcome.{stop_in};
 ghost use Rattle.driver_laws.specs.rules.Rest.{HasTables};
 ghost use Rattle.buffer_cache.specs.Passes.{setup_at};
 ghost use Rattle.driver_laws.specs.rules.Entries.{entry_of};
 ghost use Rattle.driver_laws.specs.rules.Requests.{writes};
-ghost use Rattle.buffer_cache.specs.Passes.{site, Keeps};
-ghost use Rattle.buffer_cache.specs.Asks.{IsData, LeftBy};
-ghost use Rattle.buffer_cache.specs.Calls.{MayUse, Holds, IfTold, Placed, Reads, Writes, stop_of, given_by, is_done};
+ghost use Rattle.driver_laws.specs.rules.Calls.{read_found, write_found};
+ghost use Rattle.driver_laws.specs.declared.answers.outcome.Stop.{Stop};
+ghost use Rattle.buffer_cache.specs.Passes.{map_at, site, Keeps};
+ghost use Rattle.buffer_cache.specs.Asks.{IsData, AsksTill, LeftBy};
+ghost use Rattle.buffer_cache.specs.Calls.{MayUse, Holds, IfTold, Placed, Reads, Writes, stop_of, given_by, is_done, RefusesOnce};
 
 use crate::fault::CacheFault;
 use crate::slots::Cache;
@@ -41,6 +43,13 @@ impl Cache {
             (site P.tells P.held T.tells T.taken subsystem.old.world packs.old trace.old)
             (site P.tells P.held T.tells T.taken subsystem.new.world packs.new trace.new)) }
         ensures may { stop_of result ≡ None → MayUse self.new subsystem.new }
+        ensures refused { RefusesOnce self.old self.new }
+        ensures till { (stop : Stop) → stop_of result ≡ Some stop → IfTold self.old
+            (site P.tells P.held T.tells T.taken subsystem.old.world packs.old trace.old)
+            (site P.tells P.held T.tells T.taken subsystem.new.world packs.new trace.new)
+            (AsksTill stop line (read_found (map_at (site P.tells P.held T.tells T.taken subsystem.old.world packs.old trace.old) unit block) true self.old unit block).asked
+            (site P.tells P.held T.tells T.taken subsystem.old.world packs.old trace.old)
+            (site P.tells P.held T.tells T.taken subsystem.new.world packs.new trace.new)) }
         ensures keeps { Keeps P.tells P.faults T.tells T.faults subsystem.old subsystem.new packs.old packs.new trace.old trace.new (stop_of result) }
     {
         cache_law();
@@ -73,6 +82,10 @@ impl Cache {
         ensures may { OnOk result (MayUse self.new subsystem.new) }
         ensures stops { OnErr result (IsTrue (P.tells packs.new) → HasTables (setup_at (site P.tells P.held T.tells T.taken subsystem.old.world packs.old trace.old))
             → LeftBy (writes unit block from.now)
+            (site P.tells P.held T.tells T.taken subsystem.old.world packs.old trace.old)
+            (site P.tells P.held T.tells T.taken subsystem.new.world packs.new trace.new)) }
+        ensures refused { RefusesOnce self.old self.new }
+        ensures till { IfErr result (λ stop. AsksTill stop line (writes unit block from.now ∷ [])
             (site P.tells P.held T.tells T.taken subsystem.old.world packs.old trace.old)
             (site P.tells P.held T.tells T.taken subsystem.new.world packs.new trace.new)) }
         ensures keeps { Keeps P.tells P.faults T.tells T.faults subsystem.old subsystem.new packs.old packs.new trace.old trace.new (stop_in result) }
@@ -109,6 +122,13 @@ impl Cache {
             (site P.tells P.held T.tells T.taken subsystem.old.world packs.old trace.old)
             (site P.tells P.held T.tells T.taken subsystem.new.world packs.new trace.new)) }
         ensures may { stop_of result ≡ None → MayUse self.new subsystem.new }
+        ensures refused { RefusesOnce self.old self.new }
+        ensures till { (stop : Stop) → stop_of result ≡ Some stop → IfTold self.old
+            (site P.tells P.held T.tells T.taken subsystem.old.world packs.old trace.old)
+            (site P.tells P.held T.tells T.taken subsystem.new.world packs.new trace.new)
+            (AsksTill stop line (write_found (map_at (site P.tells P.held T.tells T.taken subsystem.old.world packs.old trace.old) unit block) true self.old unit block from.now).asked
+            (site P.tells P.held T.tells T.taken subsystem.old.world packs.old trace.old)
+            (site P.tells P.held T.tells T.taken subsystem.new.world packs.new trace.new)) }
         ensures keeps { Keeps P.tells P.faults T.tells T.faults subsystem.old subsystem.new packs.old packs.new trace.old trace.new (stop_of result) }
     {
         cache_law();

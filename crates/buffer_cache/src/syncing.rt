@@ -1,12 +1,12 @@
 // Every changed entry is written back.
-ghost use Rattle.std.specs.Prelude.{◌≡◌, ◌≤◌, false, IsTrue, Some, None, OnOk, OnErr, map, length};
+ghost use Rattle.std.specs.Prelude.{◌≡◌, ◌≤◌, false, IsTrue, Some, None, IfErr, OnOk, OnErr, map, length};
 ghost use Rattle.driver_laws.specs.answers.Outcome.{stop_in};
 ghost use Rattle.driver_laws.specs.rules.Rest.{HasTables};
 ghost use Rattle.buffer_cache.specs.Passes.{setup_at};
 ghost use Rattle.buffer_cache.specs.Passes.{site, Keeps, MayTransfer};
 ghost use Rattle.driver_laws.specs.rules.Requests.{writes};
 ghost use Rattle.driver_laws.specs.rules.Entries.{unchanged, if_changed, write_backs, written_back};
-ghost use Rattle.buffer_cache.specs.Asks.{IsData, Asks, LeftBy};
+ghost use Rattle.buffer_cache.specs.Asks.{IsData, Asks, AsksTill, LeftBy};
 ghost use Rattle.buffer_cache.specs.Views.{entry_with, entries_of, state_of, IsKept};
 ghost use Rattle.buffer_cache.specs.Calls.{MayUse, Holds, IfTold, Syncs};
 
@@ -35,6 +35,9 @@ fn write_back<P: Packs, T: Sink>(
     ensures held { OnOk result (held.new ≡ record { bytes = held.old.bytes; changed = false }) }
     ensures stops { OnErr result (IsTrue (P.tells packs.new) → HasTables (setup_at (site P.tells P.held T.tells T.taken subsystem.old.world packs.old trace.old))
         → LeftBy (writes key.unit key.block held.old.bytes)
+        (site P.tells P.held T.tells T.taken subsystem.old.world packs.old trace.old)
+        (site P.tells P.held T.tells T.taken subsystem.new.world packs.new trace.new)) }
+    ensures till { IfErr result (λ stop. AsksTill stop line (write_backs (if_changed (Some (entry_with key held.old))))
         (site P.tells P.held T.tells T.taken subsystem.old.world packs.old trace.old)
         (site P.tells P.held T.tells T.taken subsystem.new.world packs.new trace.new)) }
     ensures keeps { Keeps P.tells P.faults T.tells T.faults subsystem.old subsystem.new packs.old packs.new trace.old trace.new (stop_in result) }
@@ -70,6 +73,9 @@ fn write_all_back<P: Packs, T: Sink>(
         (Holds 0 0 None (state_of order.now slots.old.items 0)
         (site P.tells P.held T.tells T.taken subsystem.old.world packs.old trace.old)
         (site P.tells P.held T.tells T.taken subsystem.new.world packs.new trace.new))) }
+    ensures till { IfErr result (λ stop. AsksTill stop line (written_back (entries_of order.now.entries slots.old.items))
+        (site P.tells P.held T.tells T.taken subsystem.old.world packs.old trace.old)
+        (site P.tells P.held T.tells T.taken subsystem.new.world packs.new trace.new)) }
     ensures keeps { Keeps P.tells P.faults T.tells T.faults subsystem.old subsystem.new packs.old packs.new trace.old trace.new (stop_in result) }
 {
     sessions_law();
@@ -104,6 +110,10 @@ impl Cache {
             (site P.tells P.held T.tells T.taken subsystem.old.world packs.old trace.old)
             (site P.tells P.held T.tells T.taken subsystem.new.world packs.new trace.new)) }
         ensures may { OnOk result (MayUse self.new subsystem.new) }
+        ensures refused { self.new.refused ≡ self.old.refused }
+        ensures till { IfErr result (λ stop. AsksTill stop line (written_back self.old.entries)
+            (site P.tells P.held T.tells T.taken subsystem.old.world packs.old trace.old)
+            (site P.tells P.held T.tells T.taken subsystem.new.world packs.new trace.new)) }
         ensures keeps { Keeps P.tells P.faults T.tells T.faults subsystem.old subsystem.new packs.old packs.new trace.old trace.new (stop_in result) }
     {
         cache_law();

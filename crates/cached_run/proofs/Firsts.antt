@@ -1,11 +1,12 @@
 -- How many blocks come before the first that can't be used.
-use Rattle.std.proofs.Common.{◌≡◌, ℕ, zero, suc, ◌+◌, ◌<◌, ◌≤◌, List, Option, None, Some, refl, sym, ap, ◌∙◌, subst, arith}
+use Rattle.std.proofs.Common.{◌≡◌, ℕ, zero, suc, ◌+◌, ◌-◌, ◌<◌, ◌≤◌, List, Option, None, Some, refl, sym, ap, ◌∙◌, subst, arith}
 use Rattle.std.specs.Prelude.{IsSome}
 use Rattle.driver_laws.specs.rules.Machine.{Blocks}
 use Rattle.driver_laws.specs.rules.Requests.{Map}
 use Rattle.driver_laws.specs.rules.Waited.{unusable_or, first_unusable}
 use Rattle.cached_run.specs.Answers.{usable_of}
-use Rattle.cached_run.specs.Leaving.{usable_in}
+use Rattle.cached_run.specs.Leaving.{usable_in, tried_in}
+use Rattle.cached_run.specs.Sessions.{tried_of}
 
 on_some : (block : Option (List ℕ)) (k : ℕ) (later : Option ℕ) → IsSome block → unusable_or block k later ≡ later
 on_some None k later some = absurd (search arith)
@@ -64,6 +65,28 @@ some_usable contents unit first count done lt usable none =
     zeros : (j : ℕ) → j ≡ 0 + j
     zeros j = omega arith
 
+-- THE SAME of how many are tried
+pub all_tried : (contents : Map) (unit first count : ℕ) → ((j : ℕ) → j < count → IsSome (contents unit (first + j))) → count ≡ tried_in contents unit first count
+all_tried contents unit first count usable =
+    sym (ap (λ o. tried_of o count) (all_from count (contents unit) first 0 (λ j lt. subst (λ n. IsSome (contents unit (first + n))) (none j) (usable j lt))))
+  where
+    none : (j : ℕ) → j ≡ 0 + j
+    none j = omega arith
+
+pub some_tried : (contents : Map) (unit first count done : ℕ) → done < count → ((j : ℕ) → j < done → IsSome (contents unit (first + j))) → contents unit (first + done) ≡ None
+    → done + 1 ≡ tried_in contents unit first count
+some_tried contents unit first count done lt usable none =
+    sym (ap (λ o. tried_of o count) (first_from count (contents unit) first 0 done lt (λ j below. subst (λ n. IsSome (contents unit (first + n))) (zeros j) (usable j below))
+    (ap (λ n. contents unit (first + n)) (sym (zeros done)) ∙ none)) ∙ ap (λ n. n + 1) (sym (zeros done)))
+  where
+    zeros : (j : ℕ) → j ≡ 0 + j
+    zeros j = omega arith
+
+-- so one more is tried than these
+pub record IsTriedAt (n k : ℕ) : Type 0 where
+  pub more : ℕ
+  pub is : n ≡ k + suc more
+
 -- at least these
 at_least : (left n : ℕ) (blocks : Blocks) (first k : ℕ) → n ≤ left → ((j : ℕ) → j < n → IsSome (blocks (first + (k + j)))) → k + n ≤ usable_of (first_unusable left blocks first k) (k + left)
 at_least zero zero blocks first k le usable = omega arith
@@ -95,3 +118,10 @@ at_least_usable contents unit first count n le usable =
 
     from_none : (n m : ℕ) → 0 + n ≤ m → n ≤ m
     from_none n m le = omega (arith, le)
+
+pub tried_at : (contents : Map) (unit first count k : ℕ) → k < count → ((j : ℕ) → j < k → IsSome (contents unit (first + j))) → IsTriedAt (tried_in contents unit first count) k
+tried_at contents unit first count k lt usable = by (first_unusable count (contents unit) first 0) (at_least_usable contents unit first count k (omega (arith, lt)) usable)
+  where
+    by : (o : Option ℕ) → k ≤ usable_of o count → IsTriedAt (tried_of o count) k
+    by None le = record { more = count - suc k; is = omega (arith, lt) }
+    by (Some d) le = record { more = d - k; is = omega (arith, le) }

@@ -1,7 +1,7 @@
 -- What a line comes to, behind any inputs.
-use Rattle.std.proofs.Common.{◌≡◌, inl, inr, ℕ, ◌+◌, ◌≤◌, Bool, true, false, IsTrue, List, [], ◌∷◌, ◌++◌, length, take, Option, None, Some, refl, sym, ap, ◌∙◌, subst, arith, append-nil, append_assoc, length-append}
+use Rattle.std.proofs.Common.{◌≡◌, ◌⊎◌, inl, inr, ℕ, ◌+◌, ◌≤◌, Bool, true, false, IsTrue, List, [], ◌∷◌, ◌++◌, length, take, Option, None, Some, refl, sym, ap, ◌∙◌, subst, arith, append-nil, append_assoc, length-append}
 use Rattle.std.specs.Prelude.{map, unwrap_or, if◌then◌else◌}
-use Rattle.std.proofs.Math.Seq.{take-length, take-append_seam, take-append-add}
+use Rattle.std.proofs.Math.Seq.{take-length}
 use Rattle.outside_traits.specs.Causes.{Rose}
 use Rattle.outside_traits.specs.Puts.{TakesFront}
 use Rattle.outside_traits.proofs.GatherLaws.{rose_more}
@@ -16,26 +16,31 @@ use Rattle.driver_machine.specs.Guards.{IsSetUp}
 use Rattle.driver_laws.specs.rules.Rest.{HasTables}
 use Rattle.driver_laws.specs.rules.Waited.{map_of, with_packs}
 use Rattle.trace_lines.specs.answers.AnswerText.{answer_text}
-use Rattle.buffer_cache.specs.Passes.{Stage}
+use Rattle.buffer_cache.specs.Passes.{Stage, StillTell}
 use Rattle.buffer_cache.specs.Passes.{setup_at}
 use Rattle.buffer_cache.specs.Passes.{kind_if}
 use Rattle.buffer_cache.specs.Passes.{kind_at, map_at, left_map}
 use Rattle.buffer_cache.proofs.Passes.{others_over, left_over, map_long}
 use Rattle.driver_laws.specs.rules.Requests.{Map}
 use Rattle.driver_laws.specs.declared.rules.cached.Entry.{Entry}
-use Rattle.driver_laws.specs.rules.Entries.{State, is_of, entry_of, unchanged}
+use Rattle.driver_laws.specs.rules.Entries.{State, is_of, entry_of, unchanged, written_back}
 use Rattle.driver_laws.specs.rules.Contents.{bytes_or, cached, Fits, AllFit, Flushes}
 use Rattle.driver_laws.proofs.rules.Lookups.{IsKey, is_key, found_key, found_all}
 use Rattle.buffer_cache.specs.Calls.{IfTold, Holds, Syncs}
 use Rattle.cached_run.specs.Answers.{Replacement, answer_with, answers_of, map_of_inputs, text_of, replaced_with, replacements_of, after}
 use Rattle.cached_run.specs.Theorem.{IsAfter, EndsWithSync, HasNoSync}
-use Rattle.cached_run.specs.Leaving.{IsLeft, Leaves, Makes, KeepsSetup, Does}
+use Rattle.driver_laws.specs.declared.answers.outcome.Stop.{Stop}
+use Rattle.driver_laws.specs.declared.answers.outcome.Stop.TheVariants.{Sink}
+use Rattle.buffer_cache.specs.Asks.{AsksTill}
+use Rattle.cached_run.specs.Leaving.{IsLeft, IsCalled, IsCutIn, Leaves, Makes, KeepsSetup, Does}
+use Rattle.cached_run.specs.Sessions.{calls_with, calls_for}
 use Rattle.script_runs.specs.Saying.{said_text}
 use Rattle.cached_run.specs.Saying.{IsSaid, AreLong}
-use Rattle.cached_run.specs.Going.{Scene, with_out, drives_at, blocks_at, IsFar, HasHalted, GoesOn, Halts, SyncGoesOn, SyncHalts, syncs_at}
+use Rattle.cached_run.specs.Going.{Scene, with_out, drives_at, blocks_at, IsFar, AskedAll, AskedTill, HasHalted, GoesOn, Halts, SyncGoesOn, SyncHalts, syncs_at}
 use Rattle.cached_run.proofs.Replacings.{after_more, same_map, take_first, take_second}
 use Rattle.cached_run.proofs.Inputs.{map_more, map_is, replacements_more, text_more, fewer_before}
 use Rattle.cached_run.proofs.Leavings.{leaves_read}
+use Rattle.cached_run.proofs.Calls.{calls_more, called_then, called_sync, cut_behind, cut_one}
 use Rattle.cached_run.proofs.Legal.{long_inputs}
 
 -- ---- inputs that end with a sync, or have none
@@ -52,7 +57,10 @@ no_drain : {r : Request} → Submit r ≡ Drain → ⊥
 no_drain e = cc
 
 -- ---- behind inputs
-module _ {first old : Scene} {inputs : List Numbered} {s : State} (far : IsFar first inputs s old) where
+through : (a b c : ℕ) → a ≤ b → b ≤ c → a ≤ c
+through a b c p q = omega (arith, p, q)
+
+module _ {first old : Scene} {begun : State} {inputs : List Numbered} {s : State} (far : IsFar first begun inputs s old) where
   cached_is : cached s.entries (map_at old.site) ≡ map_of_inputs (drives_at first) (blocks_at first) inputs
   cached_is = same_map (cached s.entries (map_at old.site)) (map_of_inputs (drives_at first) (blocks_at first) inputs) far.contents
 
@@ -81,6 +89,29 @@ module _ {first old : Scene} {inputs : List Numbered} {s : State} (far : IsFar f
       append-nil (answer_text (record { line = line; id = r.id; answer = answer_with (kind_of (drives_at first) r.unit) (map_of_inputs (drives_at first) (blocks_at first) inputs r.unit) r }))
       ∙ ap (λ k. answer_text (record { line = line; id = r.id; answer = answer_with k (map_of_inputs (drives_at first) (blocks_at first) inputs r.unit) r })) (kind_here r.unit up)
       ∙ ap (λ (z : ℕ → Blocks). answer_text (record { line = line; id = r.id; answer = answer_with (kind_at old.site.world r.unit) (z r.unit) r })) (sym cached_is)
+
+  -- and what the cache is called for
+  request_calls : (line : ℕ) (r : Request) → IsSetUp old.site.world r.unit
+      → calls_for (drives_at first) (map_of_inputs (drives_at first) (blocks_at first) inputs) (record { line = line; input = Submit r } ∷ [])
+      ≡ calls_with (kind_at old.site.world r.unit) (cached s.entries (map_at old.site) r.unit) line r
+  request_calls line r up =
+      append-nil (calls_with (kind_of (drives_at first) r.unit) (map_of_inputs (drives_at first) (blocks_at first) inputs r.unit) line r)
+      ∙ ap (λ k. calls_with k (map_of_inputs (drives_at first) (blocks_at first) inputs r.unit) line r) (kind_here r.unit up)
+      ∙ ap (λ (z : ℕ → Blocks). calls_with (kind_at old.site.world r.unit) (z r.unit) line r) (sym cached_is)
+
+  called_more : (n : Numbered) (at : List Numbered) (s' : State) (new : Stage) → calls_for (drives_at first) (map_of_inputs (drives_at first) (blocks_at first) inputs) (n ∷ []) ≡ at → StillTell old.site new
+      → IsCalled at s s' old.site new → IsCalled (calls_for (drives_at first) (blocks_at first) (inputs ++ n ∷ [])) begun s' first.site new
+  called_more n at s' new is still calls =
+      subst (λ z. IsCalled z begun s' first.site new)
+      (sym (calls_more (drives_at first) (blocks_at first) inputs (n ∷ []) ∙ ap (λ z. calls_for (drives_at first) (blocks_at first) inputs ++ z) is))
+      (called_then (calls_for (drives_at first) (blocks_at first) inputs) at begun s s' first.site old.site new still far.calls calls)
+
+  cut_more : (n : Numbered) (own : List Numbered) (stop : Stop) (new : Stage) → calls_for (drives_at first) (map_of_inputs (drives_at first) (blocks_at first) inputs) (n ∷ []) ≡ own → StillTell old.site new
+      → IsCutIn stop [] own s old.site new
+      → IsCutIn stop (calls_for (drives_at first) (blocks_at first) inputs) (calls_for (drives_at first) (map_of_inputs (drives_at first) (blocks_at first) inputs) (n ∷ [])) begun first.site new
+  cut_more n own stop new is still cut =
+      subst (λ z. IsCutIn stop (calls_for (drives_at first) (blocks_at first) inputs) z begun first.site new) (sym is)
+      (cut_behind stop (calls_for (drives_at first) (blocks_at first) inputs) own begun s first.site old.site new still far.calls cut)
 
   -- the replacements and the map behind one input more
   module _ (n : Numbered) (list : List Replacement) (is : replacements_of (drives_at first) (map_of_inputs (drives_at first) (blocks_at first) inputs) (n ∷ []) ≡ list) where
@@ -139,16 +170,12 @@ module _ {first old : Scene} {inputs : List Numbered} {s : State} (far : IsFar f
   setup_then : (new : Stage) → KeepsSetup old.site new → setup_at new ≡ with_packs (setup_at first.site) new.held
   setup_then new k = k.setup ∙ ap (λ (z : Setup). with_packs z new.held) far.setup
 
-  -- what was said is a front of what one more input says
-  text_front : (n : Numbered) → take (length (text_of (answers_of (drives_at first) (blocks_at first) inputs))) (text_of (answers_of (drives_at first) (blocks_at first) (inputs ++ n ∷ [])))
-      ≡ text_of (answers_of (drives_at first) (blocks_at first) inputs)
-  text_front n = ap (λ z. take (length (text_of (answers_of (drives_at first) (blocks_at first) inputs))) z) (text_more (drives_at first) (blocks_at first) inputs (n ∷ []))
-      ∙ take-append_seam (text_of (answers_of (drives_at first) (blocks_at first) inputs)) (text_of (answers_of (drives_at first) (map_of_inputs (drives_at first) (blocks_at first) inputs) (n ∷ [])))
-
   -- IT STOPPED, and nothing of it was said
   halts_silent : (n : Numbered) (list : List Replacement) (new : Scene) → replacements_of (drives_at first) (map_of_inputs (drives_at first) (blocks_at first) inputs) (n ∷ []) ≡ list
-      → Leaves list s old.site new.site → (IsTrue new.out_tells → IsTrue old.out_tells) → new.said ≡ old.said → HasHalted first inputs n new
-  halts_silent n list new is l again same = record {
+      → Leaves list s old.site new.site → (IsTrue new.out_tells → IsTrue old.out_tells) → new.said ≡ old.said
+      → AskedAll first begun (inputs ++ n ∷ []) new ⊎ AskedTill first begun inputs n new → HasHalted first begun inputs n new
+  halts_silent n list new is l again same asked = record {
+    asked = asked;
     holds = record {
       synced = far.holds.synced;
       since = far.holds.since;
@@ -157,7 +184,7 @@ module _ {first old : Scene} {inputs : List Numbered} {s : State} (far : IsFar f
           (subst (λ (z : ℕ → Blocks). IsLeft list (map_at old.site) s.entries u b (z u b)) (left_over first.site old.site new.site far.setup) (l.each u b));
     };
     others = others_over first.site old.site new.site far.setup far.others l.others;
-    front = λ t. (length (text_of (answers_of (drives_at first) (blocks_at first) inputs)), same ∙ far.said (again t) ∙ ap (λ z. first.said ++ z) (sym (text_front n)));
+    front = λ t. (0, same ∙ far.said (again t) ∙ sym (append-nil (first.said ++ text_of (answers_of (drives_at first) (blocks_at first) inputs))));
     whole = λ rose t. same ∙ far.said (again t);
   }
 
@@ -166,8 +193,10 @@ module _ {first old : Scene} {inputs : List Numbered} {s : State} (far : IsFar f
       → replacements_of (drives_at first) (map_of_inputs (drives_at first) (blocks_at first) inputs) (n ∷ []) ≡ list
       → text_of (answers_of (drives_at first) (map_of_inputs (drives_at first) (blocks_at first) inputs) (n ∷ [])) ≡ text
       → Leaves list s old.site new.site → (IsTrue new.out_tells → IsTrue old.out_tells)
-      → (IsTrue new.out_tells → TakesFront old.said new.said text) → Rose old.out_faults new.out_faults → HasHalted first inputs n new
-  halts_saying n list text new is says l again front rose = record {
+      → (IsTrue new.out_tells → TakesFront old.said new.said text) → Rose old.out_faults new.out_faults
+      → AskedAll first begun (inputs ++ n ∷ []) new ⊎ AskedTill first begun inputs n new → HasHalted first begun inputs n new
+  halts_saying n list text new is says l again front rose asked = record {
+    asked = asked;
     holds = record {
       synced = far.holds.synced;
       since = far.holds.since;
@@ -181,14 +210,11 @@ module _ {first old : Scene} {inputs : List Numbered} {s : State} (far : IsFar f
   }
     where
       cut : TakesFront old.said new.said text → old.said ≡ first.said ++ text_of (answers_of (drives_at first) (blocks_at first) inputs)
-          → TakesFront first.said new.said (text_of (answers_of (drives_at first) (blocks_at first) (inputs ++ n ∷ [])))
+          → TakesFront (first.said ++ text_of (answers_of (drives_at first) (blocks_at first) inputs)) new.said
+          (text_of (answers_of (drives_at first) (map_of_inputs (drives_at first) (blocks_at first) inputs) (n ∷ [])))
       cut takes so = (
-        length (text_of (answers_of (drives_at first) (blocks_at first) inputs)) + takes.0,
-        takes.1 ∙ ap (λ z. z ++ take takes.0 text) so
-            ∙ append_assoc first.said (text_of (answers_of (drives_at first) (blocks_at first) inputs)) (take takes.0 text)
-            ∙ ap (λ z. first.said ++ z) (sym (take-append-add (text_of (answers_of (drives_at first) (blocks_at first) inputs)) text takes.0)
-            ∙ ap (λ z. take (length (text_of (answers_of (drives_at first) (blocks_at first) inputs)) + takes.0) (text_of (answers_of (drives_at first) (blocks_at first) inputs) ++ z)) (sym says)
-            ∙ ap (λ z. take (length (text_of (answers_of (drives_at first) (blocks_at first) inputs)) + takes.0) z) (sym (text_more (drives_at first) (blocks_at first) inputs (n ∷ [])))),
+        takes.0,
+        takes.1 ∙ ap (λ z. z ++ take takes.0 text) so ∙ ap (λ z. (first.said ++ text_of (answers_of (drives_at first) (blocks_at first) inputs)) ++ take takes.0 z) (sym says),
       )
 
   -- IT CAME TO ITS END
@@ -196,9 +222,11 @@ module _ {first old : Scene} {inputs : List Numbered} {s : State} (far : IsFar f
       → replacements_of (drives_at first) (map_of_inputs (drives_at first) (blocks_at first) inputs) (record { line = line; input = Submit r } ∷ []) ≡ list
       → text_of (answers_of (drives_at first) (map_of_inputs (drives_at first) (blocks_at first) inputs) (record { line = line; input = Submit r } ∷ [])) ≡ text
       → IsTrue new.site.packs_tell → KeepsSetup old.site new.site → Leaves list s old.site new.site → Makes list s s' old.site new.site
-      → (IsTrue new.out_tells → IsTrue old.out_tells) → (IsTrue new.out_tells → new.said ≡ old.said ++ text) → old.out_faults ≤ new.out_faults
-      → IsFar first (inputs ++ record { line = line; input = Submit r } ∷ []) s' new
-  goes_request line r list text s' new is says t k l m again said later = record {
+      → (IsTrue new.out_tells → IsTrue old.out_tells) → (IsTrue new.out_tells → new.said ≡ old.said ++ text) → old.out_faults ≤ new.out_faults → old.trace_faults ≤ new.trace_faults
+      → IsCalled (calls_for (drives_at first) (blocks_at first) (inputs ++ record { line = line; input = Submit r } ∷ [])) begun s' first.site new.site
+      → IsFar first begun (inputs ++ record { line = line; input = Submit r } ∷ []) s' new
+  goes_request line r list text s' new is says t k l m again said later traced calls = record {
+    later_trace = trans first.trace_faults old.trace_faults new.trace_faults far.later_trace traced;
     setup = setup_then new.site k;
     tables = k.tables t far.tables;
     contents = λ u b. m.contents u b ∙ ap (λ z. z u b) (map_then (record { line = line; input = Submit r }) list is);
@@ -219,6 +247,7 @@ module _ {first old : Scene} {inputs : List Numbered} {s : State} (far : IsFar f
         ∙ ap (λ z. first.said ++ (text_of (answers_of (drives_at first) (blocks_at first) inputs) ++ z)) (sym says)
         ∙ ap (λ z. first.said ++ z) (sym (text_more (drives_at first) (blocks_at first) inputs (record { line = line; input = Submit r } ∷ [])));
     later = trans first.out_faults old.out_faults new.out_faults far.later later;
+    calls = calls;
   }
     where
       trans : (a b c : ℕ) → a ≤ b → b ≤ c → a ≤ c
@@ -249,9 +278,9 @@ flushed_is entries map_now u b fit = by (entry_of u b (map unchanged entries)) r
         sym (ap (λ z. map_now z b) key.unit_is ∙ ap (λ z. map_now e.unit z) key.block_is
         ∙ (found_all (Fits map_now) u b (map unchanged entries) e fit is).same (unchanged_found u b entries e is))
 
-pub goes_sync : (line : ℕ) (s s' : State) (old new : Stage) → IsTrue new.packs_tell → KeepsSetup old new → Syncs line s s' old new
-    → (IsTrue new.packs_tell → HasTables (setup_at old) → AllFit (map_at old) s.entries → Holds 0 0 None s old new) → SyncGoesOn line s s' old new
-goes_sync line s s' old new t k syncs holds says said faults first inputs far =
+pub goes_sync : (line : ℕ) (s s' : State) (old new : Stage) (traced traced' : ℕ) → traced ≤ traced' → IsTrue new.packs_tell → StillTell old new → KeepsSetup old new → Syncs line s s' old new
+    → (IsTrue new.packs_tell → HasTables (setup_at old) → AllFit (map_at old) s.entries → Holds 0 0 None s old new) → SyncGoesOn line s s' old new traced traced'
+goes_sync line s s' old new traced traced' less t still k syncs holds says said faults first begun inputs far =
     let flushes : Flushes (map_at old) (map_at new) s.entries s'.entries = syncs.told t far.tables far.fit in
     let left = leaves_read 0 0 s old new (holds t far.tables far.fit) in
     record {
@@ -276,6 +305,9 @@ goes_sync line s s' old new t k syncs holds says said faults first inputs far =
       others = others_over first.site old new far.setup far.others left.others;
       said = λ o. far.said o ∙ sym (ap (λ z. first.said ++ z) (text_more (drives_at first) (blocks_at first) inputs (syncs_at line) ∙ append-nil (text_of (answers_of (drives_at first) (blocks_at first) inputs))));
       later = far.later;
+      later_trace = through first.trace_faults traced traced' far.later_trace less;
+      calls = called_more far (record { line = line; input = Drain }) (syncs_at line) s' new refl still
+          (called_sync line s s' old new syncs (λ u b. same u b flushes.fit ∙ flushes.contents u b));
     }
   where
     here : (n : ℕ) → n ≤ n
@@ -285,32 +317,51 @@ goes_sync line s s' old new t k syncs holds says said faults first inputs far =
     same u b fit = subst (λ (z : State). cached z.entries (map_at new) u b ≡ map_at new u b) (sym syncs.state)
         (flushed_is s.entries (map_at new) u b (subst (λ (z : State). AllFit (map_at new) z.entries) syncs.state fit))
 
-pub halts_sync : (line : ℕ) (s : State) (old new : Stage) → IsTrue new.packs_tell
-    → (IsTrue new.packs_tell → HasTables (setup_at old) → AllFit (map_at old) s.entries → Holds 0 0 None s old new) → SyncHalts line s old new
-halts_sync line s old new t holds says said faults first inputs far =
-    halts_silent far (record { line = line; input = Drain }) [] (with_out new says said faults) refl (leaves_read 0 0 s old new (holds t far.tables far.fit)) (λ o. o) refl
+pub halts_sync : (stop : Stop) (line : ℕ) (s : State) (old new : Stage) (traced traced' : ℕ) → IsTrue new.packs_tell → StillTell old new → (stop ≡ Sink → Rose traced traced')
+    → AsksTill stop line (written_back s.entries) old new → (IsTrue new.packs_tell → HasTables (setup_at old) → AllFit (map_at old) s.entries → Holds 0 0 None s old new) → SyncHalts line s old new traced traced'
+halts_sync stop line s old new traced traced' t still rose till holds says said faults first begun inputs far =
+    let n : Numbered = record { line = line; input = Drain } in
+    halts_silent far n [] (with_out new says said faults traced') refl (leaves_read 0 0 s old new (holds t far.tables far.fit)) (λ o. o) refl
+    (inr (record {
+      stop = stop;
+      rose = λ e. rose_more first.trace_faults traced traced' far.later_trace (rose e);
+      cut = cut_more far n (syncs_at line) stop new refl still (cut_one stop (record { at = n; refuses = false }) [] (written_back s.entries) s old new till refl);
+    }))
 
 -- ---- A REQUEST
 module _ (line : ℕ) (r : Request) (list : List Replacement) (how : AnswerKind) (lines : List (List ℕ)) (s s' : State) (old new : Scene) (t : IsTrue new.site.packs_tell)
     (up : IsSetUp old.site.world r.unit) (list_is : list ≡ replaced_with (kind_at old.site.world r.unit) (cached s.entries (map_at old.site) r.unit) r) where
-  pub request_halts : (IsTrue new.site.packs_tell → HasTables (setup_at old.site) → AllFit (map_at old.site) s.entries → Leaves list s old.site new.site)
+  pub request_halts : (stop : Stop) → StillTell old.site new.site → (stop ≡ Sink → Rose old.trace_faults new.trace_faults)
+      → IfTold s old.site new.site (IsCutIn stop [] (calls_with (kind_at old.site.world r.unit) (cached s.entries (map_at old.site) r.unit) line r) s old.site new.site)
+      → (IsTrue new.site.packs_tell → HasTables (setup_at old.site) → AllFit (map_at old.site) s.entries → Leaves list s old.site new.site)
       → (IsTrue new.out_tells → IsTrue old.out_tells) → new.said ≡ old.said → Halts (record { line = line; input = Submit r } ∷ []) s old new
-  request_halts leaves again same first inputs far =
+  request_halts stop still rose cut leaves again same first begun inputs far =
       halts_silent far (record { line = line; input = Submit r }) list new (request_list far line r up ∙ sym list_is) (leaves t far.tables far.fit) again same
+      (inr (record {
+        stop = stop;
+        rose = λ e. rose_more first.trace_faults old.trace_faults new.trace_faults far.later_trace (rose e);
+        cut = cut_more far (record { line = line; input = Submit r }) (calls_with (kind_at old.site.world r.unit) (cached s.entries (map_at old.site) r.unit) line r) stop new.site (request_calls far line r up) still (cut t far.tables far.fit);
+      }))
 
-  module _ (does : IfTold s old.site new.site (Does list (λ contents. IsSaid (kind_at old.site.world r.unit) (contents r.unit) r how lines) s s' old.site new.site)) where
-    its_text : {first : Scene} {inputs : List Numbered} → IsFar first inputs s old
+  module _ (does : IfTold s old.site new.site (Does (λ contents. calls_with (kind_at old.site.world r.unit) (contents r.unit) line r) list (λ contents. IsSaid (kind_at old.site.world r.unit) (contents r.unit) r how lines) s s' old.site new.site)) where
+    its_text : {first : Scene} {begun : State} {inputs : List Numbered} → IsFar first begun inputs s old
         → text_of (answers_of (drives_at first) (map_of_inputs (drives_at first) (blocks_at first) inputs) (record { line = line; input = Submit r } ∷ [])) ≡ said_text line r.id how lines
     its_text far = request_text far line r up ∙ sym ((does t far.tables far.fit).says (long_cached far r.unit) line)
 
-    pub saying_halts : (IsTrue new.out_tells → IsTrue old.out_tells) → (IsTrue new.out_tells → TakesFront old.said new.said (said_text line r.id how lines))
-        → Rose old.out_faults new.out_faults → Halts (record { line = line; input = Submit r } ∷ []) s old new
-    saying_halts again front rose first inputs far =
-        halts_saying far (record { line = line; input = Submit r }) list (said_text line r.id how lines) new (request_list far line r up ∙ sym list_is) (its_text far)
-        (does t far.tables far.fit).leaves again front rose
+    all_called : {first : Scene} {begun : State} {inputs : List Numbered} → StillTell old.site new.site → (far : IsFar first begun inputs s old)
+        → IsCalled (calls_for (drives_at first) (blocks_at first) (inputs ++ record { line = line; input = Submit r } ∷ [])) begun s' first.site new.site
+    all_called still far =
+        called_more far (record { line = line; input = Submit r }) (calls_with (kind_at old.site.world r.unit) (cached s.entries (map_at old.site) r.unit) line r) s' new.site (request_calls far line r up) still
+        (does t far.tables far.fit).calls
 
-    pub request_goes : KeepsSetup old.site new.site → (IsTrue new.out_tells → IsTrue old.out_tells) → (IsTrue new.out_tells → new.said ≡ old.said ++ said_text line r.id how lines)
-        → old.out_faults ≤ new.out_faults → GoesOn (record { line = line; input = Submit r } ∷ []) s s' old new
-    request_goes k again said later first inputs far =
+    pub saying_halts : StillTell old.site new.site → (IsTrue new.out_tells → IsTrue old.out_tells) → (IsTrue new.out_tells → TakesFront old.said new.said (said_text line r.id how lines))
+        → Rose old.out_faults new.out_faults → Halts (record { line = line; input = Submit r } ∷ []) s old new
+    saying_halts still again front rose first begun inputs far =
+        halts_saying far (record { line = line; input = Submit r }) list (said_text line r.id how lines) new (request_list far line r up ∙ sym list_is) (its_text far)
+        (does t far.tables far.fit).leaves again front rose (inl (record { cache = s'; calls = all_called still far }))
+
+    pub request_goes : KeepsSetup old.site new.site → StillTell old.site new.site → (IsTrue new.out_tells → IsTrue old.out_tells) → (IsTrue new.out_tells → new.said ≡ old.said ++ said_text line r.id how lines)
+        → old.out_faults ≤ new.out_faults → old.trace_faults ≤ new.trace_faults → GoesOn (record { line = line; input = Submit r } ∷ []) s s' old new
+    request_goes k still again said later traced first begun inputs far =
         goes_request far line r list (said_text line r.id how lines) s' new (request_list far line r up ∙ sym list_is) (its_text far) t k
-        (does t far.tables far.fit).leaves (does t far.tables far.fit).makes again said later
+        (does t far.tables far.fit).leaves (does t far.tables far.fit).makes again said later traced (all_called still far)

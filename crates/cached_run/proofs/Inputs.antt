@@ -5,9 +5,9 @@ use Rattle.std.proofs.lemmas.Bool.Decides.{eqb_tells}
 use Rattle.std.proofs.lemmas.Grind.{flat_map-append}
 use Rattle.pack_geometry.specs.declared.DriveKind.{DriveKind}
 use Rattle.partitions.specs.declared.Admission.{Admission}
-use Rattle.partitions.specs.declared.Admission.TheVariants.{Inside, Eof, Outside}
+use Rattle.partitions.specs.declared.Admission.TheVariants.{Inside}
 use Rattle.trace_replay.specs.requests.Requests.{Request, ReadOk, WriteOk}
-use Rattle.trace_replay.specs.Script.{Input, Submit, ArriveAt, MoveAt, AttendTo, Drain, Turn, Noise, Arm, SetOnline, SetLocked, Numbered}
+use Rattle.trace_replay.specs.Script.{Input, Submit, Numbered}
 use Rattle.trace_replay.specs.Moments.{Answered}
 use Rattle.trace_replay.specs.Packs.{sector_of_block}
 use Rattle.driver_laws.specs.rules.Machine.{Blocks, bytes_of_first, blocks_done, blocks_after, done_in}

@@ -1,8 +1,9 @@
 -- What calls keep, one behind the other.
 use Rattle.std.proofs.Common.{◌≡◌, ℕ, List, ◌+◌, ◌<◌, ◌≤◌, IsTrue, refl, sym, ap, subst, ◌∙◌, arith}
-use Rattle.std.specs.Prelude.{Err, None}
+use Rattle.std.specs.Prelude.{Result, Ok, Err, IfErr, IsErrAnd, None}
+use Rattle.driver_laws.specs.declared.answers.outcome.Stop.{Stop}
 use Rattle.pack_geometry.specs.declared.DriveKind.{DriveKind}
-use Rattle.pack_geometry.specs.declared.DriveKind.TheVariants.{Rp06, Rm03, Rm05}
+use Rattle.pack_geometry.specs.declared.DriveKind.TheVariants.{Rp06}
 use Rattle.pack_geometry.specs.Geometry.{limit_of}
 use Rattle.trace_replay.specs.requests.Requests.{Request}
 use Rattle.driver_laws.specs.rules.Stands.{Setup}
@@ -57,3 +58,8 @@ number_small w unit first count k lt are = under first k count (limit_of (kind_a
 -- a block that can't be used stops nothing
 pub not_stopped : (A : Type 0) (why : CacheFault) → why ≡ fault.Unusable → stop_of {A = A} (Err why) ≡ None
 not_stopped A why is = ap (λ z. stop_of {A = A} (Err z)) is
+
+-- what stopped a call is handed on
+pub on_stop : {T : Type 0} (Q : Stop → Type 0) (result : Result T Stop) (stop : Stop) → IsErrAnd result (λ x. x ≡ stop) → Q stop → IfErr result Q
+on_stop Q (Ok value) stop is holds = tt
+on_stop Q (Err other) stop is holds = subst Q (sym is) holds

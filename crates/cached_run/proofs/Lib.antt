@@ -7,6 +7,7 @@ mod Legal
 mod Inputs
 mod Sayings
 mod Askings
+mod Calls
 mod Goings
 mod ScriptLines
 mod Whole

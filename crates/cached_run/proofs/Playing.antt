@@ -11,7 +11,7 @@ use Rattle.script_reader.specs.cached.Meaning.{statement_of}
 
 -- a line with no input
 pub goes_none : (s : State) (here : Scene) → GoesOn [] s s here here
-goes_none s here first inputs far = subst (λ (z : List Numbered). IsFar first z s here) (sym (append-nil inputs)) far
+goes_none s here first begun inputs far = subst (λ (z : List Numbered). IsFar first begun z s here) (sym (append-nil inputs)) far
 
 -- THE INPUT of a line, by the number and the statement that it has
 module _ (line : Said) (number : ℕ) (st : Says) (is : line.statement ≡ st) (numbered : number ≡ line.number) where
@@ -31,6 +31,6 @@ module _ (line : Said) (number : ℕ) (st : Says) (is : line.statement ≡ st) (
   numbered_so some = subst (λ n. 1 ≤ n) (sym numbered) some
 
 -- A SCRIPT that stopped at the one input of a line
-pub halts_script : (script : Script) (before own rest : List Numbered) (s : State) (first old new : Scene) → inputs_of script ≡ before ++ (own ++ rest) → IsFar first before s old → Halts own s old new → HaltsScript script first new
-halts_script script before [] rest s first old new split far halts = absurd halts
-halts_script script before (n ∷ own) rest s first old new split far halts = record { before = before; at = n; later = own ++ rest; inputs = split; halted = halts first before far }
+pub halts_script : (script : Script) (before own rest : List Numbered) (begun s : State) (first old new : Scene) → inputs_of script ≡ before ++ (own ++ rest) → IsFar first begun before s old → Halts own s old new → HaltsScript script begun first new
+halts_script script before [] rest begun s first old new split far halts = absurd halts
+halts_script script before (n ∷ own) rest begun s first old new split far halts = record { before = before; at = n; later = own ++ rest; inputs = split; halted = halts first begun before far }

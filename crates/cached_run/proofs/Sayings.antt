@@ -21,10 +21,12 @@ use Rattle.trace_lines.specs.answers.AnswerText.{answer_line, answer_text, block
 use Rattle.trace_lines.specs.answers.Blocks.{joined, AreBlocks}
 use Rattle.trace_lines.proofs.answers.TextLaws.{blocks_said}
 use Rattle.buffer_cache.proofs.Passes.{first_is}
-use Rattle.driver_laws.specs.rules.Requests.{Map}
+use Rattle.driver_laws.specs.rules.Requests.{Map, one_block}
 use Rattle.script_reader.specs.declared.cached.statement.Asked.{Asked}
 use Rattle.cached_run.specs.Answers.{answer_with, replaced, usable_of, replaced_at, replaced_with}
-use Rattle.cached_run.specs.Leaving.{AreRead, usable_in, spread}
+use Rattle.trace_replay.specs.Script.{Submit}
+use Rattle.cached_run.specs.Sessions.{block_of, blocks_from, tried_of, blocks_at, calls_with}
+use Rattle.cached_run.specs.Leaving.{AreRead, usable_in, tried_in, touches, spread}
 use Rattle.script_reader.specs.cached.Meaning.{filled, one_filled, request_of}
 use Rattle.cached_run.specs.Saying.{AreLong, IsSaid, kind_by, GivesAmong}
 
@@ -219,6 +221,61 @@ module _ (a : Asked) (fill : ℕ) where
       none : (first : ℕ) → first ≡ first + 0
       none first = omega arith
 
+      from_none : (n m : ℕ) → n ≤ m → 0 + n ≤ m
+      from_none n m le = omega (arith, le)
+
+  -- and the blocks that are tried
+  pub tried_from : (n line first k : ℕ) → k + n ≤ a.count → touches n line a.unit (first + k) (Some (one_filled fill)) ≡ blocks_from n line first k (request_of a (Some (filled a.count fill)))
+  tried_from zero line first k le = refl
+  tried_from (suc n) line first k le =
+      ap (λ z. record { line = line; input = Submit (one_block a.unit (first + k) (Some z)) } ∷ touches n line a.unit ((first + k) + 1) (Some (one_filled fill))) (sym (sector_is k (omega (arith, le))))
+      ∙ ap (λ z. record { line = line; input = Submit (block_of (request_of a (Some (filled a.count fill))) first k) } ∷ touches n line a.unit z (Some (one_filled fill))) (along first k)
+      ∙ ap (λ z. record { line = line; input = Submit (block_of (request_of a (Some (filled a.count fill))) first k) } ∷ z) (tried_from n line first (k + 1) (omega (arith, le)))
+    where
+      along : (first k : ℕ) → (first + k) + 1 ≡ first + (k + 1)
+      along first k = omega arith
+
+pub tried_few : (a : Asked) (blocks : Blocks) (first : ℕ) → tried_of (first_unusable a.count blocks first 0) a.count ≤ a.count
+tried_few a blocks first = by (first_unusable a.count blocks first 0) refl
+  where
+    by : (unusable : Option ℕ) → first_unusable a.count blocks first 0 ≡ unusable → tried_of unusable a.count ≤ a.count
+    by None e = here a.count
+      where
+        here : (n : ℕ) → n ≤ n
+        here n = omega arith
+    by (Some d) e = let lt = (first_is a.count blocks first 0 d e).below in omega (arith, lt)
+
+read_from : (n line first k : ℕ) (a : Asked) → touches n line a.unit (first + k) None ≡ blocks_from n line first k (request_of a None)
+read_from zero line first k a = refl
+read_from (suc n) line first k a =
+    ap (λ z. record { line = line; input = Submit (one_block a.unit (first + k) None) } ∷ touches n line a.unit z None) (along first k)
+    ∙ ap (λ z. record { line = line; input = Submit (one_block a.unit (first + k) None) } ∷ z) (read_from n line first (k + 1) a)
+  where
+    along : (first k : ℕ) → (first + k) + 1 ≡ first + (k + 1)
+    along first k = omega arith
+
+module _ (kind : DriveKind) (line : ℕ) (a : Asked) where
+  at_none : (first : ℕ) → first ≡ first + 0
+  at_none first = omega arith
+
+  pub touches_read : (contents : Map) (first : ℕ) → admission kind C a.block a.count ≡ Inside first → first ≡ first_of kind C + a.block
+      → touches (tried_in contents a.unit first a.count) line a.unit first None ≡ calls_with kind (contents a.unit) line (request_of a None)
+  touches_read contents first met is =
+      let n : ℕ = tried_in contents a.unit first a.count in
+      ap (λ z. touches n line a.unit z None) (at_none first)
+      ∙ read_from n line first 0 a
+      ∙ ap (λ z. blocks_from (tried_of (first_unusable a.count (contents a.unit) z 0) a.count) line z 0 (request_of a None)) is
+      ∙ sym (ap (λ z. blocks_at z (contents a.unit) line (first_of kind C + a.block) (request_of a None)) met)
+
+  pub touches_write : (fill : ℕ) (contents : Map) (first : ℕ) → admission kind C a.block a.count ≡ Inside first → first ≡ first_of kind C + a.block
+      → touches (tried_in contents a.unit first a.count) line a.unit first (Some (one_filled fill)) ≡ calls_with kind (contents a.unit) line (request_of a (Some (filled a.count fill)))
+  touches_write fill contents first met is =
+      let n : ℕ = tried_in contents a.unit first a.count in
+      ap (λ z. touches n line a.unit z (Some (one_filled fill))) (at_none first)
+      ∙ tried_from a fill n line first 0 (from_none n a.count (tried_few a (contents a.unit) first))
+      ∙ ap (λ z. blocks_from (tried_of (first_unusable a.count (contents a.unit) z 0) a.count) line z 0 (request_of a (Some (filled a.count fill)))) is
+      ∙ sym (ap (λ z. blocks_at z (contents a.unit) line (first_of kind C + a.block) (request_of a (Some (filled a.count fill)))) met)
+    where
       from_none : (n m : ℕ) → n ≤ m → 0 + n ≤ m
       from_none n m le = omega (arith, le)
 

@@ -12,7 +12,15 @@ use Rattle.driver_laws.specs.rules.Rest.{HasTables}
 use Rattle.driver_machine.specs.World.{World, UnitView, Setup as UnitSetup, new_unit, new_world, unit_at}
 use Rattle.driver_machine.specs.Guards.{IsSetUp}
 use Rattle.buffer_cache.specs.Passes.{State as Driver}
-use Rattle.buffer_cache.specs.Passes.{kind_if, table_if, setup_of}
+use Rattle.buffer_cache.specs.Passes.{StandsQuiet, kind_if, table_if, setup_of}
+use Rattle.buffer_cache.proofs.Passes.{starts}
+use Rattle.trace_replay.specs.Packs.{surface_of}
+use Rattle.trace_replay.specs.Runs.{start_of}
+use Rattle.driver_laws.specs.shown.Runs.{IsSoFar}
+use Rattle.driver_laws.specs.rules.Stands.{Setup as Seen}
+use Rattle.driver_laws.specs.rules.Rest.{IsAtRest}
+use Rattle.driver_laws.proofs.rules.Consistency.{starts_consistent}
+use Rattle.driver_laws.proofs.rules.Restful.{start_rests}
 use Rattle.buffer_cache.proofs.Passes.{others_none}
 use Rattle.buffer_cache.proofs.Passes.{new_is_quiet}
 use Rattle.buffer_cache.specs.Passes.{setup_at}
@@ -28,6 +36,7 @@ use Rattle.script_runs.specs.Setups.{setups_of}
 use Rattle.script_runs.specs.Steps.{tables_in, AreUnits, AreSetFor}
 use Rattle.script_runs.proofs.Attached.{below_or_not, unit_beyond}
 use Rattle.cached_run.specs.Going.{Scene, IsFar}
+use Rattle.cached_run.proofs.Calls.{called_none}
 use Rattle.cached_run.proofs.Whole.{setup_for}
 
 module _ (script : Script) (tables : ℕ → Option Table) (setups : List UnitSetup) (outstanding noises : ℕ) (set : AreSetFor script tables setups) where
@@ -75,6 +84,19 @@ module _ (script : Script) (tables : ℕ → Option Table) (setups : List UnitSe
         ap (λ (drives : ℕ → Option DriveKind). record { drives = drives; tables = (setup_of New held).tables; packs = held }) (fun_ext kinds_at)
         ∙ ap (λ (its : ℕ → Option Table). record { drives = drives_of script; tables = its; packs = held }) (fun_ext tables_at)
 
+    -- the start of the script stands for it
+    far_new : IsSoFar (start_of script tables held) 0 [] held New
+    far_new = starts (drives_of script) tables held setups outstanding noises set.are (set.set outstanding noises) (set.declared outstanding noises)
+
+    pub stands_new : StandsQuiet held New (start_of script tables held)
+    stands_new = record {
+      rest = subst (λ (z : Seen). IsAtRest z (start_of script tables held)) (sym setup_new) (start_rests (setup_for script tables held));
+      stands = far_new.left.stands;
+      consistent = starts_consistent (drives_of script) tables (surface_of held);
+      there = far_new.there;
+      finished = far_new.left.finished;
+    }
+
     pub tables_new : HasTables (setup_of New held)
     tables_new = subst HasTables (sym setup_new) read
 
@@ -85,7 +107,7 @@ may_use setups outstanding noises s d empty room made = subst (MayUse s) (sym ma
     (record { ready = record { quiet = new_is_quiet setups outstanding noises; going = refl; sent = refl }; room = room; entries = subst (AllByRecursion (λ (e : Entry). IsData (new_world setups outstanding noises) e.unit e.block)) (sym empty) tt })
 
 -- SO FAR nothing was played
-pub far_none : (s : State) (here : Scene) → s.entries ≡ [] → HasTables (setup_at here.site) → IsFar here [] s here
+pub far_none : (s : State) (here : Scene) → s.entries ≡ [] → HasTables (setup_at here.site) → IsFar here s [] s here
 far_none s here empty tables = record {
   setup = refl;
   tables = tables;
@@ -100,6 +122,8 @@ far_none s here empty tables = record {
   others = others_none (setup_at here.site);
   said = λ t. sym (append-nil here.said);
   later = same here.out_faults;
+  later_trace = same here.trace_faults;
+  calls = called_none s here.site;
 }
   where
     same : (n : ℕ) → n ≤ n
@@ -123,6 +147,12 @@ module _ (script : Script) (units slice : List Made) (d : Driver) (same : slice 
         ap (λ (z : Driver). setup_of z.world held) made_is
         ∙ ap (λ h. setup_of (new_world (setups_of units) 1 0) h) held_is
         ∙ setup_new script (tables_in (setups_of units)) (setups_of units) 1 0 set first read
+
+    pub made_stands : StandsQuiet held d.world (start_of script (tables_in (setups_of units)) first)
+    made_stands =
+        subst (λ (z : Driver). StandsQuiet held z.world (start_of script (tables_in (setups_of units)) first)) (sym made_is)
+        (subst (λ h. StandsQuiet h (new_world (setups_of units) 1 0) (start_of script (tables_in (setups_of units)) first)) (sym held_is)
+        (stands_new script (tables_in (setups_of units)) (setups_of units) 1 0 set first read))
 
     pub made_tables : HasTables (setup_of d.world held)
     made_tables = subst HasTables (sym made_setup) read

@@ -1,11 +1,11 @@
 -- A script that was played to its end, and one that stopped.
-use Rattle.std.proofs.Common.{◌≡◌, ℕ, ◌<◌, ◌≤◌, ◌==◌, IsTrue, List, [], ◌∷◌, ◌++◌, length, take, Option, None, Some, refl, sym, ap, ◌∙◌, subst, arith, append-nil}
+use Rattle.std.proofs.Common.{◌≡◌, inl, inr, ℕ, ◌<◌, ◌≤◌, ◌==◌, IsTrue, List, [], ◌∷◌, ◌++◌, length, take, Option, None, Some, refl, sym, ap, ◌∙◌, subst, arith, append-nil}
 use Rattle.std.specs.Prelude.{not, slice_index}
 use Rattle.std.proofs.lemmas.List.{take_all}
 use Rattle.outside_traits.specs.Causes.{Rose}
 use Rattle.outside_traits.specs.Puts.{TakesFront}
 use Rattle.pack_geometry.specs.declared.DriveKind.{DriveKind}
-use Rattle.pack_geometry.specs.declared.DriveKind.TheVariants.{Rp06, Rm03, Rm05}
+use Rattle.pack_geometry.specs.declared.DriveKind.TheVariants.{Rp06}
 use Rattle.pack_geometry.specs.Geometry.{block_count, copy_at}
 use Rattle.pack_geometry.specs.Pack.{Pack}
 use Rattle.pack_geometry.specs.TableSpelling.{Table}
@@ -19,15 +19,25 @@ use Rattle.driver_laws.specs.rules.LegalAnswers.{AreLegal, all_claimed}
 use Rattle.driver_laws.specs.rules.Stands.{Setup, home_at, home_in}
 use Rattle.driver_laws.specs.rules.Rest.{HasTables}
 use Rattle.driver_laws.specs.rules.Waited.{map_of, with_packs}
-use Rattle.buffer_cache.specs.Passes.{setup_at}
+use Rattle.buffer_cache.specs.Passes.{StandsQuiet, moments_in, setup_at}
 use Rattle.buffer_cache.specs.Passes.{OthersStay}
 use Rattle.buffer_cache.specs.Passes.{map_at, left_map}
 use Rattle.buffer_cache.proofs.Passes.{map_long}
-use Rattle.driver_laws.specs.rules.Entries.{State}
+use Rattle.driver_laws.specs.rules.Entries.{State, empty_cache}
+use Rattle.driver_laws.specs.rules.Contents.{cached}
+use Rattle.driver_laws.specs.rules.Requests.{Map}
+use Rattle.driver_laws.specs.rules.Sessions.{told_in}
+use Rattle.trace_replay.specs.Runs.{start_of}
+use Rattle.trace_replay.specs.Text.{trace_text}
+use Rattle.script_runs.specs.StopsPasses.{AreAsLong}
+use Rattle.buffer_cache.specs.Passes.{Took as TookLines}
+use Rattle.cached_run.specs.Leaving.{IsCalled}
+use Rattle.cached_run.specs.Sessions.{calls_for, called, maps_behind, asked_by, cache_behind, parts_in, parts_till}
+use Rattle.cached_run.proofs.Replacings.{same_map}
 use Rattle.script_runs.specs.Stops.{Took}
 use Rattle.cached_run.specs.Answers.{answers_of, map_of_inputs, text_of, replacements_of, after}
-use Rattle.cached_run.specs.Theorem.{contents, CachedPlays, IsAfter, EndsWithSync, HasNoSync, AreParted, CachedStops}
-use Rattle.cached_run.specs.Going.{Scene, drives_at, blocks_at, IsFar, HaltsScript}
+use Rattle.cached_run.specs.Theorem.{contents, HasAsked, HasAskedTill, CachedPlays, IsAfter, EndsWithSync, HasNoSync, AreParted, CachedStops}
+use Rattle.cached_run.specs.Going.{Scene, drives_at, blocks_at, IsFar, AskedTill, HaltsScript}
 use Rattle.cached_run.proofs.Inputs.{map_is}
 use Rattle.cached_run.proofs.Legal.{AreAskedWell, answers_legal}
 use Rattle.cached_run.proofs.Goings.{ends_with}
@@ -72,7 +82,7 @@ all_synced : (xs synced since : List Numbered) (n : Numbered) → n.input ≡ Dr
 all_synced xs synced [] n is p = sym (p.parts ∙ append-nil synced)
 all_synced xs synced (y ∷ ys) n is p = absurd (both_ways synced y ys p.none (subst EndsWithSync p.parts (ends_with xs n is)))
 
-module _ {first now : Scene} {s : State} (xs : List Numbered) (n : Numbered) (is : n.input ≡ Drain) (far : IsFar first (xs ++ n ∷ []) s now) where
+module _ {first now : Scene} {begun s : State} (xs : List Numbered) (n : Numbered) (is : n.input ≡ Drain) (far : IsFar first begun (xs ++ n ∷ []) s now) where
   final_map : (u b : ℕ) → map_at now.site u b ≡ map_of_inputs (drives_at first) (blocks_at first) (xs ++ n ∷ []) u b
   final_map u b =
       let so = far.holds.each u b in
@@ -103,10 +113,65 @@ module _ (script : Script) (tables : ℕ → Option Table) (old new : ℕ → Pa
   others_are : OthersStay (setup_at first.site) now.site.held → OthersStay (setup_for script tables old) new
   others_are o = subst (OthersStay (setup_for script tables old)) held (subst (λ (z : Setup). OthersStay z now.site.held) set o)
 
+  module _ (capacity : ℕ) (begun s : State) (trace : Took) (empty : begun ≡ empty_cache capacity) (t : IsTrue now.site.packs_tell) (has : HasTables (setup_at first.site))
+      (stands : StandsQuiet first.site.held first.site.world (start_of script tables old)) where
+    contents_is : cached begun.entries (map_at first.site) ≡ contents script tables old
+    contents_is =
+        ap (λ (b : State). cached b.entries (map_at first.site)) empty
+        ∙ same_map (cached [] (map_at first.site)) (map_at first.site) (λ u b. refl)
+        ∙ ap (λ (z : Setup). map_of z) set
+
+    -- THE REQUESTS
+    has_asked : (inputs : List Numbered) → IsCalled (calls_for (drives_at first) (blocks_at first) inputs) begun s first.site now.site
+        → trace.before ≡ first.site.taken → trace.after ≡ now.site.taken → trace.tells ≡ now.site.trace_tells → HasAsked capacity script tables old new trace inputs
+    has_asked inputs calls taken taken' traces = record {
+      sessions = calls.sessions;
+      asks = record {
+        calls = calls.calls;
+        are = calls.are ∙ ap (λ (z : Setup). calls_for z.drives (map_of z) inputs) set;
+        requests = calls.requests ∙ ap (λ (m : Map). asked_by m begun calls.calls) contents_is ∙ ap (λ (b : State). asked_by (contents script tables old) b calls.calls) empty;
+      };
+      lawful = (calls.goes.reaches t has (start_of script tables old) stands).session;
+      told = λ told. taken' ∙ calls.goes.trace (subst IsTrue traces told) ∙ ap (λ z. z ++ trace_text (told_in (parts_in calls.sessions))) (sym taken);
+      long = subst (λ (h : ℕ → Pack). AreAsLong (start_of script tables old) (moments_in (parts_in calls.sessions)) h new) (ap (λ (z : Setup). z.packs) set)
+          (subst (AreAsLong (start_of script tables old) (moments_in (parts_in calls.sessions)) first.site.held) held (calls.goes.long t has (start_of script tables old) stands));
+    }
+
+    has_asked_till : (before : List Numbered) (at : Numbered) → AskedTill first begun before at now → trace.before ≡ first.site.taken → trace.after ≡ now.site.taken → trace.tells ≡ now.site.trace_tells
+        → trace.faults ≡ first.trace_faults → trace.faults_after ≡ now.trace_faults → HasAskedTill capacity script tables old trace before at
+    has_asked_till before at a taken taken' traces faults faults_after = record {
+      stop = a.stop;
+      rose = λ e. subst (λ z. Rose z trace.faults_after) (sym faults) (subst (λ z. Rose first.trace_faults z) (sym faults_after) (a.rose e));
+      cut = record {
+        done = a.cut.cut.done;
+        under = a.cut.cut.under;
+        of_own = a.cut.cut.of_own;
+        rest = a.cut.cut.rest;
+        are = a.cut.cut.are ∙ ap (λ (z : Setup). calls_for z.drives (map_of z) before ++ a.cut.cut.of_own) set;
+        next = sym (ap (λ (z : Setup). calls_for z.drives (map_of_inputs z.drives (map_of z) before) (at ∷ [])) set) ∙ a.cut.cut.next;
+        sessions = a.cut.cut.sessions;
+        last = a.cut.cut.last;
+        request = a.cut.cut.request;
+        asked = a.cut.cut.asked;
+        drained = a.cut.cut.drained;
+        later = a.cut.cut.later;
+        all = a.cut.cut.all ∙ ap (λ (m : Map). asked_by m begun a.cut.cut.done) contents_is ∙ ap (λ (b : State). asked_by (contents script tables old) b a.cut.cut.done) empty;
+        some = a.cut.cut.some
+            ∙ ap (λ (m : Map). asked_by (maps_behind m (called a.cut.cut.done)) (cache_behind m begun a.cut.cut.done) (a.cut.cut.under ∷ [])) contents_is
+            ∙ ap (λ (b : State). asked_by (maps_behind (contents script tables old) (called a.cut.cut.done)) (cache_behind (contents script tables old) b a.cut.cut.done) (a.cut.cut.under ∷ [])) empty;
+      };
+      lawful = (a.cut.stops.cut t has (start_of script tables old) stands).session;
+      told = λ told. subst (λ z. TookLines a.stop z trace.after (trace_text (told_in (parts_till a.cut.cut)))) (sym taken)
+          (subst (λ z. TookLines a.stop first.site.taken z (trace_text (told_in (parts_till a.cut.cut)))) (sym taken') (a.cut.stops.trace (subst IsTrue traces told)));
+    }
+
   -- PLAYED TO ITS END
-  pub whole_plays : (xs : List Numbered) (n : Numbered) (s : State) (out : Took) → inputs_of script ≡ xs ++ n ∷ [] → n.input ≡ Drain → AreAskedWell (inputs_of script) → IsFar first (inputs_of script) s now
-      → out.before ≡ first.said → out.after ≡ now.said → out.tells ≡ now.out_tells → CachedPlays script old new out
-  whole_plays xs n s out inputs last well far before after_is tells = record {
+  pub whole_plays : (capacity : ℕ) (begun : State) (xs : List Numbered) (n : Numbered) (s : State) (out trace : Took) → begun ≡ empty_cache capacity
+      → IsTrue now.site.packs_tell → HasTables (setup_at first.site) → StandsQuiet first.site.held first.site.world (start_of script tables old)
+      → inputs_of script ≡ xs ++ n ∷ [] → n.input ≡ Drain → AreAskedWell (inputs_of script) → IsFar first begun (inputs_of script) s now
+      → out.before ≡ first.said → out.after ≡ now.said → out.tells ≡ now.out_tells
+      → trace.before ≡ first.site.taken → trace.after ≡ now.site.taken → trace.tells ≡ now.site.trace_tells → CachedPlays capacity script old new out trace
+  whole_plays capacity begun xs n s out trace empty t has stands inputs last well far before after_is tells taken taken' traces = record {
     tables = tables;
     read = read;
     legal = subst (λ (z : Setup). AreLegal z.drives all_claimed (inputs_of script) (answers_of z.drives (map_of z) (inputs_of script)) (map_of z) (map_of_inputs z.drives (map_of z) (inputs_of script))) set
@@ -116,18 +181,28 @@ module _ (script : Script) (tables : ℕ → Option Table) (old new : ℕ → Pa
         ∙ final unit block
         ∙ ap (λ (z : Setup). map_of_inputs z.drives (map_of z) (inputs_of script) unit block) set;
     rest = rest_stays script tables old new read (others_are far.others);
+    stay = (others_are far.others).stay;
     said = λ t. after_is ∙ far.said (subst IsTrue tells t) ∙ ap (λ z. z ++ text_of (answers_of (drives_at first) (blocks_at first) (inputs_of script))) (sym before)
         ∙ ap (λ (z : Setup). out.before ++ text_of (answers_of z.drives (map_of z) (inputs_of script))) set;
+    asked = has_asked capacity begun s trace empty t has stands (inputs_of script) far.calls taken taken' traces;
   }
     where
       final : (u b : ℕ) → map_at now.site u b ≡ map_of_inputs (drives_at first) (blocks_at first) (inputs_of script) u b
       final u b = subst (λ z. map_at now.site u b ≡ map_of_inputs (drives_at first) (blocks_at first) z u b) (sym inputs)
-          (final_map xs n last (subst (λ z. IsFar first z s now) inputs far) u b)
+          (final_map xs n last (subst (λ z. IsFar first begun z s now) inputs far) u b)
 
   -- STOPPED
-  pub whole_stops : (out : Took) → HaltsScript script first now → out.before ≡ first.said → out.after ≡ now.said → out.tells ≡ now.out_tells
-      → out.faults ≡ first.out_faults → out.faults_after ≡ now.out_faults → CachedStops script old new out
-  whole_stops out h before after_is tells faults faults_after = record {
+  pub whole_stops : (capacity : ℕ) (begun : State) (out trace : Took) → begun ≡ empty_cache capacity
+      → IsTrue now.site.packs_tell → HasTables (setup_at first.site) → StandsQuiet first.site.held first.site.world (start_of script tables old)
+      → HaltsScript script begun first now → out.before ≡ first.said → out.after ≡ now.said → out.tells ≡ now.out_tells
+      → out.faults ≡ first.out_faults → out.faults_after ≡ now.out_faults
+      → trace.before ≡ first.site.taken → trace.after ≡ now.site.taken → trace.tells ≡ now.site.trace_tells → trace.faults ≡ first.trace_faults → trace.faults_after ≡ now.trace_faults
+      → CachedStops capacity script old new out trace
+  whole_stops capacity begun out trace empty t has stands h before after_is tells faults faults_after taken taken' traces traced traced' = record {
+    asked = elim h.halted.asked [
+      | inl all ↦ inl (has_asked capacity begun all.cache trace empty t has stands (h.before ++ h.at ∷ []) all.calls taken taken' traces)
+      | inr till ↦ inr (has_asked_till capacity begun begun trace empty t has stands h.before h.at till taken taken' traces traced traced')
+    ];
     tables = tables;
     read = read;
     before = h.before;
@@ -143,6 +218,7 @@ module _ (script : Script) (tables : ℕ → Option Table) (old new : ℕ → Pa
         (subst (λ (z : Setup). IsAfter (replacements_of z.drives (map_of z) (h.before ++ h.at ∷ [])) (length (replacements_of z.drives (map_of z) h.halted.holds.synced)) (map_of z) unit block
         (left_map first.site now.site unit block)) set (h.halted.holds.each unit block));
     rest = rest_stays script tables old new read (others_are h.halted.others);
+    stay = (others_are h.halted.others).stay;
     front = λ t. front_as (h.halted.front (subst IsTrue tells t));
     whole = λ rose t. after_is ∙ h.halted.whole (λ r. rose (subst (λ z. Rose z out.faults_after) (sym faults) (subst (λ z. Rose first.out_faults z) (sym faults_after) r))) (subst IsTrue tells t)
         ∙ text_as h.before;
@@ -152,10 +228,13 @@ module _ (script : Script) (tables : ℕ → Option Table) (old new : ℕ → Pa
       text_as inputs = ap (λ z. z ++ text_of (answers_of (drives_at first) (blocks_at first) inputs)) (sym before)
           ∙ ap (λ (z : Setup). out.before ++ text_of (answers_of z.drives (map_of z) inputs)) set
 
-      front_as : TakesFront first.said now.said (text_of (answers_of (drives_at first) (blocks_at first) (h.before ++ h.at ∷ [])))
-          → TakesFront out.before out.after (text_of (answers_of (drives_of script) (contents script tables old) (h.before ++ h.at ∷ [])))
+      front_as : TakesFront (first.said ++ text_of (answers_of (drives_at first) (blocks_at first) h.before)) now.said
+          (text_of (answers_of (drives_at first) (map_of_inputs (drives_at first) (blocks_at first) h.before) (h.at ∷ [])))
+          → TakesFront (out.before ++ text_of (answers_of (drives_of script) (contents script tables old) h.before)) out.after
+          (text_of (answers_of (drives_of script) (map_of_inputs (drives_of script) (contents script tables old) h.before) (h.at ∷ [])))
       front_as f = (
         f.0,
-        after_is ∙ f.1 ∙ ap (λ z. z ++ take f.0 (text_of (answers_of (drives_at first) (blocks_at first) (h.before ++ h.at ∷ [])))) (sym before)
-            ∙ ap (λ (z : Setup). out.before ++ take f.0 (text_of (answers_of z.drives (map_of z) (h.before ++ h.at ∷ [])))) set,
+        after_is ∙ f.1 ∙ ap (λ z. z ++ take f.0 (text_of (answers_of (drives_at first) (map_of_inputs (drives_at first) (blocks_at first) h.before) (h.at ∷ [])))) (text_as h.before)
+            ∙ ap (λ (z : Setup). (out.before ++ text_of (answers_of (drives_of script) (contents script tables old) h.before))
+            ++ take f.0 (text_of (answers_of z.drives (map_of_inputs z.drives (map_of z) h.before) (h.at ∷ [])))) set,
       )

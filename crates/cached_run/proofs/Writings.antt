@@ -9,19 +9,22 @@ use Rattle.pack_geometry.specs.Content.{bytes_at}
 use Rattle.pack_geometry.specs.TableSpelling.{Table}
 use Rattle.pack_geometry.specs.Homes.{home_of, content_at}
 use Rattle.driver_laws.proofs.rules.MachineRuns.{home_marks}
-use Rattle.buffer_cache.specs.Passes.{Stage}
+use Rattle.buffer_cache.specs.Passes.{Stage, StillTell}
 use Rattle.buffer_cache.specs.Passes.{setup_at}
 use Rattle.buffer_cache.specs.Passes.{OthersStay}
 use Rattle.buffer_cache.specs.Passes.{map_at, left_map}
 use Rattle.driver_laws.specs.declared.rules.cached.Entry.{Entry}
 use Rattle.driver_laws.specs.rules.Requests.{Map}
-use Rattle.driver_laws.specs.rules.Entries.{State, entry_of}
-use Rattle.driver_laws.specs.rules.Contents.{bytes_or, cached, Fits, AllFit, IsOne, Takes}
-use Rattle.driver_laws.proofs.rules.Lookups.{IsKey, is_key, found_key, found_all}
+use Rattle.driver_laws.specs.rules.Entries.{State}
+use Rattle.driver_laws.specs.rules.Contents.{cached, IsOne, Takes}
+use Rattle.driver_laws.specs.declared.answers.outcome.Stop.{Stop}
+use Rattle.driver_laws.specs.rules.Calls.{write_done}
+use Rattle.buffer_cache.specs.Asks.{AsksTill}
 use Rattle.buffer_cache.specs.Calls.{IfTold, Writes, Holds}
 use Rattle.cached_run.specs.Answers.{Replacement, with_replacement, after}
-use Rattle.cached_run.specs.Leaving.{IsLeft, Leaves, Makes, KeepsSetup, Does, usable_in, spread}
-use Rattle.cached_run.proofs.Firsts.{all_usable, some_usable, at_least_usable}
+use Rattle.cached_run.specs.Leaving.{IsCalled, IsCutIn, IsLeft, Leaves, Makes, KeepsSetup, Does, usable_in, tried_in, touches, spread}
+use Rattle.cached_run.proofs.Calls.{absent, cached_some, cached_none, called_none, called_write, touched_one, touched_till}
+use Rattle.cached_run.proofs.Firsts.{all_usable, some_usable, at_least_usable, all_tried, some_tried, tried_at}
 use Rattle.cached_run.proofs.Leavings.{leaves_none, makes_none, leaves_more, leaves_then, makes_then, leaves_write}
 
 -- ---- replacements of blocks one behind the other
@@ -59,9 +62,6 @@ spread_misses (suc n) unit first b from contents le =
     other ne = rw (ne_eqb b first ne, and_false (unit == unit)) refl
 
 -- ---- which blocks can be used stays
-absent : {bytes : List ℕ} {A : Type 0} → Some bytes ≡ None → A
-absent e = absurd (cc)
-
 home_none : (pack : model.Pack) (home : Option ℕ) → bytes_at pack home ≡ None → home ≡ None
 home_none pack None none = refl
 home_none pack (Some sector) none = absent none
@@ -73,36 +73,15 @@ content_stays (Some kind) table one other b same none = ap (bytes_at other) (sym
 pub unusable_stays : (old new : Stage) (u b : ℕ) → OthersStay (setup_at old) new.held → map_at old u b ≡ None → left_map old new u b ≡ None
 unusable_stays old new u b o none = content_stays ((setup_at old).drives u) ((setup_at old).tables u) (old.held u) (new.held u) b (sym (o.stay.marks u)) none
 
--- ---- what is cached of a block that can be used, or can't
-cached_some : (entries : List Entry) (map : Map) (u b : ℕ) → IsSome (map u b) → IsSome (cached entries map u b)
-cached_some entries map u b some = by (entry_of u b entries)
-  where
-    by : (o : Option Entry) → IsSome (bytes_or o (map u b))
-    by None = some
-    by (Some e) = refl
-
-unusable : (held : Option (List ℕ)) → held ≡ None → IsSome held → ⊥
-unusable None none some = search arith
-unusable (Some bytes) none some = cc
-
-cached_none : (entries : List Entry) (map : Map) (u b : ℕ) → AllFit map entries → map u b ≡ None → cached entries map u b ≡ None
-cached_none entries map u b fit none = by (entry_of u b entries) refl
-  where
-    by : (o : Option Entry) → entry_of u b entries ≡ o → bytes_or o (map u b) ≡ None
-    by None is = none
-    by (Some e) is =
-        let key : IsKey u b e = is_key u b e (found_key u b entries e is) in
-        absurd (unusable (map u b) none (subst (λ z. IsSome (map z b)) (sym key.unit_is) (subst (λ z. IsSome (map e.unit z)) (sym key.block_is) (found_all (Fits map) u b entries e fit is).usable)))
-
 -- ---- SO FAR the first ones were written.
 abbrev pub AreUsable : (contents : Map) (unit first k : ℕ) → Type 0
 AreUsable contents unit first k = (j : ℕ) → j < k → IsSome (contents unit (first + j))
 
-abbrev pub WrittenSoFar : (unit first k : ℕ) → List ℕ → (s s' : State) → (old new : Stage) → Type 0
-WrittenSoFar unit first k from s s' old new = IfTold s old new (Does (spread k unit first from) (λ contents. AreUsable contents unit first k) s s' old new)
+abbrev pub WrittenSoFar : (line unit first k : ℕ) → List ℕ → (s s' : State) → (old new : Stage) → Type 0
+WrittenSoFar line unit first k from s s' old new = IfTold s old new (Does (λ contents. touches k line unit first (Some from)) (spread k unit first from) (λ contents. AreUsable contents unit first k) s s' old new)
 
-pub written_none : (unit first : ℕ) (from : List ℕ) (s : State) (here : Stage) → WrittenSoFar unit first 0 from s s here here
-written_none unit first from s here t tables fit = record { leaves = leaves_none [] s here; makes = makes_none s here fit; says = λ j lt. absurd (omega (arith, lt)) }
+pub written_none : (line unit first : ℕ) (from : List ℕ) (s : State) (here : Stage) → WrittenSoFar line unit first 0 from s s here here
+written_none line unit first from s here t tables fit = record { calls = called_none s here; leaves = leaves_none [] s here; makes = makes_none s here fit; says = λ j lt. absurd (omega (arith, lt)) }
 
 -- a block behind them is cached as it was at first
 module _ (unit first k : ℕ) (from : List ℕ) (s s' : State) (old mid : Stage) (m : Makes (spread k unit first from) s s' old mid) where
@@ -122,27 +101,30 @@ one_more unit first k contents usable some j lt = elim (eqb_tells j k) [
     below j k lt ne = grind (arith, lt, ne)
 
 -- ONE MORE
-pub written_more : (line unit first k : ℕ) (from : List ℕ) (s s' s'' : State) (old mid new : Stage) → KeepsSetup old mid → (IsTrue new.packs_tell → IsTrue mid.packs_tell)
-    → WrittenSoFar unit first k from s s' old mid → Writes line unit (first + k) true from s' s'' mid new → IfTold s' mid new (Holds unit (first + k) (Some from) s' mid new)
-    → WrittenSoFar unit first (k + 1) from s s'' old new
+pub written_more : (line unit first k : ℕ) (from : List ℕ) (s s' s'' : State) (old mid new : Stage) → KeepsSetup old mid → StillTell mid new
+    → WrittenSoFar line unit first k from s s' old mid → Writes line unit (first + k) true from s' s'' mid new → IfTold s' mid new (Holds unit (first + k) (Some from) s' mid new)
+    → WrittenSoFar line unit first (k + 1) from s s'' old new
 written_more line unit first k from s s' s'' old mid new ks still so_far w holds t tables fit =
-    let g = so_far (still t) tables fit in
-    let takes : Takes (map_at mid) (map_at new) unit (first + k) true from s'.entries s''.entries = w.told t (ks.tables (still t) tables) g.makes.fit in
+    let g = so_far (still.packs t) tables fit in
+    let takes : Takes (map_at mid) (map_at new) unit (first + k) true from s'.entries s''.entries = w.told t (ks.tables (still.packs t) tables) g.makes.fit in
     let one : Replacement = record { unit = unit; block = first + k; bytes = from } in
-    subst (λ z. Does z (λ contents. AreUsable contents unit first (k + 1)) s s'' old new) (sym (spread_more k 1 unit first from))
+    subst (λ z. Does (λ contents. touches (k + 1) line unit first (Some from)) z (λ contents. AreUsable contents unit first (k + 1)) s s'' old new) (sym (spread_more k 1 unit first from))
     (record {
-      leaves = leaves_then (spread k unit first from) (one ∷ []) s s' old mid new ks g.leaves g.makes (leaves_write unit (first + k) from s' mid new (holds t (ks.tables (still t) tables) g.makes.fit));
+      calls = touched_one k line unit first (Some from) s s' s'' old mid new still g.calls (called_write line unit (first + k) true from s' s'' mid new w t (ks.tables (still.packs t) tables) g.makes.fit);
+      leaves = leaves_then (spread k unit first from) (one ∷ []) s s' old mid new ks g.leaves g.makes (leaves_write unit (first + k) from s' mid new (holds t (ks.tables (still.packs t) tables) g.makes.fit));
       makes = makes_then (spread k unit first from) (one ∷ []) s s' s'' old mid new g.makes (record { contents = takes.contents; fit = takes.fit });
       says = one_more unit first k (cached s.entries (map_at old)) g.says
           (subst IsSome (same_behind unit first k from s s' old mid g.makes) (cached_some s'.entries (map_at mid) unit (first + k) (takes.usable refl)));
     })
 
 -- ALL OF THEM
-pub written_all : (unit first count k : ℕ) (from : List ℕ) (s s' : State) (old new : Stage) → k ≡ count → WrittenSoFar unit first k from s s' old new
-    → IfTold s old new (Does (spread count unit first from) (λ contents. count ≡ usable_in contents unit first count) s s' old new)
-written_all unit first count k from s s' old new same so_far t tables fit =
+pub written_all : (line unit first count k : ℕ) (from : List ℕ) (s s' : State) (old new : Stage) → k ≡ count → WrittenSoFar line unit first k from s s' old new
+    → IfTold s old new (Does (λ contents. touches (tried_in contents unit first count) line unit first (Some from)) (spread count unit first from) (λ contents. count ≡ usable_in contents unit first count) s s' old new)
+written_all line unit first count k from s s' old new same so_far t tables fit =
     let d = so_far t tables fit in
     record {
+      calls = subst (λ n. IsCalled (touches n line unit first (Some from)) s s' old new)
+          (same ∙ all_tried (cached s.entries (map_at old)) unit first count (λ j lt. d.says j (subst (λ n. j < n) (sym same) lt))) d.calls;
       leaves = subst (λ n. Leaves (spread n unit first from) s old new) same d.leaves;
       makes = subst (λ n. Makes (spread n unit first from) s s' old new) same d.makes;
       says = all_usable (cached s.entries (map_at old)) unit first count (λ j lt. d.says j (subst (λ n. j < n) (sym same) lt));
@@ -163,26 +145,28 @@ leaves_unusable unit block from s old new none h = record {
 }
 
 -- OR NOT: this one can't be used
-pub written_end : (line unit first count k : ℕ) (from : List ℕ) (s s' s'' : State) (old mid new : Stage) → k < count → KeepsSetup old mid → (IsTrue new.packs_tell → IsTrue mid.packs_tell)
-    → WrittenSoFar unit first k from s s' old mid → Writes line unit (first + k) false from s' s'' mid new → IfTold s' mid new (Holds unit (first + k) (Some from) s' mid new)
-    → IfTold s old new (Does (spread k unit first from) (λ contents. k ≡ usable_in contents unit first count) s s'' old new)
+pub written_end : (line unit first count k : ℕ) (from : List ℕ) (s s' s'' : State) (old mid new : Stage) → k < count → KeepsSetup old mid → StillTell mid new
+    → WrittenSoFar line unit first k from s s' old mid → Writes line unit (first + k) false from s' s'' mid new → IfTold s' mid new (Holds unit (first + k) (Some from) s' mid new)
+    → IfTold s old new (Does (λ contents. touches (tried_in contents unit first count) line unit first (Some from)) (spread k unit first from) (λ contents. k ≡ usable_in contents unit first count) s s'' old new)
 written_end line unit first count k from s s' s'' old mid new lt ks still so_far w holds t tables fit =
-    let g = so_far (still t) tables fit in
-    let takes : Takes (map_at mid) (map_at new) unit (first + k) false from s'.entries s''.entries = w.told t (ks.tables (still t) tables) g.makes.fit in
+    let g = so_far (still.packs t) tables fit in
+    let takes : Takes (map_at mid) (map_at new) unit (first + k) false from s'.entries s''.entries = w.told t (ks.tables (still.packs t) tables) g.makes.fit in
     let none : map_at mid unit (first + k) ≡ None = takes.unusable refl in
-    subst (λ z. Does z (λ contents. k ≡ usable_in contents unit first count) s s'' old new) (append-nil (spread k unit first from))
+    let unusable : cached s.entries (map_at old) unit (first + k) ≡ None = sym (same_behind unit first k from s s' old mid g.makes) ∙ cached_none s'.entries (map_at mid) unit (first + k) g.makes.fit none in
+    subst (λ z. Does (λ contents. touches (tried_in contents unit first count) line unit first (Some from)) z (λ contents. k ≡ usable_in contents unit first count) s s'' old new) (append-nil (spread k unit first from))
     (record {
-      leaves = leaves_then (spread k unit first from) [] s s' old mid new ks g.leaves g.makes (leaves_unusable unit (first + k) from s' mid new none (holds t (ks.tables (still t) tables) g.makes.fit));
+      calls = subst (λ n. IsCalled (touches n line unit first (Some from)) s s'' old new) (some_tried (cached s.entries (map_at old)) unit first count k lt g.says unusable)
+          (touched_one k line unit first (Some from) s s' s'' old mid new still g.calls (called_write line unit (first + k) false from s' s'' mid new w t (ks.tables (still.packs t) tables) g.makes.fit));
+      leaves = leaves_then (spread k unit first from) [] s s' old mid new ks g.leaves g.makes (leaves_unusable unit (first + k) from s' mid new none (holds t (ks.tables (still.packs t) tables) g.makes.fit));
       makes = makes_then (spread k unit first from) [] s s' s'' old mid new g.makes (record { contents = takes.contents; fit = takes.fit });
-      says = some_usable (cached s.entries (map_at old)) unit first count k lt g.says
-          (sym (same_behind unit first k from s s' old mid g.makes) ∙ cached_none s'.entries (map_at mid) unit (first + k) g.makes.fit none);
+      says = some_usable (cached s.entries (map_at old)) unit first count k lt g.says unusable;
     })
 
 -- OR IT STOPPED there
-pub written_stops : (unit first count k : ℕ) (from : List ℕ) (s s' : State) (old mid new : Stage) → k < count → KeepsSetup old mid → (IsTrue new.packs_tell → IsTrue mid.packs_tell)
-    → WrittenSoFar unit first k from s s' old mid → IfTold s' mid new (Holds unit (first + k) (Some from) s' mid new)
+pub written_stops : (line unit first count k : ℕ) (from : List ℕ) (s s' : State) (old mid new : Stage) → k < count → KeepsSetup old mid → (IsTrue new.packs_tell → IsTrue mid.packs_tell)
+    → WrittenSoFar line unit first k from s s' old mid → IfTold s' mid new (Holds unit (first + k) (Some from) s' mid new)
     → IfTold s old new (Leaves (spread (usable_in (cached s.entries (map_at old)) unit first count) unit first from) s old new)
-written_stops unit first count k from s s' old mid new lt ks still so_far holds t tables fit =
+written_stops line unit first count k from s s' old mid new lt ks still so_far holds t tables fit =
     let g = so_far (still t) tables fit in
     by (map_at mid unit (first + k)) refl g.leaves g.makes g.says (holds t (ks.tables (still t) tables) g.makes.fit)
   where
@@ -210,3 +194,12 @@ written_stops unit first count k from s s' old mid new lt ks still so_far holds 
         (subst IsSome (same_behind unit first k from s s' old mid m) (cached_some s'.entries (map_at mid) unit (first + k) (some_bytes (map_at mid unit (first + k)) some)))))
         (subst (λ z. Leaves z s old new) (sym (spread_more k 1 unit first from))
         (leaves_then (spread k unit first from) (record { unit = unit; block = first + k; bytes = from } ∷ []) s s' old mid new ks l m (leaves_write unit (first + k) from s' mid new h)))
+
+pub written_cut : (stop : Stop) (line unit first count k : ℕ) (from : List ℕ) (s s' : State) (old mid new : Stage) → k < count → KeepsSetup old mid → StillTell mid new → WrittenSoFar line unit first k from s s' old mid
+    → IfTold s' mid new (AsksTill stop line (write_done (cached s'.entries (map_at mid) unit (first + k)) true s' unit (first + k) from).asked mid new)
+    → IfTold s old new (IsCutIn stop [] (touches (tried_in (cached s.entries (map_at old)) unit first count) line unit first (Some from)) s old new)
+written_cut stop line unit first count k from s s' old mid new lt ks still so_far till t tables fit =
+    let contents : Map = cached s.entries (map_at old) in
+    let g = so_far (still.packs t) tables fit in
+    let at = tried_at contents unit first count k lt g.says in
+    touched_till stop k at.more line unit first (tried_in contents unit first count) (Some from) s s' old mid new at.is still g.calls (till t (ks.tables (still.packs t) tables) g.makes.fit)

@@ -1,5 +1,5 @@
 -- BEHIND SOME INPUTS of a script: what is cached, what the packs hold, and what was said; and what a line makes of it.
-use Rattle.std.specs.Prelude.{◌≡◌, ℕ, ◌≤◌, Bool, IsTrue, List, [], ◌∷◌, ◌++◌, length, Option}
+use Rattle.std.specs.Prelude.{◌≡◌, ◌⊎◌, ℕ, ◌≤◌, Bool, IsTrue, List, [], ◌∷◌, ◌++◌, length, Option}
 use Rattle.outside_traits.specs.Causes.{Rose}
 use Rattle.outside_traits.specs.Puts.{TakesFront}
 use Rattle.pack_geometry.specs.declared.DriveKind.{DriveKind}
@@ -7,6 +7,8 @@ use Rattle.pack_geometry.specs.Pack.{Pack}
 use Rattle.trace_replay.specs.Script.{Numbered, Drain, Script, inputs_of}
 use Rattle.driver_laws.specs.rules.Machine.{Blocks}
 use Rattle.driver_machine.specs.World.{World}
+use Rattle.driver_laws.specs.declared.answers.outcome.Stop.{Stop}
+use Rattle.driver_laws.specs.declared.answers.outcome.Stop.TheVariants.{Sink}
 use Rattle.driver_laws.specs.rules.Rest.{HasTables}
 use Rattle.driver_laws.specs.rules.Waited.{with_packs}
 use Rattle.buffer_cache.specs.Passes.{Stage}
@@ -17,6 +19,8 @@ use Rattle.buffer_cache.specs.Passes.{site}
 use Rattle.driver_laws.specs.rules.Entries.{State}
 use Rattle.driver_laws.specs.rules.Contents.{cached, AllFit}
 use Rattle.cached_run.specs.Answers.{answers_of, map_of_inputs, text_of, replacements_of}
+use Rattle.cached_run.specs.Sessions.{calls_for}
+use Rattle.cached_run.specs.Leaving.{IsCalled, IsCutIn}
 use Rattle.cached_run.specs.Theorem.{IsAfter, AreParted}
 
 -- WHAT IS PLAYED ON: the driver's world, the packs and the trace, and the sink for the answers
@@ -25,13 +29,14 @@ pub record Scene : Type 0 where
   pub out_tells : Bool
   pub said : List ℕ
   pub out_faults : ℕ
+  pub trace_faults : ℕ
 
-abbrev pub with_out : Stage → (says : Bool) → List ℕ → (faults : ℕ) → Scene
-with_out here says said faults = record { site = here; out_tells = says; said = said; out_faults = faults }
+abbrev pub with_out : Stage → (says : Bool) → List ℕ → (faults traced : ℕ) → Scene
+with_out here says said faults traced = record { site = here; out_tells = says; said = said; out_faults = faults; trace_faults = traced }
 
 abbrev pub scene : {Q O T : Type 0} → (holds : Q → Bool) → (held : Q → ℕ → Pack) → (says : O → Bool) → (said : O → List ℕ) → (faults : O → ℕ) → (tells : T → Bool) → (taken : T → List ℕ)
-    → World → Q → O → T → Scene
-scene holds held says said faults tells taken w packs out trace = with_out (site holds held tells taken w packs trace) (says out) (said out) (faults out)
+    → (traced : T → ℕ) → World → Q → O → T → Scene
+scene holds held says said faults tells taken traced w packs out trace = with_out (site holds held tells taken w packs trace) (says out) (said out) (faults out) (traced trace)
 
 -- the drives that are set up, and what the packs hold
 abbrev pub drives_at : Scene → ℕ → Option DriveKind
@@ -47,8 +52,9 @@ pub record HoldsSome (first : Scene) (ended all : List Numbered) (now : ℕ → 
   pub parted : AreParted ended synced since
   pub each : (u b : ℕ) → IsAfter (replacements_of (drives_at first) (blocks_at first) all) (length (replacements_of (drives_at first) (blocks_at first) synced)) (blocks_at first) u b (now u b)
 
--- SO FAR these inputs came to their end, from a first scene on. What is cached is the map behind them, and their answers were said.
-pub record IsFar (first : Scene) (inputs : List Numbered) (s : State) (now : Scene) : Type 0 where
+-- SO FAR these inputs came to their end, from a first scene and a cache on. What is cached is the map behind them, their answers were said,
+-- and the cache was called for each of them.
+pub record IsFar (first : Scene) (begun : State) (inputs : List Numbered) (s : State) (now : Scene) : Type 0 where
   pub setup : setup_at now.site ≡ with_packs (setup_at first.site) now.site.held
   pub tables : HasTables (setup_at now.site)
   pub contents : (u b : ℕ) → cached s.entries (map_at now.site) u b ≡ map_of_inputs (drives_at first) (blocks_at first) inputs u b
@@ -57,36 +63,52 @@ pub record IsFar (first : Scene) (inputs : List Numbered) (s : State) (now : Sce
   pub others : OthersStay (setup_at first.site) now.site.held
   pub said : IsTrue now.out_tells → now.said ≡ first.said ++ text_of (answers_of (drives_at first) (blocks_at first) inputs)
   pub later : first.out_faults ≤ now.out_faults
+  pub later_trace : first.trace_faults ≤ now.trace_faults
+  pub calls : IsCalled (calls_for (drives_at first) (blocks_at first) inputs) begun s first.site now.site
+
+-- WHERE IT STOPPED the cache was called for all of these,
+pub record AskedAll (first : Scene) (begun : State) (inputs : List Numbered) (now : Scene) : Type 0 where
+  pub cache : State
+  pub calls : IsCalled (calls_for (drives_at first) (blocks_at first) inputs) begun cache first.site now.site
+
+-- or it stopped in a call for the last one; and where the trace failed its count rose.
+pub record AskedTill (first : Scene) (begun : State) (inputs : List Numbered) (n : Numbered) (now : Scene) : Type 0 where
+  pub stop : Stop
+  pub rose : stop ≡ Sink → Rose first.trace_faults now.trace_faults
+  pub cut : IsCutIn stop (calls_for (drives_at first) (blocks_at first) inputs) (calls_for (drives_at first) (map_of_inputs (drives_at first) (blocks_at first) inputs) (n ∷ []))
+      begun first.site now.site
 
 -- IT STOPPED at an input behind these.
-pub record HasHalted (first : Scene) (inputs : List Numbered) (n : Numbered) (now : Scene) : Type 0 where
+pub record HasHalted (first : Scene) (begun : State) (inputs : List Numbered) (n : Numbered) (now : Scene) : Type 0 where
   pub holds : HoldsSome first inputs (inputs ++ n ∷ []) (left_map first.site now.site)
   pub others : OthersStay (setup_at first.site) now.site.held
-  pub front : IsTrue now.out_tells → TakesFront first.said now.said (text_of (answers_of (drives_at first) (blocks_at first) (inputs ++ n ∷ [])))
+  pub front : IsTrue now.out_tells → TakesFront (first.said ++ text_of (answers_of (drives_at first) (blocks_at first) inputs)) now.said
+      (text_of (answers_of (drives_at first) (map_of_inputs (drives_at first) (blocks_at first) inputs) (n ∷ [])))
+  pub asked : AskedAll first begun (inputs ++ n ∷ []) now ⊎ AskedTill first begun inputs n now
   pub whole : (Rose first.out_faults now.out_faults → ⊥) → IsTrue now.out_tells → now.said ≡ first.said ++ text_of (answers_of (drives_at first) (blocks_at first) inputs)
 
 -- WHAT A LINE COMES TO, with no input or one, behind any inputs
 abbrev pub GoesOn : List Numbered → (s s' : State) → (old new : Scene) → Type 0
-GoesOn more s s' old new = (first : Scene) (inputs : List Numbered) → IsFar first inputs s old → IsFar first (inputs ++ more) s' new
+GoesOn more s s' old new = (first : Scene) (begun : State) (inputs : List Numbered) → IsFar first begun inputs s old → IsFar first begun (inputs ++ more) s' new
 
 abbrev pub Halts : List Numbered → State → (old new : Scene) → Type 0
 Halts [] s old new = ⊥
-Halts (n ∷ more) s old new = (first : Scene) (inputs : List Numbered) → IsFar first inputs s old → HasHalted first inputs n new
+Halts (n ∷ more) s old new = (first : Scene) (begun : State) (inputs : List Numbered) → IsFar first begun inputs s old → HasHalted first begun inputs n new
 
 -- a sync says nothing
 abbrev pub syncs_at : (line : ℕ) → List Numbered
 syncs_at line = record { line = line; input = Drain } ∷ []
 
-abbrev pub SyncGoesOn : (line : ℕ) → (s s' : State) → (old new : Stage) → Type 0
-SyncGoesOn line s s' old new = (says : Bool) (said : List ℕ) (faults : ℕ) → GoesOn (syncs_at line) s s' (with_out old says said faults) (with_out new says said faults)
+abbrev pub SyncGoesOn : (line : ℕ) → (s s' : State) → (old new : Stage) → (traced traced' : ℕ) → Type 0
+SyncGoesOn line s s' old new traced traced' = (says : Bool) (said : List ℕ) (faults : ℕ) → GoesOn (syncs_at line) s s' (with_out old says said faults traced) (with_out new says said faults traced')
 
-abbrev pub SyncHalts : (line : ℕ) → State → (old new : Stage) → Type 0
-SyncHalts line s old new = (says : Bool) (said : List ℕ) (faults : ℕ) → Halts (syncs_at line) s (with_out old says said faults) (with_out new says said faults)
+abbrev pub SyncHalts : (line : ℕ) → State → (old new : Stage) → (traced traced' : ℕ) → Type 0
+SyncHalts line s old new traced traced' = (says : Bool) (said : List ℕ) (faults : ℕ) → Halts (syncs_at line) s (with_out old says said faults traced) (with_out new says said faults traced')
 
 -- A SCRIPT that stopped at one of its inputs
-pub record HaltsScript (script : Script) (old new : Scene) : Type 0 where
+pub record HaltsScript (script : Script) (begun : State) (old new : Scene) : Type 0 where
   pub before : List Numbered
   pub at : Numbered
   pub later : List Numbered
   pub inputs : inputs_of script ≡ before ++ at ∷ later
-  pub halted : HasHalted old before at new
+  pub halted : HasHalted old begun before at new

@@ -1,4 +1,5 @@
 pub mod Answers
+pub mod Sessions
 pub mod Theorem
 pub mod Leaving
 pub mod Saying

@@ -3,6 +3,7 @@ ghost use Rattle.std.specs.Prelude.{◌≡◌, ◌≤◌, [], false, IfOk};
 ghost use Rattle.driver_machine.specs.World.{new_world};
 ghost use Rattle.driver_laws.specs.answers.Passes.{AreSetups};
 ghost use Rattle.script_runs.specs.Setups.{setups_of};
+ghost use Rattle.driver_laws.specs.rules.Entries.{empty_cache};
 ghost use Rattle.cached_run.specs.Lines.{IsRoomy};
 
 use buffer_cache::{Cache, Subsystem};
@@ -26,7 +27,7 @@ impl Bench {
         requires some { 1 ≤ capacity }
         requires most { capacity ≤ 4096 }
         ensures subsystem { IfOk result (λ bench. bench.subsystem ≡ record { world = new_world (setups_of units.now) 1 0; outstanding = 1; failed = false; kept = [] }) }
-        ensures cache { IfOk result (λ bench. bench.cache.entries ≡ []) }
+        ensures cache { IfOk result (λ bench. bench.cache ≡ empty_cache capacity) }
         ensures desk { IfOk result (λ bench. IsRoomy bench.desk.gather bench.desk.blocks.items) }
     {
         let desk = Desk::new(alloc)?;

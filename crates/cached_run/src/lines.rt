@@ -32,11 +32,11 @@ fn play_read<P: Packs, O: Sink, T: Sink>(
     requires ask { MayAsk subsystem.old.world asked.now }
     requires desk { IsRoomy desk.old.gather desk.old.blocks.items }
     ensures goes { OnOk result (IsTrue (P.tells packs.new) → GoesOn (record { line = number; input = Submit (request_of asked.now None) } ∷ []) cache.old cache.new
-        (scene P.tells P.held O.tells O.taken O.faults T.tells T.taken subsystem.old.world packs.old out.old trace.old)
-        (scene P.tells P.held O.tells O.taken O.faults T.tells T.taken subsystem.new.world packs.new out.new trace.new)) }
+        (scene P.tells P.held O.tells O.taken O.faults T.tells T.taken T.faults subsystem.old.world packs.old out.old trace.old)
+        (scene P.tells P.held O.tells O.taken O.faults T.tells T.taken T.faults subsystem.new.world packs.new out.new trace.new)) }
     ensures halts { OnErr result (IsTrue (P.tells packs.new) → Halts (record { line = number; input = Submit (request_of asked.now None) } ∷ []) cache.old
-        (scene P.tells P.held O.tells O.taken O.faults T.tells T.taken subsystem.old.world packs.old out.old trace.old)
-        (scene P.tells P.held O.tells O.taken O.faults T.tells T.taken subsystem.new.world packs.new out.new trace.new)) }
+        (scene P.tells P.held O.tells O.taken O.faults T.tells T.taken T.faults subsystem.old.world packs.old out.old trace.old)
+        (scene P.tells P.held O.tells O.taken O.faults T.tells T.taken T.faults subsystem.new.world packs.new out.new trace.new)) }
     ensures may { OnOk result (MayUse cache.new subsystem.new) }
     ensures units { OnOk result (KeepsUnits subsystem.old.world subsystem.new.world) }
     ensures desk { OnOk result (IsRoomy desk.new.gather desk.new.blocks.items) }
@@ -73,11 +73,11 @@ fn play_write<P: Packs, O: Sink, T: Sink>(
     requires ask { MayAsk subsystem.old.world asked.now }
     requires desk { IsRoomy desk.old.gather desk.old.blocks.items }
     ensures goes { OnOk result (IsTrue (P.tells packs.new) → GoesOn (record { line = number; input = Submit (request_of asked.now (Some (filled asked.now.count fill))) } ∷ []) cache.old cache.new
-        (scene P.tells P.held O.tells O.taken O.faults T.tells T.taken subsystem.old.world packs.old out.old trace.old)
-        (scene P.tells P.held O.tells O.taken O.faults T.tells T.taken subsystem.new.world packs.new out.new trace.new)) }
+        (scene P.tells P.held O.tells O.taken O.faults T.tells T.taken T.faults subsystem.old.world packs.old out.old trace.old)
+        (scene P.tells P.held O.tells O.taken O.faults T.tells T.taken T.faults subsystem.new.world packs.new out.new trace.new)) }
     ensures halts { OnErr result (IsTrue (P.tells packs.new) → Halts (record { line = number; input = Submit (request_of asked.now (Some (filled asked.now.count fill))) } ∷ []) cache.old
-        (scene P.tells P.held O.tells O.taken O.faults T.tells T.taken subsystem.old.world packs.old out.old trace.old)
-        (scene P.tells P.held O.tells O.taken O.faults T.tells T.taken subsystem.new.world packs.new out.new trace.new)) }
+        (scene P.tells P.held O.tells O.taken O.faults T.tells T.taken T.faults subsystem.old.world packs.old out.old trace.old)
+        (scene P.tells P.held O.tells O.taken O.faults T.tells T.taken T.faults subsystem.new.world packs.new out.new trace.new)) }
     ensures may { OnOk result (MayUse cache.new subsystem.new) }
     ensures units { OnOk result (KeepsUnits subsystem.old.world subsystem.new.world) }
     ensures desk { OnOk result (IsRoomy desk.new.gather desk.new.blocks.items) }
@@ -101,10 +101,10 @@ pub(crate) fn play_sync<P: Packs, T: Sink>(
     requires may { MayUse cache.old subsystem.old }
     ensures goes { OnOk result (IsTrue (P.tells packs.new) → SyncGoesOn number cache.old cache.new
         (site P.tells P.held T.tells T.taken subsystem.old.world packs.old trace.old)
-        (site P.tells P.held T.tells T.taken subsystem.new.world packs.new trace.new)) }
+        (site P.tells P.held T.tells T.taken subsystem.new.world packs.new trace.new) (T.faults trace.old) (T.faults trace.new)) }
     ensures halts { OnErr result (IsTrue (P.tells packs.new) → SyncHalts number cache.old
         (site P.tells P.held T.tells T.taken subsystem.old.world packs.old trace.old)
-        (site P.tells P.held T.tells T.taken subsystem.new.world packs.new trace.new)) }
+        (site P.tells P.held T.tells T.taken subsystem.new.world packs.new trace.new) (T.faults trace.old) (T.faults trace.new)) }
     ensures may { OnOk result (MayUse cache.new subsystem.new) }
     ensures units { OnOk result (KeepsUnits subsystem.old.world subsystem.new.world) }
     ensures told { (says : Bool) → HaveTold (P.tells packs.old) (P.tells packs.new) says says (T.tells trace.old) (T.tells trace.new) }
@@ -129,11 +129,11 @@ pub(crate) fn play_line<P: Packs, O: Sink, T: Sink>(
     requires ask { MayPlay subsystem.old.world line.now.statement }
     requires desk { IsRoomy desk.old.gather desk.old.blocks.items }
     ensures goes { OnOk result (IsTrue (P.tells packs.new) → GoesOn (input_at line.now) cache.old cache.new
-        (scene P.tells P.held O.tells O.taken O.faults T.tells T.taken subsystem.old.world packs.old out.old trace.old)
-        (scene P.tells P.held O.tells O.taken O.faults T.tells T.taken subsystem.new.world packs.new out.new trace.new)) }
+        (scene P.tells P.held O.tells O.taken O.faults T.tells T.taken T.faults subsystem.old.world packs.old out.old trace.old)
+        (scene P.tells P.held O.tells O.taken O.faults T.tells T.taken T.faults subsystem.new.world packs.new out.new trace.new)) }
     ensures halts { OnErr result (IsTrue (P.tells packs.new) → Halts (input_at line.now) cache.old
-        (scene P.tells P.held O.tells O.taken O.faults T.tells T.taken subsystem.old.world packs.old out.old trace.old)
-        (scene P.tells P.held O.tells O.taken O.faults T.tells T.taken subsystem.new.world packs.new out.new trace.new)) }
+        (scene P.tells P.held O.tells O.taken O.faults T.tells T.taken T.faults subsystem.old.world packs.old out.old trace.old)
+        (scene P.tells P.held O.tells O.taken O.faults T.tells T.taken T.faults subsystem.new.world packs.new out.new trace.new)) }
     ensures may { OnOk result (MayUse cache.new subsystem.new) }
     ensures units { OnOk result (KeepsUnits subsystem.old.world subsystem.new.world) }
     ensures desk { OnOk result (IsRoomy desk.new.gather desk.new.blocks.items) }

@@ -42,12 +42,12 @@ fn play_lines<P: Packs, O: Sink, T: Sink>(
     requires empty { cache.old.entries ≡ [] }
     ensures plays { OnOk result (IsTrue (P.tells packs.new)
         → HasTables (setup_at (site P.tells P.held T.tells T.taken subsystem.old.world packs.old trace.old))
-        → IsFar (scene P.tells P.held O.tells O.taken O.faults T.tells T.taken subsystem.old.world packs.old out.old trace.old) (inputs_of (meaning_of script.now)) cache.new
-        (scene P.tells P.held O.tells O.taken O.faults T.tells T.taken subsystem.new.world packs.new out.new trace.new)) }
+        → IsFar (scene P.tells P.held O.tells O.taken O.faults T.tells T.taken T.faults subsystem.old.world packs.old out.old trace.old) cache.old (inputs_of (meaning_of script.now)) cache.new
+        (scene P.tells P.held O.tells O.taken O.faults T.tells T.taken T.faults subsystem.new.world packs.new out.new trace.new)) }
     ensures stops { OnErr result (IsTrue (P.tells packs.new)
-        → HasTables (setup_at (site P.tells P.held T.tells T.taken subsystem.old.world packs.old trace.old)) → HaltsScript (meaning_of script.now)
-        (scene P.tells P.held O.tells O.taken O.faults T.tells T.taken subsystem.old.world packs.old out.old trace.old)
-        (scene P.tells P.held O.tells O.taken O.faults T.tells T.taken subsystem.new.world packs.new out.new trace.new)) }
+        → HasTables (setup_at (site P.tells P.held T.tells T.taken subsystem.old.world packs.old trace.old)) → HaltsScript (meaning_of script.now) cache.old
+        (scene P.tells P.held O.tells O.taken O.faults T.tells T.taken T.faults subsystem.old.world packs.old out.old trace.old)
+        (scene P.tells P.held O.tells O.taken O.faults T.tells T.taken T.faults subsystem.new.world packs.new out.new trace.new)) }
     ensures told { HaveTold (P.tells packs.old) (P.tells packs.new) (O.tells out.old) (O.tells out.new) (T.tells trace.old) (T.tells trace.new) }
     ensures causes { IsCaused (P.faults packs.old) (P.faults packs.new) (O.faults out.old) (O.faults out.new) (T.faults trace.old) (T.faults trace.new) result }
 {
@@ -67,8 +67,12 @@ fn play_lines<P: Packs, O: Sink, T: Sink>(
 /// its drive. Store comes only where the packs' count of faults rose in this call, and Sink only where that of `out` or of `trace` rose;
 /// Memory only before the first line is played, with the packs, `out` and `trace` as they were.
 ///
+/// Behind an Ok the requests were those that an empty cache of so many blocks asks for, a read for each block that it does not hold and a
+/// write for each changed entry that is dropped or synced; and each image is as long as the blocks that were written make it.
+///
 /// Behind Store and Sink each block of the packs holds what some of the blocks that were written up to the line of the stop left, those
-/// before the last sync that ended among them; and `out` took a front of the answers.
+/// before the last sync that ended among them. `out` took the answers of all lines before that one, and a front of its own; and `trace` took
+/// the lines of the requests up to where it stopped.
 pub fn play_cached<P: Packs, O: Sink, T: Sink>(
     alloc: Global,
     script: &CachedScript,
@@ -79,9 +83,9 @@ pub fn play_cached<P: Packs, O: Sink, T: Sink>(
 ) -> Result<(), PlayFault>
     requires some { 1 ≤ capacity }
     requires most { capacity ≤ 4096 }
-    ensures plays { OnOk result (IsTrue (P.tells packs.new) → CachedPlays (meaning_of script.now) (P.held packs.old) (P.held packs.new)
-        (took O.tells O.taken O.faults out.old out.new)) }
-    ensures stopped { IfErr result (λ fault. IsTrue (P.tells packs.new) → CachedLeaves fault (meaning_of script.now) (P.held packs.old) (P.held packs.new)
+    ensures plays { OnOk result (IsTrue (P.tells packs.new) → CachedPlays capacity (meaning_of script.now) (P.held packs.old) (P.held packs.new)
+        (took O.tells O.taken O.faults out.old out.new) (took T.tells T.taken T.faults trace.old trace.new)) }
+    ensures stopped { IfErr result (λ fault. IsTrue (P.tells packs.new) → CachedLeaves capacity fault (meaning_of script.now) (P.held packs.old) (P.held packs.new)
         (took O.tells O.taken O.faults out.old out.new) (took T.tells T.taken T.faults trace.old trace.new)) }
     ensures fits { IsPlaying result → IsTrue (P.tells packs.new) → (unit n : ℕ) → ¬ (IsTooLong (meaning_of script.now) (P.held packs.old) unit n) }
     ensures too_long { IfErr result (IsLongFor (meaning_of script.now) (P.tells packs.new) (P.held packs.old)) }

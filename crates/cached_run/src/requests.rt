@@ -1,5 +1,5 @@
 // What a line asks for, at the blocks of its unit.
-ghost use Rattle.std.specs.Prelude.{◌≡◌, ◌+◌, ◌≤◌, ℕ, List, None, Some, [], IfOk, OnOk, OnErr, length};
+ghost use Rattle.std.specs.Prelude.{◌≡◌, ◌+◌, ◌≤◌, ℕ, List, None, Some, [], IfOk, IfErr, OnOk, OnErr, length};
 ghost use Rattle.pack_geometry.specs.Geometry.{limit_of};
 ghost use Rattle.partitions.specs.Partitions.{admission, first_of};
 ghost use Rattle.driver_laws.specs.answers.Outcome.{stop_in};
@@ -8,7 +8,8 @@ ghost use Rattle.buffer_cache.specs.Passes.{site, Keeps};
 ghost use Rattle.driver_laws.specs.rules.Contents.{cached};
 ghost use Rattle.buffer_cache.specs.Calls.{MayUse, IfTold};
 ghost use Rattle.cached_run.specs.Answers.{replaced_with};
-ghost use Rattle.cached_run.specs.Leaving.{Leaves, KeepsSetup, Does};
+ghost use Rattle.cached_run.specs.Sessions.{calls_with};
+ghost use Rattle.cached_run.specs.Leaving.{IsCutIn, Leaves, KeepsSetup, Does};
 ghost use Rattle.cached_run.specs.Lines.{MayAsk};
 ghost use Rattle.script_reader.specs.cached.Meaning.{request_of, filled, one_filled};
 ghost use Rattle.cached_run.specs.Saying.{kind_by, IsSaid, GivesAmong};
@@ -74,7 +75,7 @@ pub(crate) fn read_asked<P: Packs, T: Sink>(
     ensures reads { IfOk result (λ kind. IfTold cache.old
         (site P.tells P.held T.tells T.taken subsystem.old.world packs.old trace.old)
         (site P.tells P.held T.tells T.taken subsystem.new.world packs.new trace.new)
-        (Does [] (λ contents. IsSaid (kind_at subsystem.old.world asked.now.unit) (contents asked.now.unit) (request_of asked.now None) kind blocks.new.items) cache.old cache.new
+        (Does (λ contents. calls_with (kind_at subsystem.old.world asked.now.unit) (contents asked.now.unit) line (request_of asked.now None)) [] (λ contents. IsSaid (kind_at subsystem.old.world asked.now.unit) (contents asked.now.unit) (request_of asked.now None) kind blocks.new.items) cache.old cache.new
         (site P.tells P.held T.tells T.taken subsystem.old.world packs.old trace.old)
         (site P.tells P.held T.tells T.taken subsystem.new.world packs.new trace.new))) }
     ensures among { IfOk result (λ kind. GivesAmong kind blocks.new.items) }
@@ -87,6 +88,12 @@ pub(crate) fn read_asked<P: Packs, T: Sink>(
         (site P.tells P.held T.tells T.taken subsystem.old.world packs.old trace.old)
         (site P.tells P.held T.tells T.taken subsystem.new.world packs.new trace.new)
         (Leaves [] cache.old
+        (site P.tells P.held T.tells T.taken subsystem.old.world packs.old trace.old)
+        (site P.tells P.held T.tells T.taken subsystem.new.world packs.new trace.new))) }
+    ensures cut { IfErr result (λ stop. IfTold cache.old
+        (site P.tells P.held T.tells T.taken subsystem.old.world packs.old trace.old)
+        (site P.tells P.held T.tells T.taken subsystem.new.world packs.new trace.new)
+        (IsCutIn stop [] (calls_with (kind_at subsystem.old.world asked.now.unit) (cached cache.old.entries (map_at (site P.tells P.held T.tells T.taken subsystem.old.world packs.old trace.old)) asked.now.unit) line (request_of asked.now None)) cache.old
         (site P.tells P.held T.tells T.taken subsystem.old.world packs.old trace.old)
         (site P.tells P.held T.tells T.taken subsystem.new.world packs.new trace.new))) }
     ensures keeps { Keeps P.tells P.faults T.tells T.faults subsystem.old subsystem.new packs.old packs.new trace.old trace.new (stop_in result) }
@@ -123,7 +130,8 @@ pub(crate) fn write_asked<P: Packs, T: Sink>(
     ensures writes { IfOk result (λ kind. IfTold cache.old
         (site P.tells P.held T.tells T.taken subsystem.old.world packs.old trace.old)
         (site P.tells P.held T.tells T.taken subsystem.new.world packs.new trace.new)
-        (Does (replaced_with (kind_at subsystem.old.world asked.now.unit)
+        (Does (λ contents. calls_with (kind_at subsystem.old.world asked.now.unit) (contents asked.now.unit) line (request_of asked.now (Some (filled asked.now.count fill))))
+        (replaced_with (kind_at subsystem.old.world asked.now.unit)
         (cached cache.old.entries (map_at (site P.tells P.held T.tells T.taken subsystem.old.world packs.old trace.old)) asked.now.unit)
         (request_of asked.now (Some (filled asked.now.count fill))))
         (λ contents. (blocks : List (List ℕ)) → IsSaid (kind_at subsystem.old.world asked.now.unit) (contents asked.now.unit) (request_of asked.now (Some (filled asked.now.count fill))) kind blocks)
@@ -141,6 +149,12 @@ pub(crate) fn write_asked<P: Packs, T: Sink>(
         (Leaves (replaced_with (kind_at subsystem.old.world asked.now.unit)
         (cached cache.old.entries (map_at (site P.tells P.held T.tells T.taken subsystem.old.world packs.old trace.old)) asked.now.unit)
         (request_of asked.now (Some (filled asked.now.count fill)))) cache.old
+        (site P.tells P.held T.tells T.taken subsystem.old.world packs.old trace.old)
+        (site P.tells P.held T.tells T.taken subsystem.new.world packs.new trace.new))) }
+    ensures cut { IfErr result (λ stop. IfTold cache.old
+        (site P.tells P.held T.tells T.taken subsystem.old.world packs.old trace.old)
+        (site P.tells P.held T.tells T.taken subsystem.new.world packs.new trace.new)
+        (IsCutIn stop [] (calls_with (kind_at subsystem.old.world asked.now.unit) (cached cache.old.entries (map_at (site P.tells P.held T.tells T.taken subsystem.old.world packs.old trace.old)) asked.now.unit) line (request_of asked.now (Some (filled asked.now.count fill)))) cache.old
         (site P.tells P.held T.tells T.taken subsystem.old.world packs.old trace.old)
         (site P.tells P.held T.tells T.taken subsystem.new.world packs.new trace.new))) }
     ensures keeps { Keeps P.tells P.faults T.tells T.faults subsystem.old subsystem.new packs.old packs.new trace.old trace.new (stop_in result) }

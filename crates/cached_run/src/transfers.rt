@@ -1,11 +1,11 @@
 // The blocks of a request go through the cache, one by one in rising order.
-ghost use Rattle.std.specs.Prelude.{◌≡◌, ◌≤◌, IfOk, OnOk, OnErr, length, []};
+ghost use Rattle.std.specs.Prelude.{◌≡◌, ◌≤◌, None, Some, IfOk, IfErr, OnOk, OnErr, length, []};
 ghost use Rattle.driver_laws.specs.answers.Outcome.{stop_in};
 ghost use Rattle.buffer_cache.specs.Passes.{map_at};
 ghost use Rattle.buffer_cache.specs.Passes.{site, Keeps};
 ghost use Rattle.driver_laws.specs.rules.Contents.{cached};
 ghost use Rattle.buffer_cache.specs.Calls.{MayUse, IfTold};
-ghost use Rattle.cached_run.specs.Leaving.{Leaves, KeepsSetup, AreData, AreRead, Does, usable_in, spread};
+ghost use Rattle.cached_run.specs.Leaving.{IsCutIn, Leaves, KeepsSetup, AreData, AreRead, Does, usable_in, tried_in, touches, spread};
 
 use buffer_cache::{Cache, CacheFault, Subsystem};
 use driver_laws::answers::outcome::Stop;
@@ -30,7 +30,7 @@ pub(crate) fn read_blocks<P: Packs, T: Sink>(
     ensures reads { IfOk result (λ done. IfTold cache.old
         (site P.tells P.held T.tells T.taken subsystem.old.world packs.old trace.old)
         (site P.tells P.held T.tells T.taken subsystem.new.world packs.new trace.new)
-        (Does [] (λ contents. AreRead contents unit first count done blocks.new.items) cache.old cache.new
+        (Does (λ contents. touches (tried_in contents unit first count) line unit first None) [] (λ contents. AreRead contents unit first count done blocks.new.items) cache.old cache.new
         (site P.tells P.held T.tells T.taken subsystem.old.world packs.old trace.old)
         (site P.tells P.held T.tells T.taken subsystem.new.world packs.new trace.new))) }
     ensures setup { OnOk result (KeepsSetup
@@ -42,6 +42,12 @@ pub(crate) fn read_blocks<P: Packs, T: Sink>(
         (site P.tells P.held T.tells T.taken subsystem.old.world packs.old trace.old)
         (site P.tells P.held T.tells T.taken subsystem.new.world packs.new trace.new)
         (Leaves [] cache.old
+        (site P.tells P.held T.tells T.taken subsystem.old.world packs.old trace.old)
+        (site P.tells P.held T.tells T.taken subsystem.new.world packs.new trace.new))) }
+    ensures cut { IfErr result (λ stop. IfTold cache.old
+        (site P.tells P.held T.tells T.taken subsystem.old.world packs.old trace.old)
+        (site P.tells P.held T.tells T.taken subsystem.new.world packs.new trace.new)
+        (IsCutIn stop [] (touches (tried_in (cached cache.old.entries (map_at (site P.tells P.held T.tells T.taken subsystem.old.world packs.old trace.old))) unit first count) line unit first None) cache.old
         (site P.tells P.held T.tells T.taken subsystem.old.world packs.old trace.old)
         (site P.tells P.held T.tells T.taken subsystem.new.world packs.new trace.new))) }
     ensures keeps { Keeps P.tells P.faults T.tells T.faults subsystem.old subsystem.new packs.old packs.new trace.old trace.new (stop_in result) }
@@ -75,7 +81,7 @@ pub(crate) fn write_blocks<P: Packs, T: Sink>(
     ensures writes { IfOk result (λ done. IfTold cache.old
         (site P.tells P.held T.tells T.taken subsystem.old.world packs.old trace.old)
         (site P.tells P.held T.tells T.taken subsystem.new.world packs.new trace.new)
-        (Does (spread done unit first from.now) (λ contents. done ≡ usable_in contents unit first count) cache.old cache.new
+        (Does (λ contents. touches (tried_in contents unit first count) line unit first (Some from.now)) (spread done unit first from.now) (λ contents. done ≡ usable_in contents unit first count) cache.old cache.new
         (site P.tells P.held T.tells T.taken subsystem.old.world packs.old trace.old)
         (site P.tells P.held T.tells T.taken subsystem.new.world packs.new trace.new))) }
     ensures setup { OnOk result (KeepsSetup
@@ -86,6 +92,12 @@ pub(crate) fn write_blocks<P: Packs, T: Sink>(
         (site P.tells P.held T.tells T.taken subsystem.old.world packs.old trace.old)
         (site P.tells P.held T.tells T.taken subsystem.new.world packs.new trace.new)
         (Leaves (spread (usable_in (cached cache.old.entries (map_at (site P.tells P.held T.tells T.taken subsystem.old.world packs.old trace.old))) unit first count) unit first from.now) cache.old
+        (site P.tells P.held T.tells T.taken subsystem.old.world packs.old trace.old)
+        (site P.tells P.held T.tells T.taken subsystem.new.world packs.new trace.new))) }
+    ensures cut { IfErr result (λ stop. IfTold cache.old
+        (site P.tells P.held T.tells T.taken subsystem.old.world packs.old trace.old)
+        (site P.tells P.held T.tells T.taken subsystem.new.world packs.new trace.new)
+        (IsCutIn stop [] (touches (tried_in (cached cache.old.entries (map_at (site P.tells P.held T.tells T.taken subsystem.old.world packs.old trace.old))) unit first count) line unit first (Some from.now)) cache.old
         (site P.tells P.held T.tells T.taken subsystem.old.world packs.old trace.old)
         (site P.tells P.held T.tells T.taken subsystem.new.world packs.new trace.new))) }
     ensures keeps { Keeps P.tells P.faults T.tells T.faults subsystem.old subsystem.new packs.old packs.new trace.old trace.new (stop_in result) }

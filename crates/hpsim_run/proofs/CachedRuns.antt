@@ -27,8 +27,8 @@ one_cached bytes script other means read =
     means.is ∙ ap (λ (ls : List Line). meaning_of (record { lines = ls; count = means.lines.count })) same.0
     ∙ ap (λ (n : ℕ). meaning_of (record { lines = read.lines.lines; count = n })) same.1 ∙ sym read.is
 
-module _ (old new : Outside) (read : IsRead old new) where
-  pub cached_done : HasCached new.source_tells old.left new.left new.packs_tell old.held new.held (out_took old new) → RunsCached 0 old new
+module _ (capacity : ℕ) (old new : Outside) (read : IsRead old new) where
+  pub cached_done : HasCached capacity new.source_tells old.left new.left new.packs_tell old.held new.held (out_took old new) (trace_took old new) → RunsCached capacity 0 old new
   cached_done h = record {
     script = script_done _ one_cached old new read (meaning_of h.lines) (λ t. record { lines = h.lines; spelled = h.spelled t; is = refl }) h.fits;
     done = λ e. h;
@@ -37,10 +37,10 @@ module _ (old new : Outside) (read : IsRead old new) where
   }
 
   abbrev Stop : PlayFault → Type 0
-  Stop fault = HasStoppedCached fault new.source_tells old.left new.left new.packs_tell old.held new.held (out_took old new) (trace_took old new)
+  Stop fault = HasStoppedCached capacity fault new.source_tells old.left new.left new.packs_tell old.held new.held (out_took old new) (trace_took old new)
 
   pub cached_sink : (s : Stop faults.Sink) → (IsTrue new.packs_tell → (unit n : ℕ) → ¬ (IsTooLong (meaning_of s.lines) old.held unit n))
-      → Rose old.out_faults new.out_faults ⊎ Rose old.trace_faults new.trace_faults → RunsCached 5 old new
+      → Rose old.out_faults new.out_faults ⊎ Rose old.trace_faults new.trace_faults → RunsCached capacity 5 old new
   cached_sink s fits rose = record {
     script = script_sink _ one_cached old new read (meaning_of s.lines) (λ t. record { lines = s.lines; spelled = s.spelled t; is = refl }) fits rose;
     done = λ e. absurd (omega (arith, e));
@@ -48,7 +48,7 @@ module _ (old new : Outside) (read : IsRead old new) where
     stopped_packs = λ e. absurd (omega (arith, e));
   }
 
-  pub cached_store : (s : Stop faults.Store) → Rose old.packs_faults new.packs_faults → RunsCached 6 old new
+  pub cached_store : (s : Stop faults.Store) → Rose old.packs_faults new.packs_faults → RunsCached capacity 6 old new
   cached_store s rose = record {
     script = script_store _ one_cached old new read (meaning_of s.lines) (λ t. record { lines = s.lines; spelled = s.spelled t; is = refl }) rose;
     done = λ e. absurd (omega (arith, e));
@@ -57,7 +57,7 @@ module _ (old new : Outside) (read : IsRead old new) where
   }
 
 -- nothing was played
-pub uncached : {old new : Outside} {code : ℕ} → IsApart code → RunsScript MeansCached IsRefused code old new → RunsCached code old new
+pub uncached : {capacity : ℕ} {old new : Outside} {code : ℕ} → IsApart code → RunsScript MeansCached IsRefused code old new → RunsCached capacity code old new
 uncached apart script = record {
   script = script;
   done = λ e. absurd (apart.done e);
@@ -76,6 +76,6 @@ cached_plays T fault e = subst (λ (f : PlayFault). IsPlaying {T = T} (Err f)) (
 pub cached_before : (T : Type 0) (fault : PlayFault) (unit length_is : ℕ) → fault ≡ faults.TooLong unit length_is → IsBefore {T = T} (Err fault)
 cached_before T fault unit length_is e = subst (λ (f : PlayFault). IsBefore {T = T} (Err f)) (sym e) tt
 
-pub cached_leaves : (fault other : PlayFault) (script : Script) (first left : ℕ → Pack) (out trace : Took) → fault ≡ other → CachedLeaves fault script first left out trace
-    → CachedLeaves other script first left out trace
-cached_leaves fault other script first left out trace e is = subst (λ (f : PlayFault). CachedLeaves f script first left out trace) e is
+pub cached_leaves : (capacity : ℕ) (fault other : PlayFault) (script : Script) (first left : ℕ → Pack) (out trace : Took) → fault ≡ other → CachedLeaves capacity fault script first left out trace
+    → CachedLeaves capacity other script first left out trace
+cached_leaves capacity fault other script first left out trace e is = subst (λ (f : PlayFault). CachedLeaves capacity f script first left out trace) e is

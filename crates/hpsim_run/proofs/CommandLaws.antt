@@ -34,7 +34,7 @@ Does (Some (AddBlock unit kind block way)) code old new = RunsAdd kind unit bloc
 Does (Some (FreshTable unit kind serial)) code old new = RunsFresh kind unit serial code new.packs_tell old.held new.held new.out_tells old.said new.said old.out_faults new.out_faults
 Does (Some (MarkBlocks unit kind)) code old new = RunsMark kind unit code new.packs_tell old.held new.held new.out_tells old.said new.said old.out_faults new.out_faults
 Does (Some (Exercise number)) code old new = RunsExercise number code new.out_tells old.said new.said old.out_faults new.out_faults new.trace_tells old.taken new.taken old.trace_faults new.trace_faults
-Does (Some (Cached capacity)) code old new = RunsCached code old new
+Does (Some (Cached capacity)) code old new = RunsCached capacity code old new
 Does (Some (FormatPack unit kind serial)) code old new = RunsFormat kind unit serial code new.packs_tell old.held new.held new.out_tells old.said new.said old.out_faults new.out_faults
 Does (Some (TransferBytes transfer)) code old new = RunsTransfer transfer code old new
 
@@ -106,7 +106,7 @@ module _ {S P O T : Type 0} {command : Option Command} {code : ℕ} {old new : O
 abbrev pub Clauses : {S P O T : Type 0} → Option Command → ℕ → Outside → Outside → S → S → P → P → O → O → T → T → Type 0
 Clauses command code old new source source' packs packs' out out' trace trace' = record {
   play : command ≡ Some Play → RunsPlay code old new;
-  cached : (capacity : ℕ) → command ≡ Some (Cached capacity) → RunsCached code old new;
+  cached : (capacity : ℕ) → command ≡ Some (Cached capacity) → RunsCached capacity code old new;
   tool : RunsTool command code new.packs_tell old.held new.held new.out_tells old.said new.said old.out_faults new.out_faults;
   exercise : (number : ℕ) → command ≡ Some (Exercise number)
       → RunsExercise number code new.out_tells old.said new.said old.out_faults new.out_faults new.trace_tells old.taken new.taken old.trace_faults new.trace_faults;
@@ -383,7 +383,7 @@ module _ {S P O T : Type 0} {code : ℕ} {old new : Outside} {source source' : S
     leaves = leaves;
   }
 
-  pub cached_ends : (capacity : ℕ) → RunsCached code old new → HasItsCause code old new
+  pub cached_ends : (capacity : ℕ) → RunsCached capacity code old new → HasItsCause code old new
       → LeavesAlone (Some (Cached capacity)) code source source' packs packs' out out' trace trace'
       → Ends (Some (Cached capacity)) code old new source source' packs packs' out out' trace trace'
   cached_ends capacity runs causes leaves = record {

@@ -16,27 +16,29 @@ use Rattle.script_commands.specs.Scripts.{RunsScript}
 use Rattle.script_commands.specs.Sinks.{out_took, trace_took}
 
 -- PLAYED THROUGH THE CACHE. Where the source tells, it was read to its end, and its bytes spell these lines; where the packs tell, each
--- request was answered at its own line, as the block machine answers it, the packs hold what all writes leave, and no image was too long.
-pub record HasCached (source_tells : Bool) (left left_after : List ℕ) (tells : Bool) (old new : ℕ → Pack) (out : Took) : Type 0 where
+-- request was answered at its own line, as the block machine answers it, the packs hold what all writes leave, and no image was too long;
+-- and the trace has the requests that a cache of so many blocks asks for.
+pub record HasCached (capacity : ℕ) (source_tells : Bool) (left left_after : List ℕ) (tells : Bool) (old new : ℕ → Pack) (out trace : Took) : Type 0 where
   pub lines : Lines
   pub read : IsTrue source_tells → left_after ≡ []
   pub spelled : IsTrue source_tells → Spells left lines.lines lines.count
-  pub plays : IsTrue tells → CachedPlays (meaning_of lines) old new out
+  pub plays : IsTrue tells → CachedPlays capacity (meaning_of lines) old new out trace
   pub fits : IsTrue tells → (unit n : ℕ) → ¬ (IsTooLong (meaning_of lines) old unit n)
 
 -- WHERE IT STOPPED as a sink or the packs failed. Where the source tells, it was read to its end, and its bytes spell these lines; where the
--- packs tell, each block holds what some of the writes up to the line of the stop left, those before the last sync that ended among them.
-pub record HasStoppedCached (fault : PlayFault) (source_tells : Bool) (left left_after : List ℕ) (tells : Bool) (old new : ℕ → Pack) (out trace : Took) : Type 0 where
+-- packs tell, each block holds what some of the writes up to the line of the stop left, those before the last sync that ended among them;
+-- and the trace has the requests that a cache of so many blocks asks for, up to there.
+pub record HasStoppedCached (capacity : ℕ) (fault : PlayFault) (source_tells : Bool) (left left_after : List ℕ) (tells : Bool) (old new : ℕ → Pack) (out trace : Took) : Type 0 where
   pub lines : Lines
   pub read : IsTrue source_tells → left_after ≡ []
   pub spelled : IsTrue source_tells → Spells left lines.lines lines.count
-  pub leaves : IsTrue tells → CachedLeaves fault (meaning_of lines) old new out trace
+  pub leaves : IsTrue tells → CachedLeaves capacity fault (meaning_of lines) old new out trace
 
-pub record RunsCached (code : ℕ) (old new : Outside) : Type 0 where
+pub record RunsCached (capacity code : ℕ) (old new : Outside) : Type 0 where
   -- what does not tell how it was played
   pub script : RunsScript MeansCached IsRefused code old new
-  pub done : code ≡ status_code Done → HasCached new.source_tells old.left new.left new.packs_tell old.held new.held (out_took old new)
+  pub done : code ≡ status_code Done → HasCached capacity new.source_tells old.left new.left new.packs_tell old.held new.held (out_took old new) (trace_took old new)
   pub stopped : code ≡ status_code SinkFailed
-      → HasStoppedCached faults.Sink new.source_tells old.left new.left new.packs_tell old.held new.held (out_took old new) (trace_took old new)
+      → HasStoppedCached capacity faults.Sink new.source_tells old.left new.left new.packs_tell old.held new.held (out_took old new) (trace_took old new)
   pub stopped_packs : code ≡ status_code PacksFailed
-      → HasStoppedCached faults.Store new.source_tells old.left new.left new.packs_tell old.held new.held (out_took old new) (trace_took old new)
+      → HasStoppedCached capacity faults.Store new.source_tells old.left new.left new.packs_tell old.held new.held (out_took old new) (trace_took old new)

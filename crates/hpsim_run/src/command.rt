@@ -62,7 +62,7 @@ pub fn run<S: Source, P: Packs, O: Sink, T: Sink>(
         (outside S.tells S.left S.faults P.tells P.held P.faults O.tells O.taken O.faults T.tells T.taken T.faults script.new packs.new out.new trace.new) }
 
     // `cached`: each request answered at its own line, what stands after a stop, and each other status.
-    ensures cached { (capacity : ℕ) → the_command words.now ≡ Some (Cached capacity) → RunsCached result
+    ensures cached { (capacity : ℕ) → the_command words.now ≡ Some (Cached capacity) → RunsCached capacity result
         (outside S.tells S.left S.faults P.tells P.held P.faults O.tells O.taken O.faults T.tells T.taken T.faults script.old packs.old out.old trace.old)
         (outside S.tells S.left S.faults P.tells P.held P.faults O.tells O.taken O.faults T.tells T.taken T.faults script.new packs.new out.new trace.new) }
 

@@ -1,5 +1,5 @@
 -- What is promised of the cache refuses these outcomes.
-use Rattle.std.proofs.Common.{◌≡◌, ◌≢◌, ℕ, ◌+◌, ◌-◌, ◌^◌, ◌<◌, ◌==◌, ◌&&◌, min, Bool, true, false, List, ◌∷◌, take, Option, None, Some, refl, sym, ap, ◌∙◌, arith}
+use Rattle.std.proofs.Common.{◌≡◌, ◌≢◌, inl, inr, ℕ, ◌+◌, ◌-◌, ◌^◌, ◌<◌, ◌==◌, ◌&&◌, min, Bool, true, false, List, ◌∷◌, take, Option, None, Some, refl, sym, ap, ◌∙◌, arith}
 use Rattle.std.specs.Prelude.{if◌then◌else◌}
 use Rattle.std.proofs.lemmas.Bool.{eq-eqb, ne_eqb}
 use Rattle.driver_laws.specs.declared.rules.cached.Entry.{Entry}
@@ -8,7 +8,7 @@ use Rattle.driver_laws.specs.rules.Entries.{State, entry_of, with_room}
 use Rattle.driver_laws.specs.rules.Calls.{Done, entry, read_by, read_done, read_found}
 use Rattle.driver_laws.specs.rules.Contents.{bytes_or}
 use Rattle.cached_run.specs.Passes.{map_at}
-use Rattle.promise_rows.specs.Cache.{ChangedEntryDropped, AnotherBlockWrittenBack, RefusedInsertionNotCounted, SyncStopsEarly, RefusedInsertionPromotes, AnotherBlockWritten, BlockAlwaysFound}
+use Rattle.promise_rows.specs.Cache.{ChangedEntryDropped, AnotherBlockWrittenBack, RefusedInsertionNotCounted, RefusedRisesAtAStop, SyncStopsEarly, RefusedInsertionPromotes, AnotherBlockWritten, BlockAlwaysFound}
 
 pub changed_entry_dropped : ChangedEntryDropped
 changed_entry_dropped line unit block given e s s' old new reads tells tables fit held gone other =
@@ -64,6 +64,13 @@ read_keeps : (e : Option Entry) (held : Option (List ℕ)) (refuses : Bool) (s :
     → (read_by e held refuses s unit block).state.refused ≢ s.refused → (read_by e held refuses s unit block).state.entries ≡ (with_room s).entries
 read_keeps (Some e) held refuses s unit block counted = absurd (counted refl)
 read_keeps None held refuses s unit block counted = found_keeps held refuses s unit block counted
+
+pub refused_rises_at_a_stop : RefusedRisesAtAStop
+refused_rises_at_a_stop s s' (inl same) more = omega (arith, same, more)
+refused_rises_at_a_stop s s' (inr one) more = above s.refused s'.refused one more
+  where
+    above : (n m : ℕ) → m ≡ min (n + 1) (2 ^ 64 - 1) → n + 1 < m → ⊥
+    above n m is more = omega (arith, is, more)
 
 pub refused_insertion_promotes : RefusedInsertionPromotes
 refused_insertion_promotes line unit block given s s' old new reads counted other =

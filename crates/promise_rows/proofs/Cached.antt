@@ -1,20 +1,69 @@
 -- What is promised of a script of the cache refuses these outcomes.
-use Rattle.std.proofs.Common.{◌≡◌, ◌⊎◌, inl, inr, ℕ, zero, suc, ◌+◌, ◌-◌, ◌^◌, ◌<◌, ◌≤◌, min, List, [], ◌∷◌, Option, None, Some, refl, sym, ap, ◌∙◌, arith}
+use Rattle.std.proofs.Common.{◌≡◌, ◌⊎◌, inl, inr, ℕ, zero, suc, ◌+◌, ◌-◌, ◌*◌, ◌^◌, ◌<◌, ◌≤◌, min, List, [], ◌∷◌, ◌++◌, length, take, drop, length-drop, length-append, Option, None, Some, refl, sym, ap, ◌∙◌, arith}
 use Rattle.std.proofs.lemmas.Bool.{false≢true}
 use Rattle.std.proofs.lemmas.List.{append-nil, append_cancel_left}
 use Rattle.partitions.specs.declared.Admission.{Admission}
 use Rattle.trace_replay.specs.requests.Requests.{Request, WriteOk}
 use Rattle.driver_laws.specs.rules.Machine.{Blocks}
 use Rattle.driver_laws.specs.rules.Waited.{answer_at, answer_by, first_unusable, unusable_or}
-use Rattle.cached_run.specs.Answers.{first_by}
-use Rattle.promise_rows.specs.Cached.{LastSyncForgotten, BlockOlderThanTheLastSync, LastUnusableBlockOk, FaultCalledThatOfASink, WriteAnsweredBeforeItIsDone, UnitBehindASync}
+use Rattle.pack_geometry.specs.Geometry.{block_count}
+use Rattle.trace_replay.specs.Script.{Submit, Drain, drives_of}
+use Rattle.driver_laws.specs.rules.Entries.{empty_cache}
+use Rattle.driver_laws.specs.rules.Requests.{Map, reads, writes}
+use Rattle.cached_run.specs.Sessions.{Call, asked_by}
+use Rattle.cached_run.specs.Theorem.{contents}
+use Rattle.cached_run.specs.Answers.{answers_of, first_by, map_of_inputs, text_of}
+use Rattle.promise_rows.specs.Cached.{LastSyncForgotten, BlockOlderThanTheLastSync, CachedBytesBeyondTheDrive, CachedNotAsLongAsWritten, LaterLinesPlayedBehindASinkThatFailed, at_line, called_at, CacheOfAnotherSize, SyncThatWritesNothing, LastUnusableBlockOk, FaultCalledThatOfASink, WriteAnsweredBeforeItIsDone, UnitBehindASync}
 
 pub last_sync_forgotten : LastSyncForgotten
-last_sync_forgotten script old new out plays unit block kind there less other = other (plays.held unit block kind there less)
+last_sync_forgotten capacity script old new out trace plays unit block kind there less other = other (plays.held unit block kind there less)
 
 pub block_older_than_the_last_sync : BlockOlderThanTheLastSync
-block_older_than_the_last_sync script old new out stops unit block kind there less none =
+block_older_than_the_last_sync capacity script old new out trace stops unit block kind there less none =
     let here = stops.held unit block kind there less in none here.number here.from here.holds
+
+-- what an image has beyond its drive stays
+none_beyond : (n : ℕ) (xs ys : List ℕ) → drop n ys ≡ drop n xs → length xs ≤ n → n < length ys → ⊥
+none_beyond n xs ys same fits long =
+    let e : length ys - n ≡ length xs - n = sym (length-drop n ys) ∙ ap length same ∙ length-drop n xs in
+    omega (arith, e, fits, long)
+
+pub cached_bytes_beyond_the_drive : CachedBytesBeyondTheDrive
+cached_bytes_beyond_the_drive capacity script old new out trace (inl plays) unit kind there fits long =
+    none_beyond (512 * block_count kind) (old unit).image (new unit).image (plays.stay.beyond unit kind there) fits long
+cached_bytes_beyond_the_drive capacity script old new out trace (inr stops) unit kind there fits long =
+    none_beyond (512 * block_count kind) (old unit).image (new unit).image (stops.stay.beyond unit kind there) fits long
+
+pub cached_not_as_long_as_written : CachedNotAsLongAsWritten
+cached_not_as_long_as_written capacity script old new out trace plays unit other = other (plays.asked.long unit)
+
+pub later_lines_played_behind_a_sink_that_failed : LaterLinesPlayedBehindASinkThatFailed
+later_lines_played_behind_a_sink_that_failed capacity script old new out trace stops tells less =
+    let front = stops.front tells in
+    let said : List ℕ = out.before ++ text_of (answers_of (drives_of script) (contents script stops.tables old) stops.before) in
+    let rest : List ℕ = take front.0 (text_of (answers_of (drives_of script) (map_of_inputs (drives_of script) (contents script stops.tables old) stops.before) (stops.at ∷ []))) in
+    shorter (length out.after) (length said) (length rest) (ap length front.1 ∙ length-append said rest) less
+  where
+    shorter : (a b c : ℕ) → a ≡ b + c → a < b → ⊥
+    shorter a b c e lt = omega (arith, e, lt)
+
+-- the requests of these calls
+asked_four : (m : Map) (from one other : List ℕ) → m 0 5 ≡ Some one → m 0 6 ≡ Some other
+    → asked_by m (empty_cache 1) (called_at 2 (Submit (writes 0 5 from)) ∷ called_at 3 (Submit (reads 0 6)) ∷ called_at 4 (Submit (reads 0 5)) ∷ called_at 5 Drain ∷ [])
+    ≡ at_line 2 (reads 0 5) ∷ at_line 3 (reads 0 6) ∷ at_line 3 (writes 0 5 from) ∷ at_line 4 (reads 0 5) ∷ []
+asked_four m from one other five six = rw (five, six) refl
+
+pub cache_of_another_size : CacheOfAnotherSize
+cache_of_another_size script old new out trace from one other plays five six calls differ =
+    differ (plays.asked.asks.requests ∙ ap (λ cs. asked_by (contents script plays.tables old) (empty_cache 1) cs) calls ∙ asked_four (contents script plays.tables old) from one other five six)
+
+asked_two : (m : Map) (from one : List ℕ) (more : List Call) → m 0 5 ≡ Some one
+    → take 2 (asked_by m (empty_cache 1) (called_at 2 (Submit (writes 0 5 from)) ∷ called_at 3 Drain ∷ more)) ≡ at_line 2 (reads 0 5) ∷ at_line 3 (writes 0 5 from) ∷ []
+asked_two m from one more five = rw five refl
+
+pub sync_that_writes_nothing : SyncThatWritesNothing
+sync_that_writes_nothing script old new out trace from one more stops till five done differ =
+    differ (ap (take 2) (till.cut.all ∙ ap (λ cs. asked_by (contents script stops.tables old) (empty_cache 1) cs) done) ∙ asked_two (contents script stops.tables old) from one more five)
 
 -- ONE THAT CAN'T BE USED is found among the blocks.
 here_found : (block : Option (List ℕ)) (k : ℕ) (later : Option ℕ) → block ≡ None → unusable_or block k later ≡ None → ⊥
@@ -63,8 +112,8 @@ fault_called_that_of_a_sink packs packs' out trace less less' rise = neither (ri
     neither (inr rose) = not_next trace less' rose
 
 pub write_answered_before_it_is_done : WriteAnsweredBeforeItIsDone
-write_answered_before_it_is_done n inputs byte text s first old new far tells tells' few same more halts =
-    some (append_cancel_left old.said (byte ∷ text) [] (sym more ∙ (halts first inputs far).whole (stays first.out_faults new.out_faults few same) tells' ∙ sym (far.said tells) ∙ sym (append-nil old.said)))
+write_answered_before_it_is_done n inputs byte text begun s first old new far tells tells' few same more halts =
+    some (append_cancel_left old.said (byte ∷ text) [] (sym more ∙ (halts first begun inputs far).whole (stays first.out_faults new.out_faults few same) tells' ∙ sym (far.said tells) ∙ sym (append-nil old.said)))
   where
     stays : (n m : ℕ) → n < 2 ^ 64 - 1 → m ≡ n → min (n + 1) (2 ^ 64 - 1) ≤ m → ⊥
     stays n m few same rose = omega (arith, few, same, rose)

@@ -1,5 +1,5 @@
 -- Wrong outcomes of the cache.
-use Rattle.std.specs.Prelude.{◌≡◌, ◌≢◌, ℕ, ◌-◌, ◌^◌, ◌<◌, true, IsTrue, List, [], ◌∷◌, Option, None, Some}
+use Rattle.std.specs.Prelude.{◌≡◌, ◌≢◌, ℕ, ◌+◌, ◌-◌, ◌^◌, ◌<◌, true, IsTrue, List, [], ◌∷◌, Option, None, Some}
 use Rattle.driver_laws.specs.rules.Rest.{HasTables}
 use Rattle.driver_laws.specs.declared.rules.cached.Entry.{Entry}
 use Rattle.driver_laws.specs.rules.Requests.{writes}
@@ -7,7 +7,7 @@ use Rattle.driver_laws.specs.rules.Entries.{State, entry_of, with_room}
 use Rattle.driver_laws.specs.rules.Contents.{AllFit}
 use Rattle.cached_run.specs.Asks.{Asks, Fetches}
 use Rattle.cached_run.specs.Passes.{Stage, map_at, setup_at}
-use Rattle.cached_run.specs.Calls.{Reads, Syncs}
+use Rattle.cached_run.specs.Calls.{Reads, RefusesOnce, Syncs}
 
 -- A CHANGED ENTRY IS DROPPED UNWRITTEN: a read put it out, and its pack does not hold its bytes.
 abbrev pub ChangedEntryDropped : Type 0
@@ -25,6 +25,10 @@ AnotherBlockWrittenBack = (line unit block u b : ℕ) (given : Option (List ℕ)
 abbrev pub RefusedInsertionNotCounted : Type 0
 RefusedInsertionNotCounted = (line unit block : ℕ) (given : List ℕ) (s s' : State) (old new : Stage) → Reads line unit block (Some given) s s' old new
     → entry_of unit block s.entries ≡ None → entry_of unit block s'.entries ≡ None → s.refused < 2 ^ 64 - 1 → ¬ (s'.refused ≡ s.refused)
+
+-- REFUSED RISES AT A STOP, by more than one
+abbrev pub RefusedRisesAtAStop : Type 0
+RefusedRisesAtAStop = (s s' : State) → RefusesOnce s s' → ¬ (s.refused + 1 < s'.refused)
 
 -- A SYNC STOPS AT AN UNCHANGED ENTRY: the pack does not hold the bytes of one, be it behind that.
 abbrev pub SyncStopsEarly : Type 0

@@ -2,8 +2,8 @@
 //! functions here do nothing: each stands for a law.
 
 ghost use Rattle.promise_rows.specs.Raw.{DrainEndsEarly, ReadComesFromThePack, DriveIsOffline, WriteBeforeItsLines, DoneInBlocks, DumpAtTheFront, OutsideByOne, EdgeWithoutItsBytes};
-ghost use Rattle.promise_rows.specs.Cache.{ChangedEntryDropped, AnotherBlockWrittenBack, RefusedInsertionNotCounted, SyncStopsEarly, RefusedInsertionPromotes, AnotherBlockWritten, BlockAlwaysFound};
-ghost use Rattle.promise_rows.specs.Cached.{LastSyncForgotten, BlockOlderThanTheLastSync, LastUnusableBlockOk, FaultCalledThatOfASink, WriteAnsweredBeforeItIsDone, UnitBehindASync};
+ghost use Rattle.promise_rows.specs.Cache.{ChangedEntryDropped, AnotherBlockWrittenBack, RefusedInsertionNotCounted, RefusedRisesAtAStop, SyncStopsEarly, RefusedInsertionPromotes, AnotherBlockWritten, BlockAlwaysFound};
+ghost use Rattle.promise_rows.specs.Cached.{LastSyncForgotten, BlockOlderThanTheLastSync, CachedBytesBeyondTheDrive, CachedNotAsLongAsWritten, LaterLinesPlayedBehindASinkThatFailed, CacheOfAnotherSize, SyncThatWritesNothing, LastUnusableBlockOk, FaultCalledThatOfASink, WriteAnsweredBeforeItIsDone, UnitBehindASync};
 
 /// Of a request that is waited for: it has ended, a read gives the bytes of its blocks, nothing hinders a driver that is ready for one, and
 /// before a block is written all lines are sent.
@@ -23,12 +23,13 @@ pub fn raw_rows()
     ensures edge_without_its_bytes { EdgeWithoutItsBytes }
 {}
 
-/// Of the cache: what is cached stays when its entry goes, no other block changes, each refused insertion is counted and leaves the entries as
-/// they are, and a sync writes all. Of single blocks: just the one is written, and one that can't be used is not found.
+/// Of the cache: what is cached stays when its entry goes, no other block changes, each refused insertion is counted, one in a call, and
+/// leaves the entries as they are, and a sync writes all. Of single blocks: just the one is written, and one that can't be used is not found.
 pub fn cache_rows()
     ensures changed_entry_is_dropped_unwritten { ChangedEntryDropped }
     ensures another_block_is_written_back { AnotherBlockWrittenBack }
     ensures refused_insertion_is_not_counted { RefusedInsertionNotCounted }
+    ensures refused_rises_at_a_stop { RefusedRisesAtAStop }
     ensures sync_stops_at_an_unchanged_entry { SyncStopsEarly }
     ensures refused_insertion_promotes { RefusedInsertionPromotes }
     ensures another_block_is_written { AnotherBlockWritten }
@@ -36,11 +37,17 @@ pub fn cache_rows()
 {}
 
 /// Of a script of the cache: at its end the packs hold what the requests left, and where it stopped what was there at the last sync, or
-/// later; a write is ok only where all its blocks can be used, and answered only once it is done; a sink failed only where its count rose;
+/// later; images are as long as what was written makes them, and none grows beyond its drive; behind a sink that failed no line is played;
+/// the requests are those of a cache of the size that was named; a write is ok only where all its blocks can be used, and answered only once it is done; a sink failed only where its count rose;
 /// and units are declared before anything else.
 pub fn cached_rows()
     ensures last_sync_is_forgotten { LastSyncForgotten }
     ensures block_older_than_the_last_sync { BlockOlderThanTheLastSync }
+    ensures cached_bytes_beyond_the_drive { CachedBytesBeyondTheDrive }
+    ensures cached_not_as_long_as_written { CachedNotAsLongAsWritten }
+    ensures later_lines_played_behind_a_sink_that_failed { LaterLinesPlayedBehindASinkThatFailed }
+    ensures cache_of_another_size { CacheOfAnotherSize }
+    ensures sync_that_writes_nothing { SyncThatWritesNothing }
     ensures last_unusable_block_is_answered_ok { LastUnusableBlockOk }
     ensures fault_of_the_packs_is_called_that_of_a_sink { FaultCalledThatOfASink }
     ensures write_is_answered_before_it_is_done { WriteAnsweredBeforeItIsDone }

@@ -8,6 +8,11 @@ use Rattle.blocking_io.proofs.Sites.{on_err, keeps_err}
 use Rattle.driver_laws.specs.rules.Requests.{reads}
 use Rattle.buffer_cache.proofs.Maps.{are_blocks}
 use Rattle.buffer_cache.proofs.Exits.{fetches_of}
+use Rattle.std.proofs.Common.{◌∷◌}
+use Rattle.driver_laws.specs.declared.answers.outcome.Stop.{Stop}
+use Rattle.blocking_io.proofs.FrontsBlocks.{plain}
+use Rattle.buffer_cache.specs.Asks.{AsksTill}
+use Rattle.buffer_cache.proofs.Tills.{on_stop, till_one}
 use Rattle.buffer_cache.proofs.blocks.fetch_block.Goals as goal
 
 pub ask_read-requires-clause-may : goal.ask_read-requires-clause-may
@@ -55,3 +60,11 @@ returns-clause-keeps g c = record {
   never_again_trace = c.in_ok-reached.ensures.never_again_trace;
   causes = c.in_ok-reached.ensures.causes;
 }
+
+pub returns-in_err-reached-clause-till : goal.returns-in_err-reached-clause-till
+returns-in_err-reached-clause-till g c =
+    let old : Stage = stage g.P.Packs.tells g.P.Packs.held g.T.Sink.tells g.T.Sink.taken c.args.subsystem.now.world c.args.packs.now c.args.trace.now (Before 0) c.args.into.now in
+    let new : Stage = stage g.P.Packs.tells g.P.Packs.held g.T.Sink.tells g.T.Sink.taken c.ask_read.new.subsystem.world c.ask_read.new.packs c.ask_read.new.trace (Before 0) c.ask_read.new.into in
+    on_stop (λ (stop : Stop). AsksTill stop c.args.line (reads c.args.unit c.args.block ∷ []) (plain old) (plain new)) c.from_residual.result c.in_err-reached.field-0.0 c.from_residual.ensures.1
+    (till_one c.in_err-reached.field-0.0 c.args.line (reads c.args.unit c.args.block) old new
+    (subst (λ q. Stops c.in_err-reached.field-0.0 c.args.line (asked q []) old new) c.one_block.ensures c.in_err-reached.ensures.stops))

@@ -10,6 +10,11 @@ use Rattle.driver_laws.specs.rules.Requests.{writes}
 use Rattle.buffer_cache.specs.Asks.{LeftBy}
 use Rattle.buffer_cache.proofs.Maps.{are_blocks}
 use Rattle.buffer_cache.proofs.Exits.{front_leaves, stores_of}
+use Rattle.std.proofs.Common.{◌∷◌}
+use Rattle.driver_laws.specs.declared.answers.outcome.Stop.{Stop}
+use Rattle.blocking_io.proofs.FrontsBlocks.{plain}
+use Rattle.buffer_cache.specs.Asks.{AsksTill}
+use Rattle.buffer_cache.proofs.Tills.{on_stop, till_one}
 use Rattle.buffer_cache.proofs.blocks.store_block.Goals as goal
 
 no : true ≡ false → ⊥
@@ -57,3 +62,11 @@ returns-clause-keeps g c = record {
   never_again_trace = c.in_ok-ask_write.ensures.never_again_trace;
   causes = c.in_ok-ask_write.ensures.causes;
 }
+
+pub returns-in_err-ask_write-clause-till : goal.returns-in_err-ask_write-clause-till
+returns-in_err-ask_write-clause-till g c =
+    let old : Stage = stage g.P.Packs.tells g.P.Packs.held g.T.Sink.tells g.T.Sink.taken c.args.subsystem.now.world c.args.packs.now c.args.trace.now (Before 0) [] in
+    let new : Stage = stage g.P.Packs.tells g.P.Packs.held g.T.Sink.tells g.T.Sink.taken c.ask_write.new.subsystem.world c.ask_write.new.packs c.ask_write.new.trace (Before 0) [] in
+    on_stop (λ (stop : Stop). AsksTill stop c.args.line (writes c.args.unit c.args.block c.args.from.now ∷ []) (plain old) (plain new)) c.from_residual.result c.in_err-ask_write.field-0.0 c.from_residual.ensures.1
+    (till_one c.in_err-ask_write.field-0.0 c.args.line (writes c.args.unit c.args.block c.args.from.now) old new
+    (subst (λ q. Stops c.in_err-ask_write.field-0.0 c.args.line (asked q c.args.from.now) old new) c.one_block.ensures c.in_err-ask_write.ensures.stops))

@@ -17,6 +17,11 @@ use Rattle.buffer_cache.specs.Calls.{IfTold, Holds}
 use Rattle.buffer_cache.proofs.Orders.{apart_of}
 use Rattle.buffer_cache.proofs.Stays.{data_stays}
 use Rattle.buffer_cache.proofs.Turns.{Flushing, slot_now, data_now, flush_one, flush_stops, flushed_all}
+use Rattle.driver_laws.specs.declared.answers.outcome.Stop.{Stop}
+use Rattle.driver_laws.specs.rules.Entries.{written_back}
+use Rattle.buffer_cache.specs.Asks.{AsksTill}
+use Rattle.buffer_cache.specs.Views.{entries_of}
+use Rattle.buffer_cache.proofs.Tills.{on_stop, flush_till}
 use Rattle.buffer_cache.proofs.syncing.write_all_back.Goals as goal
 
 pub loop-key-init : goal.loop-key-init
@@ -128,3 +133,18 @@ returns-clause-room g c = c.loop-key.invariant.flushing.room
 
 pub returns-clause-keeps : goal.returns-clause-keeps
 returns-clause-keeps g c = c.loop-key.invariant.keeps
+
+pub returns-in_err-write_back-clause-till : goal.returns-in_err-write_back-clause-till
+returns-in_err-write_back-clause-till g c =
+    let old : Stage = site g.P.Packs.tells g.P.Packs.held g.T.Sink.tells g.T.Sink.taken c.args.subsystem.now.world c.args.packs.now c.args.trace.now in
+    let mid : Stage = site g.P.Packs.tells g.P.Packs.held g.T.Sink.tells g.T.Sink.taken c.loop-key.subsystem.world c.loop-key.packs c.loop-key.trace in
+    let new : Stage = site g.P.Packs.tells g.P.Packs.held g.T.Sink.tells g.T.Sink.taken c.write_back.new.subsystem.world c.write_back.new.packs c.write_back.new.trace in
+    let p : Key × ℕ = (c.in-Some.key.now, c.in-Some.slot.now) in
+    let f = subst (Flushing c.args.line c.args.order.now.entries c.args.slots.now.items c.loop-key.slots.items old mid) c.in-Some.ensures.steps c.loop-key.invariant.flushing in
+    let lt = slot_now c.args.line c.args.order.now c.args.slots.now.items c.loop-key.slots.items old mid p c.next.new.self c.requires.kept c.len-count.ensures.valid.1 f in
+    let value : c.index_mut.result.now ≡ slice_index_or c.loop-key.slots.items c.in-Some.slot.now nothing =
+    c.index_mut.ensures.value ∙ get_or_default c.loop-key.slots.items c.in-Some.slot.now c.index_mut.result.now nothing lt in
+    on_stop (λ (stop : Stop). AsksTill stop c.args.line (written_back (entries_of c.args.order.now.entries c.args.slots.now.items)) old new) c.from_residual.result c.in_err-write_back.field-0.0 c.from_residual.ensures.1
+    (flush_till c.in_err-write_back.field-0.0 c.args.line c.args.order.now.entries c.args.slots.now.items c.loop-key.slots.items old mid new p c.next.new.self f
+    (subst (λ (h : Held). AsksTill c.in_err-write_back.field-0.0 c.args.line (write_backs (if_changed (Some (entry_with c.in-Some.key.now h)))) mid new) value c.in_err-write_back.ensures.till)
+    (record { packs = c.in_err-write_back.ensures.keeps.never_again; trace = c.in_err-write_back.ensures.keeps.never_again_trace }))

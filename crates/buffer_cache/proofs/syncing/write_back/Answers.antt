@@ -9,6 +9,10 @@ use Rattle.driver_laws.specs.rules.Requests.{writes}
 use Rattle.buffer_cache.specs.Asks.{Asks, LeftBy}
 use Rattle.buffer_cache.proofs.Joins.{asks_none}
 use Rattle.buffer_cache.specs.Views.{entry_with}
+use Rattle.driver_laws.specs.declared.answers.outcome.Stop.{Stop}
+use Rattle.driver_laws.specs.rules.Entries.{if_changed}
+use Rattle.buffer_cache.specs.Asks.{AsksTill}
+use Rattle.buffer_cache.proofs.Tills.{on_stop}
 use Rattle.buffer_cache.proofs.syncing.write_back.Goals as goal
 
 pub returns-else-held-clause-asks : goal.returns-else-held-clause-asks
@@ -45,3 +49,11 @@ returns-in_ok-store_block-clause-held g c = refl
 
 pub returns-in_ok-store_block-clause-keeps : goal.returns-in_ok-store_block-clause-keeps
 returns-in_ok-store_block-clause-keeps g c = c.in_ok-store_block.ensures.keeps
+
+pub returns-in_err-store_block-clause-till : goal.returns-in_err-store_block-clause-till
+returns-in_err-store_block-clause-till g c =
+    let old : Stage = site g.P.Packs.tells g.P.Packs.held g.T.Sink.tells g.T.Sink.taken c.args.subsystem.now.world c.args.packs.now c.args.trace.now in
+    let new : Stage = site g.P.Packs.tells g.P.Packs.held g.T.Sink.tells g.T.Sink.taken c.store_block.new.subsystem.world c.store_block.new.packs c.store_block.new.trace in
+    let till = c.in_err-store_block.ensures.till in
+    on_stop (λ (stop : Stop). AsksTill stop c.args.line (write_backs (if_changed (Some (entry_with c.args.key c.args.held.now)))) old new) c.from_residual.result c.in_err-store_block.field-0.0 c.from_residual.ensures.1
+    (subst (λ b. AsksTill c.in_err-store_block.field-0.0 c.args.line (write_backs (if b then Some (entry_with c.args.key c.args.held.now) else None)) old new) (sym c.if-held.true) till)

@@ -6,7 +6,7 @@ use Rattle.cached_run.proofs.lines.play_line.Goals as goal
 
 pub returns-in-Unit-clause-goes : goal.returns-in-Unit-clause-goes
 returns-in-Unit-clause-goes g c =
-    let here : Scene = scene g.P.Packs.tells g.P.Packs.held g.O.Sink.tells g.O.Sink.taken g.O.Sink.faults g.T.Sink.tells g.T.Sink.taken c.args.subsystem.now.world c.args.packs.now c.args.out.now c.args.trace.now in
+    let here : Scene = scene g.P.Packs.tells g.P.Packs.held g.O.Sink.tells g.O.Sink.taken g.O.Sink.faults g.T.Sink.tells g.T.Sink.taken g.T.Sink.faults c.args.subsystem.now.world c.args.packs.now c.args.out.now c.args.trace.now in
     λ t. line_goes c.args.line.now c.from-number.result _ c.in-Unit.is c.from-number.ensures c.args.cache.now c.args.cache.now here here (goes_none c.args.cache.now here)
 
 pub returns-in-Unit-clause-units : goal.returns-in-Unit-clause-units
@@ -31,14 +31,14 @@ play_read-requires-clause-ask g c =
 
 pub returns-in-Read-clause-goes : goal.returns-in-Read-clause-goes
 returns-in-Read-clause-goes g c =
-    let old : Scene = scene g.P.Packs.tells g.P.Packs.held g.O.Sink.tells g.O.Sink.taken g.O.Sink.faults g.T.Sink.tells g.T.Sink.taken c.args.subsystem.now.world c.args.packs.now c.args.out.now c.args.trace.now in
-    let new : Scene = scene g.P.Packs.tells g.P.Packs.held g.O.Sink.tells g.O.Sink.taken g.O.Sink.faults g.T.Sink.tells g.T.Sink.taken c.play_read.new.subsystem.world c.play_read.new.packs c.play_read.new.out c.play_read.new.trace in
+    let old : Scene = scene g.P.Packs.tells g.P.Packs.held g.O.Sink.tells g.O.Sink.taken g.O.Sink.faults g.T.Sink.tells g.T.Sink.taken g.T.Sink.faults c.args.subsystem.now.world c.args.packs.now c.args.out.now c.args.trace.now in
+    let new : Scene = scene g.P.Packs.tells g.P.Packs.held g.O.Sink.tells g.O.Sink.taken g.O.Sink.faults g.T.Sink.tells g.T.Sink.taken g.T.Sink.faults c.play_read.new.subsystem.world c.play_read.new.packs c.play_read.new.out c.play_read.new.trace in
     on_ok_map c.play_read.result (λ goes t. line_goes c.args.line.now c.from-number.result (says.Read c.in-Read.asked) c.in-Read.is c.from-number.ensures c.args.cache.now c.play_read.new.cache old new (goes t)) c.play_read.ensures.goes
 
 pub returns-in-Read-clause-halts : goal.returns-in-Read-clause-halts
 returns-in-Read-clause-halts g c =
-    let old : Scene = scene g.P.Packs.tells g.P.Packs.held g.O.Sink.tells g.O.Sink.taken g.O.Sink.faults g.T.Sink.tells g.T.Sink.taken c.args.subsystem.now.world c.args.packs.now c.args.out.now c.args.trace.now in
-    let new : Scene = scene g.P.Packs.tells g.P.Packs.held g.O.Sink.tells g.O.Sink.taken g.O.Sink.faults g.T.Sink.tells g.T.Sink.taken c.play_read.new.subsystem.world c.play_read.new.packs c.play_read.new.out c.play_read.new.trace in
+    let old : Scene = scene g.P.Packs.tells g.P.Packs.held g.O.Sink.tells g.O.Sink.taken g.O.Sink.faults g.T.Sink.tells g.T.Sink.taken g.T.Sink.faults c.args.subsystem.now.world c.args.packs.now c.args.out.now c.args.trace.now in
+    let new : Scene = scene g.P.Packs.tells g.P.Packs.held g.O.Sink.tells g.O.Sink.taken g.O.Sink.faults g.T.Sink.tells g.T.Sink.taken g.T.Sink.faults c.play_read.new.subsystem.world c.play_read.new.packs c.play_read.new.out c.play_read.new.trace in
     on_err_map c.play_read.result (λ halts t. line_halts c.args.line.now c.from-number.result (says.Read c.in-Read.asked) c.in-Read.is c.from-number.ensures c.args.cache.now old new (halts t)) c.play_read.ensures.halts
 
 pub returns-in-Read-clause-told : goal.returns-in-Read-clause-told
@@ -71,14 +71,14 @@ play_write-requires-clause-ask g c =
 
 pub returns-in-Write-clause-goes : goal.returns-in-Write-clause-goes
 returns-in-Write-clause-goes g c =
-    let old : Scene = scene g.P.Packs.tells g.P.Packs.held g.O.Sink.tells g.O.Sink.taken g.O.Sink.faults g.T.Sink.tells g.T.Sink.taken c.args.subsystem.now.world c.args.packs.now c.args.out.now c.args.trace.now in
-    let new : Scene = scene g.P.Packs.tells g.P.Packs.held g.O.Sink.tells g.O.Sink.taken g.O.Sink.faults g.T.Sink.tells g.T.Sink.taken c.play_write.new.subsystem.world c.play_write.new.packs c.play_write.new.out c.play_write.new.trace in
+    let old : Scene = scene g.P.Packs.tells g.P.Packs.held g.O.Sink.tells g.O.Sink.taken g.O.Sink.faults g.T.Sink.tells g.T.Sink.taken g.T.Sink.faults c.args.subsystem.now.world c.args.packs.now c.args.out.now c.args.trace.now in
+    let new : Scene = scene g.P.Packs.tells g.P.Packs.held g.O.Sink.tells g.O.Sink.taken g.O.Sink.faults g.T.Sink.tells g.T.Sink.taken g.T.Sink.faults c.play_write.new.subsystem.world c.play_write.new.packs c.play_write.new.out c.play_write.new.trace in
     on_ok_map c.play_write.result (λ goes t. line_goes c.args.line.now c.from-number.result (says.Write c.in-Write.asked c.in-Write.fill) c.in-Write.is c.from-number.ensures c.args.cache.now c.play_write.new.cache old new (goes t)) c.play_write.ensures.goes
 
 pub returns-in-Write-clause-halts : goal.returns-in-Write-clause-halts
 returns-in-Write-clause-halts g c =
-    let old : Scene = scene g.P.Packs.tells g.P.Packs.held g.O.Sink.tells g.O.Sink.taken g.O.Sink.faults g.T.Sink.tells g.T.Sink.taken c.args.subsystem.now.world c.args.packs.now c.args.out.now c.args.trace.now in
-    let new : Scene = scene g.P.Packs.tells g.P.Packs.held g.O.Sink.tells g.O.Sink.taken g.O.Sink.faults g.T.Sink.tells g.T.Sink.taken c.play_write.new.subsystem.world c.play_write.new.packs c.play_write.new.out c.play_write.new.trace in
+    let old : Scene = scene g.P.Packs.tells g.P.Packs.held g.O.Sink.tells g.O.Sink.taken g.O.Sink.faults g.T.Sink.tells g.T.Sink.taken g.T.Sink.faults c.args.subsystem.now.world c.args.packs.now c.args.out.now c.args.trace.now in
+    let new : Scene = scene g.P.Packs.tells g.P.Packs.held g.O.Sink.tells g.O.Sink.taken g.O.Sink.faults g.T.Sink.tells g.T.Sink.taken g.T.Sink.faults c.play_write.new.subsystem.world c.play_write.new.packs c.play_write.new.out c.play_write.new.trace in
     on_err_map c.play_write.result (λ halts t. line_halts c.args.line.now c.from-number.result (says.Write c.in-Write.asked c.in-Write.fill) c.in-Write.is c.from-number.ensures c.args.cache.now old new (halts t)) c.play_write.ensures.halts
 
 pub returns-in-Write-clause-told : goal.returns-in-Write-clause-told
@@ -107,14 +107,14 @@ play_sync-requires-clause-line g c =
 
 pub returns-in-Sync-clause-goes : goal.returns-in-Sync-clause-goes
 returns-in-Sync-clause-goes g c =
-    let old : Scene = scene g.P.Packs.tells g.P.Packs.held g.O.Sink.tells g.O.Sink.taken g.O.Sink.faults g.T.Sink.tells g.T.Sink.taken c.args.subsystem.now.world c.args.packs.now c.args.out.now c.args.trace.now in
-    let new : Scene = scene g.P.Packs.tells g.P.Packs.held g.O.Sink.tells g.O.Sink.taken g.O.Sink.faults g.T.Sink.tells g.T.Sink.taken c.play_sync.new.subsystem.world c.play_sync.new.packs c.args.out.now c.play_sync.new.trace in
+    let old : Scene = scene g.P.Packs.tells g.P.Packs.held g.O.Sink.tells g.O.Sink.taken g.O.Sink.faults g.T.Sink.tells g.T.Sink.taken g.T.Sink.faults c.args.subsystem.now.world c.args.packs.now c.args.out.now c.args.trace.now in
+    let new : Scene = scene g.P.Packs.tells g.P.Packs.held g.O.Sink.tells g.O.Sink.taken g.O.Sink.faults g.T.Sink.tells g.T.Sink.taken g.T.Sink.faults c.play_sync.new.subsystem.world c.play_sync.new.packs c.args.out.now c.play_sync.new.trace in
     on_ok_map c.play_sync.result (λ goes t. line_goes c.args.line.now c.from-number.result says.Sync c.in-Sync.is c.from-number.ensures c.args.cache.now c.play_sync.new.cache old new (goes t (g.O.Sink.tells c.args.out.now) (g.O.Sink.taken c.args.out.now) (g.O.Sink.faults c.args.out.now))) c.play_sync.ensures.goes
 
 pub returns-in-Sync-clause-halts : goal.returns-in-Sync-clause-halts
 returns-in-Sync-clause-halts g c =
-    let old : Scene = scene g.P.Packs.tells g.P.Packs.held g.O.Sink.tells g.O.Sink.taken g.O.Sink.faults g.T.Sink.tells g.T.Sink.taken c.args.subsystem.now.world c.args.packs.now c.args.out.now c.args.trace.now in
-    let new : Scene = scene g.P.Packs.tells g.P.Packs.held g.O.Sink.tells g.O.Sink.taken g.O.Sink.faults g.T.Sink.tells g.T.Sink.taken c.play_sync.new.subsystem.world c.play_sync.new.packs c.args.out.now c.play_sync.new.trace in
+    let old : Scene = scene g.P.Packs.tells g.P.Packs.held g.O.Sink.tells g.O.Sink.taken g.O.Sink.faults g.T.Sink.tells g.T.Sink.taken g.T.Sink.faults c.args.subsystem.now.world c.args.packs.now c.args.out.now c.args.trace.now in
+    let new : Scene = scene g.P.Packs.tells g.P.Packs.held g.O.Sink.tells g.O.Sink.taken g.O.Sink.faults g.T.Sink.tells g.T.Sink.taken g.T.Sink.faults c.play_sync.new.subsystem.world c.play_sync.new.packs c.args.out.now c.play_sync.new.trace in
     on_err_map c.play_sync.result (λ halts t. line_halts c.args.line.now c.from-number.result says.Sync c.in-Sync.is c.from-number.ensures c.args.cache.now old new (halts t (g.O.Sink.tells c.args.out.now) (g.O.Sink.taken c.args.out.now) (g.O.Sink.faults c.args.out.now))) c.play_sync.ensures.halts
 
 pub returns-in-Sync-clause-told : goal.returns-in-Sync-clause-told

@@ -1,4 +1,6 @@
-use Rattle.std.proofs.Common.{refl}
+use Rattle.std.proofs.Common.{refl, ap}
+use Rattle.std.specs.Prelude.{Some}
+use Rattle.driver_laws.specs.declared.answers.outcome.Stop.{Stop}
 use Rattle.buffer_cache.specs.Passes.{Stage}
 use Rattle.buffer_cache.specs.Passes.{site}
 use Rattle.buffer_cache.proofs.Passes.{on_err}
@@ -11,7 +13,10 @@ pub returns-in_err-sync-clause-halts : goal.returns-in_err-sync-clause-halts
 returns-in_err-sync-clause-halts g c =
     let old : Stage = site g.P.Packs.tells g.P.Packs.held g.T.Sink.tells g.T.Sink.taken c.args.subsystem.now.world c.args.packs.now c.args.trace.now in
     let new : Stage = site g.P.Packs.tells g.P.Packs.held g.T.Sink.tells g.T.Sink.taken c.sync.new.subsystem.world c.sync.new.packs c.sync.new.trace in
-    on_err c.from_residual.result _ (λ t. halts_sync c.args.number c.args.cache.now old new t c.in_err-sync.ensures.holds)
+    on_err c.from_residual.result _ (λ t.
+    halts_sync c.in_err-sync.field-0.0 c.args.number c.args.cache.now old new (g.T.Sink.faults c.args.trace.now) (g.T.Sink.faults c.sync.new.trace) t
+    (record { packs = c.in_err-sync.ensures.keeps.never_again; trace = c.in_err-sync.ensures.keeps.never_again_trace }) (λ e. c.in_err-sync.ensures.keeps.causes.sink (ap (λ (z : Stop). Some z) e))
+    c.in_err-sync.ensures.till c.in_err-sync.ensures.holds)
 
 pub returns-in_err-sync-clause-told : goal.returns-in_err-sync-clause-told
 returns-in_err-sync-clause-told g c =
@@ -25,7 +30,7 @@ pub returns-clause-goes : goal.returns-clause-goes
 returns-clause-goes g c =
     let old : Stage = site g.P.Packs.tells g.P.Packs.held g.T.Sink.tells g.T.Sink.taken c.args.subsystem.now.world c.args.packs.now c.args.trace.now in
     let new : Stage = site g.P.Packs.tells g.P.Packs.held g.T.Sink.tells g.T.Sink.taken c.sync.new.subsystem.world c.sync.new.packs c.sync.new.trace in
-    λ t. goes_sync c.args.number c.args.cache.now c.sync.new.self old new t (setup_asked old new c.in_ok-sync.ensures.syncs.asks) c.in_ok-sync.ensures.syncs c.in_ok-sync.ensures.holds
+    λ t. goes_sync c.args.number c.args.cache.now c.sync.new.self old new (g.T.Sink.faults c.args.trace.now) (g.T.Sink.faults c.sync.new.trace) c.in_ok-sync.ensures.keeps.causes.later t (record { packs = c.in_ok-sync.ensures.keeps.never_again; trace = c.in_ok-sync.ensures.keeps.never_again_trace }) (setup_asked old new c.in_ok-sync.ensures.syncs.asks) c.in_ok-sync.ensures.syncs c.in_ok-sync.ensures.holds
 
 pub returns-clause-units : goal.returns-clause-units
 returns-clause-units g c =

@@ -1,5 +1,6 @@
 use Rattle.std.proofs.Common.{[], length, refl, ap, ◌∙◌}
 use Rattle.std.specs.Prelude.{Some}
+use Rattle.driver_laws.specs.declared.answers.outcome.Stop.{Stop}
 use Rattle.trace_replay.specs.declared.requests.answers.AnswerKind.TheVariants as answer
 use Rattle.buffer_cache.specs.Passes.{Stage}
 use Rattle.buffer_cache.specs.Passes.{kind_at, map_at}
@@ -15,12 +16,13 @@ use Rattle.cached_run.proofs.lines.play_write.Goals as goal
 
 pub returns-in_err-how-clause-halts : goal.returns-in_err-how-clause-halts
 returns-in_err-how-clause-halts g c =
-    let old : Scene = scene g.P.Packs.tells g.P.Packs.held g.O.Sink.tells g.O.Sink.taken g.O.Sink.faults g.T.Sink.tells g.T.Sink.taken c.args.subsystem.now.world c.args.packs.now c.args.out.now c.args.trace.now in
-    let new : Scene = scene g.P.Packs.tells g.P.Packs.held g.O.Sink.tells g.O.Sink.taken g.O.Sink.faults g.T.Sink.tells g.T.Sink.taken c.write_asked.new.subsystem.world c.write_asked.new.packs c.args.out.now c.write_asked.new.trace in
+    let old : Scene = scene g.P.Packs.tells g.P.Packs.held g.O.Sink.tells g.O.Sink.taken g.O.Sink.faults g.T.Sink.tells g.T.Sink.taken g.T.Sink.faults c.args.subsystem.now.world c.args.packs.now c.args.out.now c.args.trace.now in
+    let new : Scene = scene g.P.Packs.tells g.P.Packs.held g.O.Sink.tells g.O.Sink.taken g.O.Sink.faults g.T.Sink.tells g.T.Sink.taken g.T.Sink.faults c.write_asked.new.subsystem.world c.write_asked.new.packs c.args.out.now c.write_asked.new.trace in
     let here : Stage = site g.P.Packs.tells g.P.Packs.held g.T.Sink.tells g.T.Sink.taken c.args.subsystem.now.world c.args.packs.now c.args.trace.now in
     on_err c.from_residual.result _ (λ t.
     request_halts c.args.number (request_of c.args.asked.now (Some (filled c.args.asked.now.count c.args.fill))) (list_of (kind_at c.args.subsystem.now.world c.args.asked.now.unit) (cached c.args.cache.now.entries (map_at here)) c.args.asked.now c.args.fill) answer.Eof [] c.args.cache.now c.args.cache.now old new t c.requires.ask.unit_is refl
-    c.in_err-how.ensures.stops (λ o. o) refl)
+    c.in_err-how.field-0.0 (record { packs = c.in_err-how.ensures.keeps.never_again; trace = c.in_err-how.ensures.keeps.never_again_trace })
+    (λ e. c.in_err-how.ensures.keeps.causes.sink (ap (λ (z : Stop). Some z) e)) c.in_err-how.ensures.cut c.in_err-how.ensures.stops (λ o. o) refl)
 
 pub returns-in_err-how-clause-told : goal.returns-in_err-how-clause-told
 returns-in_err-how-clause-told g c =
@@ -36,13 +38,13 @@ write_answer-requires-clause-room g c =
 
 pub returns-in_err-write_answer-clause-halts : goal.returns-in_err-write_answer-clause-halts
 returns-in_err-write_answer-clause-halts g c =
-    let old : Scene = scene g.P.Packs.tells g.P.Packs.held g.O.Sink.tells g.O.Sink.taken g.O.Sink.faults g.T.Sink.tells g.T.Sink.taken c.args.subsystem.now.world c.args.packs.now c.args.out.now c.args.trace.now in
-    let new : Scene = scene g.P.Packs.tells g.P.Packs.held g.O.Sink.tells g.O.Sink.taken g.O.Sink.faults g.T.Sink.tells g.T.Sink.taken c.write_asked.new.subsystem.world c.write_asked.new.packs c.write_answer.new.out c.write_asked.new.trace in
+    let old : Scene = scene g.P.Packs.tells g.P.Packs.held g.O.Sink.tells g.O.Sink.taken g.O.Sink.faults g.T.Sink.tells g.T.Sink.taken g.T.Sink.faults c.args.subsystem.now.world c.args.packs.now c.args.out.now c.args.trace.now in
+    let new : Scene = scene g.P.Packs.tells g.P.Packs.held g.O.Sink.tells g.O.Sink.taken g.O.Sink.faults g.T.Sink.tells g.T.Sink.taken g.T.Sink.faults c.write_asked.new.subsystem.world c.write_asked.new.packs c.write_answer.new.out c.write_asked.new.trace in
     let here : Stage = site g.P.Packs.tells g.P.Packs.held g.T.Sink.tells g.T.Sink.taken c.args.subsystem.now.world c.args.packs.now c.args.trace.now in
     let there : Stage = site g.P.Packs.tells g.P.Packs.held g.T.Sink.tells g.T.Sink.taken c.write_asked.new.subsystem.world c.write_asked.new.packs c.write_asked.new.trace in
     on_err c.from_residual-in_err-write_answer.result _ (λ t.
     saying_halts c.args.number (request_of c.args.asked.now (Some (filled c.args.asked.now.count c.args.fill))) (list_of (kind_at c.args.subsystem.now.world c.args.asked.now.unit) (cached c.args.cache.now.entries (map_at here)) c.args.asked.now c.args.fill) c.in_ok-how.how c.args.desk.now.blocks.items c.args.cache.now c.write_asked.new.cache old new t c.requires.ask.unit_is refl
-    (wrote_with (kind_at c.args.subsystem.now.world c.args.asked.now.unit) c.args.asked.now c.args.fill c.in_ok-how.how c.args.desk.now.blocks.items c.args.cache.now c.write_asked.new.cache here there c.in_ok-how.ensures.writes) c.in_err-write_answer.ensures.puts.never_again c.in_err-write_answer.ensures.puts.front c.in_err-write_answer.ensures.puts.cause.failed)
+    (wrote_with (kind_at c.args.subsystem.now.world c.args.asked.now.unit) c.args.number c.args.asked.now c.args.fill c.in_ok-how.how c.args.desk.now.blocks.items c.args.cache.now c.write_asked.new.cache here there c.in_ok-how.ensures.writes) (record { packs = c.in_ok-how.ensures.keeps.never_again; trace = c.in_ok-how.ensures.keeps.never_again_trace }) c.in_err-write_answer.ensures.puts.never_again c.in_err-write_answer.ensures.puts.front c.in_err-write_answer.ensures.puts.cause.failed)
 
 pub returns-in_err-write_answer-clause-told : goal.returns-in_err-write_answer-clause-told
 returns-in_err-write_answer-clause-told g c =
@@ -55,12 +57,12 @@ returns-in_err-write_answer-clause-causes g c =
 
 pub returns-clause-goes : goal.returns-clause-goes
 returns-clause-goes g c =
-    let old : Scene = scene g.P.Packs.tells g.P.Packs.held g.O.Sink.tells g.O.Sink.taken g.O.Sink.faults g.T.Sink.tells g.T.Sink.taken c.args.subsystem.now.world c.args.packs.now c.args.out.now c.args.trace.now in
-    let new : Scene = scene g.P.Packs.tells g.P.Packs.held g.O.Sink.tells g.O.Sink.taken g.O.Sink.faults g.T.Sink.tells g.T.Sink.taken c.write_asked.new.subsystem.world c.write_asked.new.packs c.write_answer.new.out c.write_asked.new.trace in
+    let old : Scene = scene g.P.Packs.tells g.P.Packs.held g.O.Sink.tells g.O.Sink.taken g.O.Sink.faults g.T.Sink.tells g.T.Sink.taken g.T.Sink.faults c.args.subsystem.now.world c.args.packs.now c.args.out.now c.args.trace.now in
+    let new : Scene = scene g.P.Packs.tells g.P.Packs.held g.O.Sink.tells g.O.Sink.taken g.O.Sink.faults g.T.Sink.tells g.T.Sink.taken g.T.Sink.faults c.write_asked.new.subsystem.world c.write_asked.new.packs c.write_answer.new.out c.write_asked.new.trace in
     let here : Stage = site g.P.Packs.tells g.P.Packs.held g.T.Sink.tells g.T.Sink.taken c.args.subsystem.now.world c.args.packs.now c.args.trace.now in
     let there : Stage = site g.P.Packs.tells g.P.Packs.held g.T.Sink.tells g.T.Sink.taken c.write_asked.new.subsystem.world c.write_asked.new.packs c.write_asked.new.trace in
     λ t. request_goes c.args.number (request_of c.args.asked.now (Some (filled c.args.asked.now.count c.args.fill))) (list_of (kind_at c.args.subsystem.now.world c.args.asked.now.unit) (cached c.args.cache.now.entries (map_at here)) c.args.asked.now c.args.fill) c.in_ok-how.how c.args.desk.now.blocks.items c.args.cache.now c.write_asked.new.cache old new t c.requires.ask.unit_is refl
-    (wrote_with (kind_at c.args.subsystem.now.world c.args.asked.now.unit) c.args.asked.now c.args.fill c.in_ok-how.how c.args.desk.now.blocks.items c.args.cache.now c.write_asked.new.cache here there c.in_ok-how.ensures.writes) c.in_ok-how.ensures.setup c.in_ok-write_answer.ensures.puts.never_again c.in_ok-write_answer.ensures.puts.bytes c.in_ok-write_answer.ensures.puts.cause.later
+    (wrote_with (kind_at c.args.subsystem.now.world c.args.asked.now.unit) c.args.number c.args.asked.now c.args.fill c.in_ok-how.how c.args.desk.now.blocks.items c.args.cache.now c.write_asked.new.cache here there c.in_ok-how.ensures.writes) c.in_ok-how.ensures.setup (record { packs = c.in_ok-how.ensures.keeps.never_again; trace = c.in_ok-how.ensures.keeps.never_again_trace }) c.in_ok-write_answer.ensures.puts.never_again c.in_ok-write_answer.ensures.puts.bytes c.in_ok-write_answer.ensures.puts.cause.later c.in_ok-how.ensures.keeps.causes.later
 
 pub returns-clause-units : goal.returns-clause-units
 returns-clause-units g c =

@@ -1,4 +1,5 @@
-use Rattle.std.proofs.Common.{◌+◌, IsTrue, length, refl}
+use Rattle.std.proofs.Common.{◌+◌, IsTrue, length, refl, ap}
+use Rattle.driver_laws.specs.rules.Entries.{State}
 use Rattle.trace_replay.specs.Script.{Drain}
 use Rattle.script_runs.specs.Setups.{setups_of}
 use Rattle.script_runs.specs.Stops.{Took, took}
@@ -8,7 +9,7 @@ use Rattle.cached_run.specs.Lines.{inputs_till}
 use Rattle.script_reader.specs.cached.Meaning.{meaning_of}
 use Rattle.cached_run.proofs.Causes.{same, caused_more, never_before, never_long, leaves_as, on_ok_map, on_err_map}
 use Rattle.cached_run.proofs.ScriptLines.{inputs_all, all_asked_well}
-use Rattle.cached_run.proofs.Starts.{made_units, made_may, made_setup, made_tables}
+use Rattle.cached_run.proofs.Starts.{made_units, made_may, made_setup, made_stands, made_tables}
 use Rattle.cached_run.proofs.Whole.{whole_plays, whole_stops}
 use Rattle.cached_run.proofs.play.play_cached.Goals as goal
 
@@ -18,7 +19,7 @@ play_lines-requires-clause-units g c =
 
 pub play_lines-requires-clause-may : goal.play_lines-requires-clause-may
 play_lines-requires-clause-may g c =
-    made_may (meaning_of c.args.script.now) c.in_ok-units.units.items c.as_slice.result.now c.in_ok-bench.bench.subsystem c.as_slice.ensures.value c.in_ok-units.ensures.set c.in_ok-bench.ensures.subsystem c.in_ok-bench.bench.cache c.in_ok-bench.ensures.cache
+    made_may (meaning_of c.args.script.now) c.in_ok-units.units.items c.as_slice.result.now c.in_ok-bench.bench.subsystem c.as_slice.ensures.value c.in_ok-units.ensures.set c.in_ok-bench.ensures.subsystem c.in_ok-bench.bench.cache (ap (λ (s : State). s.entries) c.in_ok-bench.ensures.cache)
 
 pub play_lines-requires-clause-desk : goal.play_lines-requires-clause-desk
 play_lines-requires-clause-desk g c =
@@ -26,7 +27,7 @@ play_lines-requires-clause-desk g c =
 
 pub play_lines-requires-clause-empty : goal.play_lines-requires-clause-empty
 play_lines-requires-clause-empty g c =
-    c.in_ok-bench.ensures.cache
+    ap (λ (s : State). s.entries) c.in_ok-bench.ensures.cache
 
 pub returns-clause-plays : goal.returns-clause-plays
 returns-clause-plays g c =
@@ -36,16 +37,18 @@ returns-clause-plays g c =
     let tables = tables_in (setups_of c.in_ok-units.units.items) in
     let old = g.P.Packs.held c.args.packs.now in
     let new = g.P.Packs.held c.play_lines.new.packs in
-    let first : Scene = scene g.P.Packs.tells g.P.Packs.held g.O.Sink.tells g.O.Sink.taken g.O.Sink.faults g.T.Sink.tells g.T.Sink.taken c.in_ok-bench.bench.subsystem.world c.attach_cached.new.packs c.args.out.now c.args.trace.now in
-    let now : Scene = scene g.P.Packs.tells g.P.Packs.held g.O.Sink.tells g.O.Sink.taken g.O.Sink.faults g.T.Sink.tells g.T.Sink.taken c.play_lines.new.subsystem.world c.play_lines.new.packs c.play_lines.new.out c.play_lines.new.trace in
+    let first : Scene = scene g.P.Packs.tells g.P.Packs.held g.O.Sink.tells g.O.Sink.taken g.O.Sink.faults g.T.Sink.tells g.T.Sink.taken g.T.Sink.faults c.in_ok-bench.bench.subsystem.world c.attach_cached.new.packs c.args.out.now c.args.trace.now in
+    let now : Scene = scene g.P.Packs.tells g.P.Packs.held g.O.Sink.tells g.O.Sink.taken g.O.Sink.faults g.T.Sink.tells g.T.Sink.taken g.T.Sink.faults c.play_lines.new.subsystem.world c.play_lines.new.packs c.play_lines.new.out c.play_lines.new.trace in
     let out : Took = took g.O.Sink.tells g.O.Sink.taken g.O.Sink.faults c.args.out.now c.play_lines.new.out in
     on_ok_map c.play_lines.result (λ plays t.
     let t' = lines.told.never_again t in
     let read = units.tables t' in
     let set = made_setup (meaning_of c.args.script.now) c.in_ok-units.units.items c.as_slice.result.now c.in_ok-bench.bench.subsystem c.as_slice.ensures.value c.in_ok-units.ensures.set c.in_ok-bench.ensures.subsystem first.site.held old (units.same t') read in
     let has = made_tables (meaning_of c.args.script.now) c.in_ok-units.units.items c.as_slice.result.now c.in_ok-bench.bench.subsystem c.as_slice.ensures.value c.in_ok-units.ensures.set c.in_ok-bench.ensures.subsystem first.site.held old (units.same t') read in
-    whole_plays (meaning_of s) tables old new first now set refl read (inputs_till s (length s.lines)) (record { line = s.count + 1; input = Drain }) c.play_lines.new.cache out
-    (inputs_all s (length s.lines) (same (length s.lines))) refl (all_asked_well s c.law.ensures) (plays t has) refl refl refl)
+    let stands = made_stands (meaning_of c.args.script.now) c.in_ok-units.units.items c.as_slice.result.now c.in_ok-bench.bench.subsystem c.as_slice.ensures.value c.in_ok-units.ensures.set c.in_ok-bench.ensures.subsystem first.site.held old (units.same t') read in
+    whole_plays (meaning_of s) tables old new first now set refl read c.args.capacity c.in_ok-bench.bench.cache (inputs_till s (length s.lines)) (record { line = s.count + 1; input = Drain }) c.play_lines.new.cache out
+    (took g.T.Sink.tells g.T.Sink.taken g.T.Sink.faults c.args.trace.now c.play_lines.new.trace) c.in_ok-bench.ensures.cache t has stands
+    (inputs_all s (length s.lines) (same (length s.lines))) refl (all_asked_well s c.law.ensures) (plays t has) refl refl refl refl refl refl)
     lines.plays
 
 pub returns-clause-stopped : goal.returns-clause-stopped
@@ -56,16 +59,19 @@ returns-clause-stopped g c =
     let tables = tables_in (setups_of c.in_ok-units.units.items) in
     let old = g.P.Packs.held c.args.packs.now in
     let new = g.P.Packs.held c.play_lines.new.packs in
-    let first : Scene = scene g.P.Packs.tells g.P.Packs.held g.O.Sink.tells g.O.Sink.taken g.O.Sink.faults g.T.Sink.tells g.T.Sink.taken c.in_ok-bench.bench.subsystem.world c.attach_cached.new.packs c.args.out.now c.args.trace.now in
-    let now : Scene = scene g.P.Packs.tells g.P.Packs.held g.O.Sink.tells g.O.Sink.taken g.O.Sink.faults g.T.Sink.tells g.T.Sink.taken c.play_lines.new.subsystem.world c.play_lines.new.packs c.play_lines.new.out c.play_lines.new.trace in
+    let first : Scene = scene g.P.Packs.tells g.P.Packs.held g.O.Sink.tells g.O.Sink.taken g.O.Sink.faults g.T.Sink.tells g.T.Sink.taken g.T.Sink.faults c.in_ok-bench.bench.subsystem.world c.attach_cached.new.packs c.args.out.now c.args.trace.now in
+    let now : Scene = scene g.P.Packs.tells g.P.Packs.held g.O.Sink.tells g.O.Sink.taken g.O.Sink.faults g.T.Sink.tells g.T.Sink.taken g.T.Sink.faults c.play_lines.new.subsystem.world c.play_lines.new.packs c.play_lines.new.out c.play_lines.new.trace in
     let out : Took = took g.O.Sink.tells g.O.Sink.taken g.O.Sink.faults c.args.out.now c.play_lines.new.out in
-    leaves_as (IsTrue (g.P.Packs.tells c.play_lines.new.packs)) c.play_lines.result (meaning_of s) old new out (took g.T.Sink.tells g.T.Sink.taken g.T.Sink.faults c.args.trace.now c.play_lines.new.trace)
+    let trace : Took = took g.T.Sink.tells g.T.Sink.taken g.T.Sink.faults c.args.trace.now c.play_lines.new.trace in
+    leaves_as (IsTrue (g.P.Packs.tells c.play_lines.new.packs)) c.play_lines.result c.args.capacity (meaning_of s) old new out trace
     (on_err_map c.play_lines.result (λ stops t.
     let t' = lines.told.never_again t in
     let read = units.tables t' in
     let set = made_setup (meaning_of c.args.script.now) c.in_ok-units.units.items c.as_slice.result.now c.in_ok-bench.bench.subsystem c.as_slice.ensures.value c.in_ok-units.ensures.set c.in_ok-bench.ensures.subsystem first.site.held old (units.same t') read in
     let has = made_tables (meaning_of c.args.script.now) c.in_ok-units.units.items c.as_slice.result.now c.in_ok-bench.bench.subsystem c.as_slice.ensures.value c.in_ok-units.ensures.set c.in_ok-bench.ensures.subsystem first.site.held old (units.same t') read in
-    whole_stops (meaning_of s) tables old new first now set refl read out (stops t has) refl refl refl refl refl)
+    let stands = made_stands (meaning_of c.args.script.now) c.in_ok-units.units.items c.as_slice.result.now c.in_ok-bench.bench.subsystem c.as_slice.ensures.value c.in_ok-units.ensures.set c.in_ok-bench.ensures.subsystem first.site.held old (units.same t') read in
+    whole_stops (meaning_of s) tables old new first now set refl read c.args.capacity c.in_ok-bench.bench.cache out trace c.in_ok-bench.ensures.cache t has stands (stops t has)
+    refl refl refl refl refl refl refl refl refl refl)
     lines.stops)
 
 pub returns-clause-fits : goal.returns-clause-fits

@@ -15,7 +15,7 @@ use Rattle.cached_run.proofs.play.play_lines.Goals as goal
 
 pub loop-line-init : goal.loop-line-init
 loop-line-init g c =
-    let first : Scene = scene g.P.Packs.tells g.P.Packs.held g.O.Sink.tells g.O.Sink.taken g.O.Sink.faults g.T.Sink.tells g.T.Sink.taken c.args.subsystem.now.world c.args.packs.now c.args.out.now c.args.trace.now in
+    let first : Scene = scene g.P.Packs.tells g.P.Packs.held g.O.Sink.tells g.O.Sink.taken g.O.Sink.faults g.T.Sink.tells g.T.Sink.taken g.T.Sink.faults c.args.subsystem.now.world c.args.packs.now c.args.out.now c.args.trace.now in
     record {
       told = record { never_again = λ t. t; never_again_out = λ t. t; never_again_trace = λ t. t };
       later = same (g.P.Packs.faults c.args.packs.now);
@@ -47,8 +47,8 @@ play_line-requires-clause-ask g c =
 
 pub loop-line-preserved : goal.loop-line-preserved
 loop-line-preserved g c =
-    let first : Scene = scene g.P.Packs.tells g.P.Packs.held g.O.Sink.tells g.O.Sink.taken g.O.Sink.faults g.T.Sink.tells g.T.Sink.taken c.args.subsystem.now.world c.args.packs.now c.args.out.now c.args.trace.now in
-    let new : Scene = scene g.P.Packs.tells g.P.Packs.held g.O.Sink.tells g.O.Sink.taken g.O.Sink.faults g.T.Sink.tells g.T.Sink.taken c.play_line.new.subsystem.world c.play_line.new.packs c.play_line.new.out c.play_line.new.trace in
+    let first : Scene = scene g.P.Packs.tells g.P.Packs.held g.O.Sink.tells g.O.Sink.taken g.O.Sink.faults g.T.Sink.tells g.T.Sink.taken g.T.Sink.faults c.args.subsystem.now.world c.args.packs.now c.args.out.now c.args.trace.now in
+    let new : Scene = scene g.P.Packs.tells g.P.Packs.held g.O.Sink.tells g.O.Sink.taken g.O.Sink.faults g.T.Sink.tells g.T.Sink.taken g.T.Sink.faults c.play_line.new.subsystem.world c.play_line.new.packs c.play_line.new.out c.play_line.new.trace in
     let s = c.args.script.now in
     let i = c.loop-line.line-index in
     let line : Said = slice_index_or c.lines-line-items.result.now i blank in
@@ -74,22 +74,22 @@ loop-line-preserved g c =
       may = step.may;
       units = λ u up. step.units u (so.units u up);
       desk = step.desk;
-      far = λ t tables. subst (λ (z : List Numbered). IsFar first z c.play_line.new.cache new) (sym (inputs_next s i line c.law.ensures lt is))
-          (step.goes t first (inputs_till s i) (so.far (step.told.never_again t) tables));
+      far = λ t tables. subst (λ (z : List Numbered). IsFar first c.args.cache.now z c.play_line.new.cache new) (sym (inputs_next s i line c.law.ensures lt is))
+          (step.goes t first c.args.cache.now (inputs_till s i) (so.far (step.told.never_again t) tables));
     }
 
 pub returns-in_err-play_line-clause-stops : goal.returns-in_err-play_line-clause-stops
 returns-in_err-play_line-clause-stops g c =
-    let first : Scene = scene g.P.Packs.tells g.P.Packs.held g.O.Sink.tells g.O.Sink.taken g.O.Sink.faults g.T.Sink.tells g.T.Sink.taken c.args.subsystem.now.world c.args.packs.now c.args.out.now c.args.trace.now in
-    let here : Scene = scene g.P.Packs.tells g.P.Packs.held g.O.Sink.tells g.O.Sink.taken g.O.Sink.faults g.T.Sink.tells g.T.Sink.taken c.loop-line.subsystem.world c.loop-line.packs c.loop-line.out c.loop-line.trace in
-    let new : Scene = scene g.P.Packs.tells g.P.Packs.held g.O.Sink.tells g.O.Sink.taken g.O.Sink.faults g.T.Sink.tells g.T.Sink.taken c.play_line.new.subsystem.world c.play_line.new.packs c.play_line.new.out c.play_line.new.trace in
+    let first : Scene = scene g.P.Packs.tells g.P.Packs.held g.O.Sink.tells g.O.Sink.taken g.O.Sink.faults g.T.Sink.tells g.T.Sink.taken g.T.Sink.faults c.args.subsystem.now.world c.args.packs.now c.args.out.now c.args.trace.now in
+    let here : Scene = scene g.P.Packs.tells g.P.Packs.held g.O.Sink.tells g.O.Sink.taken g.O.Sink.faults g.T.Sink.tells g.T.Sink.taken g.T.Sink.faults c.loop-line.subsystem.world c.loop-line.packs c.loop-line.out c.loop-line.trace in
+    let new : Scene = scene g.P.Packs.tells g.P.Packs.held g.O.Sink.tells g.O.Sink.taken g.O.Sink.faults g.T.Sink.tells g.T.Sink.taken g.T.Sink.faults c.play_line.new.subsystem.world c.play_line.new.packs c.play_line.new.out c.play_line.new.trace in
     let s = c.args.script.now in
     let i = c.loop-line.line-index in
     let line : Said = slice_index_or c.lines-line-items.result.now i blank in
     let lt : i < length s.lines = subst (λ (xs : List Said). i < length xs) c.lines-line-items.ensures c.loop-line-test.true in
     let is : line ≡ slice_index_or s.lines i line = item_is c.lines-line-items.result.now s.lines i c.lines-line-items.ensures c.loop-line-test.true in
     on_err c.from_residual.result _ (λ t tables.
-    halts_script (meaning_of s) (inputs_till s i) (input_at line) (inputs_before (record { line = s.count + 1; input = Drain } ∷ []) (map line_of (drop (suc i) s.lines))) c.loop-line.cache first here new
+    halts_script (meaning_of s) (inputs_till s i) (input_at line) (inputs_before (record { line = s.count + 1; input = Drain } ∷ []) (map line_of (drop (suc i) s.lines))) c.args.cache.now c.loop-line.cache first here new
     (inputs_split s i line c.law.ensures lt is) (c.loop-line.invariant.far (c.in_err-play_line.ensures.told.never_again t) tables) (c.in_err-play_line.ensures.halts t))
 
 pub returns-in_err-play_line-clause-told : goal.returns-in_err-play_line-clause-told
@@ -107,9 +107,9 @@ returns-in_err-play_line-clause-causes g c =
 
 pub returns-clause-stops : goal.returns-clause-stops
 returns-clause-stops g c =
-    let first : Scene = scene g.P.Packs.tells g.P.Packs.held g.O.Sink.tells g.O.Sink.taken g.O.Sink.faults g.T.Sink.tells g.T.Sink.taken c.args.subsystem.now.world c.args.packs.now c.args.out.now c.args.trace.now in
-    let here : Scene = scene g.P.Packs.tells g.P.Packs.held g.O.Sink.tells g.O.Sink.taken g.O.Sink.faults g.T.Sink.tells g.T.Sink.taken c.loop-line.subsystem.world c.loop-line.packs c.loop-line.out c.loop-line.trace in
-    let new : Scene = scene g.P.Packs.tells g.P.Packs.held g.O.Sink.tells g.O.Sink.taken g.O.Sink.faults g.T.Sink.tells g.T.Sink.taken c.play_sync.new.subsystem.world c.play_sync.new.packs c.loop-line.out c.play_sync.new.trace in
+    let first : Scene = scene g.P.Packs.tells g.P.Packs.held g.O.Sink.tells g.O.Sink.taken g.O.Sink.faults g.T.Sink.tells g.T.Sink.taken g.T.Sink.faults c.args.subsystem.now.world c.args.packs.now c.args.out.now c.args.trace.now in
+    let here : Scene = scene g.P.Packs.tells g.P.Packs.held g.O.Sink.tells g.O.Sink.taken g.O.Sink.faults g.T.Sink.tells g.T.Sink.taken g.T.Sink.faults c.loop-line.subsystem.world c.loop-line.packs c.loop-line.out c.loop-line.trace in
+    let new : Scene = scene g.P.Packs.tells g.P.Packs.held g.O.Sink.tells g.O.Sink.taken g.O.Sink.faults g.T.Sink.tells g.T.Sink.taken g.T.Sink.faults c.play_sync.new.subsystem.world c.play_sync.new.packs c.loop-line.out c.play_sync.new.trace in
     let s = c.args.script.now in
     let i = c.loop-line.line-index in
     let all : length s.lines ≤ i = subst (λ (xs : List Said). length xs ≤ i) c.lines-line-items.ensures c.loop-line-test.false in
@@ -117,22 +117,22 @@ returns-clause-stops g c =
     let same : number ≡ s.count + 1 = ap (λ n. n + 1) (c.from-number.ensures ∙ c.count.ensures) in
     let split : inputs_of (meaning_of s) ≡ inputs_till s i ++ syncs_at number = inputs_all s i all ∙ ap (λ n. inputs_till s i ++ syncs_at n) (sym same) in
     on_err_map c.play_sync.result (λ halts t tables.
-    halts_script (meaning_of s) (inputs_till s i) (syncs_at number) [] c.loop-line.cache first here new split
+    halts_script (meaning_of s) (inputs_till s i) (syncs_at number) [] c.args.cache.now c.loop-line.cache first here new split
     (c.loop-line.invariant.far ((c.play_sync.ensures.told (g.O.Sink.tells c.loop-line.out)).never_again t) tables) (halts t (g.O.Sink.tells c.loop-line.out) (g.O.Sink.taken c.loop-line.out) (g.O.Sink.faults c.loop-line.out)))
     c.play_sync.ensures.halts
 
 pub returns-clause-plays : goal.returns-clause-plays
 returns-clause-plays g c =
-    let first : Scene = scene g.P.Packs.tells g.P.Packs.held g.O.Sink.tells g.O.Sink.taken g.O.Sink.faults g.T.Sink.tells g.T.Sink.taken c.args.subsystem.now.world c.args.packs.now c.args.out.now c.args.trace.now in
-    let new : Scene = scene g.P.Packs.tells g.P.Packs.held g.O.Sink.tells g.O.Sink.taken g.O.Sink.faults g.T.Sink.tells g.T.Sink.taken c.play_sync.new.subsystem.world c.play_sync.new.packs c.loop-line.out c.play_sync.new.trace in
+    let first : Scene = scene g.P.Packs.tells g.P.Packs.held g.O.Sink.tells g.O.Sink.taken g.O.Sink.faults g.T.Sink.tells g.T.Sink.taken g.T.Sink.faults c.args.subsystem.now.world c.args.packs.now c.args.out.now c.args.trace.now in
+    let new : Scene = scene g.P.Packs.tells g.P.Packs.held g.O.Sink.tells g.O.Sink.taken g.O.Sink.faults g.T.Sink.tells g.T.Sink.taken g.T.Sink.faults c.play_sync.new.subsystem.world c.play_sync.new.packs c.loop-line.out c.play_sync.new.trace in
     let s = c.args.script.now in
     let i = c.loop-line.line-index in
     let all : length s.lines ≤ i = subst (λ (xs : List Said). length xs ≤ i) c.lines-line-items.ensures c.loop-line-test.false in
     let number : ℕ = c.from-number.result + 1 in
     let same : number ≡ s.count + 1 = ap (λ n. n + 1) (c.from-number.ensures ∙ c.count.ensures) in
     let split : inputs_of (meaning_of s) ≡ inputs_till s i ++ syncs_at number = inputs_all s i all ∙ ap (λ n. inputs_till s i ++ syncs_at n) (sym same) in
-    on_ok_map c.play_sync.result (λ goes t tables. subst (λ (z : List Numbered). IsFar first z c.play_sync.new.cache new) (sym split)
-    (goes t (g.O.Sink.tells c.loop-line.out) (g.O.Sink.taken c.loop-line.out) (g.O.Sink.faults c.loop-line.out) first (inputs_till s i) (c.loop-line.invariant.far ((c.play_sync.ensures.told (g.O.Sink.tells c.loop-line.out)).never_again t) tables)))
+    on_ok_map c.play_sync.result (λ goes t tables. subst (λ (z : List Numbered). IsFar first c.args.cache.now z c.play_sync.new.cache new) (sym split)
+    (goes t (g.O.Sink.tells c.loop-line.out) (g.O.Sink.taken c.loop-line.out) (g.O.Sink.faults c.loop-line.out) first c.args.cache.now (inputs_till s i) (c.loop-line.invariant.far ((c.play_sync.ensures.told (g.O.Sink.tells c.loop-line.out)).never_again t) tables)))
     c.play_sync.ensures.goes
 
 pub returns-clause-told : goal.returns-clause-told

@@ -19,7 +19,7 @@ invariant-loop-line g l = record {
   units : KeepsUnits l.fn.subsystem.world l.subsystem.world;
   desk : IsRoomy l.desk.gather l.desk.blocks.items;
   far : IsTrue (g.P.Packs.tells l.packs) → HasTables (setup_at (site g.P.Packs.tells g.P.Packs.held g.T.Sink.tells g.T.Sink.taken l.fn.subsystem.world l.fn.packs l.fn.trace))
-      → IsFar (scene g.P.Packs.tells g.P.Packs.held g.O.Sink.tells g.O.Sink.taken g.O.Sink.faults g.T.Sink.tells g.T.Sink.taken l.fn.subsystem.world l.fn.packs l.fn.out l.fn.trace)
-      (inputs_till l.script l.line-index) l.cache
-      (scene g.P.Packs.tells g.P.Packs.held g.O.Sink.tells g.O.Sink.taken g.O.Sink.faults g.T.Sink.tells g.T.Sink.taken l.subsystem.world l.packs l.out l.trace);
+      → IsFar (scene g.P.Packs.tells g.P.Packs.held g.O.Sink.tells g.O.Sink.taken g.O.Sink.faults g.T.Sink.tells g.T.Sink.taken g.T.Sink.faults l.fn.subsystem.world l.fn.packs l.fn.out l.fn.trace)
+      l.fn.cache (inputs_till l.script l.line-index) l.cache
+      (scene g.P.Packs.tells g.P.Packs.held g.O.Sink.tells g.O.Sink.taken g.O.Sink.faults g.T.Sink.tells g.T.Sink.taken g.T.Sink.faults l.subsystem.world l.packs l.out l.trace);
 }

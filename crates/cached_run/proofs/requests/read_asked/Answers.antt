@@ -6,15 +6,24 @@ use Rattle.buffer_cache.specs.Passes.{kind_at}
 use Rattle.buffer_cache.specs.Passes.{site}
 use Rattle.buffer_cache.proofs.Passes.{on_err, keeps_none, keeps_err}
 use Rattle.cached_run.specs.Saying.{GivesAmong}
-use Rattle.cached_run.proofs.Keepings.{setup_none}
+use Rattle.std.proofs.Common.{[]}
+use Rattle.std.specs.Prelude.{None}
+use Rattle.driver_laws.specs.declared.answers.outcome.Stop.{Stop}
+use Rattle.driver_laws.specs.rules.Contents.{cached}
+use Rattle.buffer_cache.specs.Passes.{map_at}
+use Rattle.buffer_cache.specs.Calls.{IfTold}
+use Rattle.script_reader.specs.cached.Meaning.{request_of}
+use Rattle.cached_run.specs.Leaving.{IsCutIn}
+use Rattle.cached_run.specs.Sessions.{calls_with}
+use Rattle.cached_run.proofs.Keepings.{on_stop, setup_none}
 use Rattle.cached_run.proofs.Sayings.{error_among, eof_among, read_among}
-use Rattle.cached_run.proofs.Askings.{read_outside, read_eof, read_inside}
+use Rattle.cached_run.proofs.Askings.{read_cut, read_outside, read_eof, read_inside}
 use Rattle.cached_run.proofs.requests.read_asked.Goals as goal
 
 pub returns-in-Outside-clause-reads : goal.returns-in-Outside-clause-reads
 returns-in-Outside-clause-reads g c =
     let here : Stage = site g.P.Packs.tells g.P.Packs.held g.T.Sink.tells g.T.Sink.taken c.args.subsystem.now.world c.args.packs.now c.args.trace.now in
-    read_outside (kind_at c.args.subsystem.now.world c.args.asked.now.unit) c.args.asked.now c.args.blocks.now.items c.args.cache.now here (sym c.met.ensures.met ∙ c.in-Outside.is)
+    read_outside (kind_at c.args.subsystem.now.world c.args.asked.now.unit) c.args.line c.args.asked.now c.args.blocks.now.items c.args.cache.now here (sym c.met.ensures.met ∙ c.in-Outside.is)
 
 pub returns-in-Outside-clause-among : goal.returns-in-Outside-clause-among
 returns-in-Outside-clause-among g c =
@@ -32,7 +41,7 @@ returns-in-Outside-clause-keeps g c =
 pub returns-in-Eof-clause-reads : goal.returns-in-Eof-clause-reads
 returns-in-Eof-clause-reads g c =
     let here : Stage = site g.P.Packs.tells g.P.Packs.held g.T.Sink.tells g.T.Sink.taken c.args.subsystem.now.world c.args.packs.now c.args.trace.now in
-    read_eof (kind_at c.args.subsystem.now.world c.args.asked.now.unit) c.args.asked.now c.args.blocks.now.items c.args.cache.now here (sym c.met.ensures.met ∙ c.in-Eof.is)
+    read_eof (kind_at c.args.subsystem.now.world c.args.asked.now.unit) c.args.line c.args.asked.now c.args.blocks.now.items c.args.cache.now here (sym c.met.ensures.met ∙ c.in-Eof.is)
 
 pub returns-in-Eof-clause-among : goal.returns-in-Eof-clause-among
 returns-in-Eof-clause-among g c =
@@ -78,7 +87,7 @@ returns-in_ok-done-in-Inside-clause-reads g c =
     let room = c.requires.room in
     let kept = c.in_ok-done-in-Inside.ensures.room in
     let enough : c.args.asked.now.count ≤ length c.read_blocks.new.blocks.items = omega (arith, few, room, kept) in
-    read_inside (kind_at c.args.subsystem.now.world c.args.asked.now.unit) c.args.asked.now c.in-Inside.first c.in_ok-done-in-Inside.done c.from-count.result c.answered.result c.read_blocks.new.blocks.items c.args.cache.now c.read_blocks.new.cache old new
+    read_inside (kind_at c.args.subsystem.now.world c.args.asked.now.unit) c.args.line c.args.asked.now c.in-Inside.first c.in_ok-done-in-Inside.done c.from-count.result c.answered.result c.read_blocks.new.blocks.items c.args.cache.now c.read_blocks.new.cache old new
     (sym c.met.ensures.met ∙ c.in-Inside.is) (c.met.ensures.first c.in-Inside.first c.in-Inside.is) c.from-count.ensures c.answered.ensures enough c.in_ok-done-in-Inside.ensures.reads
 
 pub returns-in_ok-done-in-Inside-clause-among : goal.returns-in_ok-done-in-Inside-clause-among
@@ -89,3 +98,11 @@ returns-in_ok-done-in-Inside-clause-among g c =
     let same = c.from-count.ensures in
     let enough : c.from-count.result ≤ length c.read_blocks.new.blocks.items = omega (arith, few, room, kept, same) in
     subst (λ how. GivesAmong how c.read_blocks.new.blocks.items) (sym c.answered.ensures) (read_among c.in_ok-done-in-Inside.done c.from-count.result c.read_blocks.new.blocks.items enough)
+
+pub returns-in_err-done-in-Inside-clause-cut : goal.returns-in_err-done-in-Inside-clause-cut
+returns-in_err-done-in-Inside-clause-cut g c =
+    let old : Stage = site g.P.Packs.tells g.P.Packs.held g.T.Sink.tells g.T.Sink.taken c.args.subsystem.now.world c.args.packs.now c.args.trace.now in
+    let new : Stage = site g.P.Packs.tells g.P.Packs.held g.T.Sink.tells g.T.Sink.taken c.read_blocks.new.subsystem.world c.read_blocks.new.packs c.read_blocks.new.trace in
+    on_stop (λ (stop : Stop). IfTold c.args.cache.now old new (IsCutIn stop [] (calls_with (kind_at c.args.subsystem.now.world c.args.asked.now.unit) (cached c.args.cache.now.entries (map_at old) c.args.asked.now.unit) c.args.line (request_of c.args.asked.now None)) c.args.cache.now old new)) c.from_residual.result c.in_err-done-in-Inside.field-0.0 c.from_residual.ensures.1
+    (read_cut c.in_err-done-in-Inside.field-0.0 (kind_at c.args.subsystem.now.world c.args.asked.now.unit) c.args.line c.args.asked.now c.in-Inside.first c.from-count.result c.args.cache.now old new
+    (sym c.met.ensures.met ∙ c.in-Inside.is) (c.met.ensures.first c.in-Inside.first c.in-Inside.is) c.from-count.ensures c.in_err-done-in-Inside.ensures.cut)

@@ -1,21 +1,22 @@
 use Rattle.std.proofs.Common.{◌<◌, ◌+◌, Option, Some, length, refl, ap, subst, ◌∙◌, arith}
 use Rattle.std.specs.Prelude.{None, Err, slice_set}
 use Rattle.std.proofs.lemmas.List.{length-set}
-use Rattle.buffer_cache.specs.Passes.{Stage}
+use Rattle.buffer_cache.specs.Passes.{Stage, StillTell}
+use Rattle.cached_run.specs.Leaving.{touches}
 use Rattle.buffer_cache.specs.Passes.{site, Keeps}
 use Rattle.buffer_cache.specs.Calls.{stop_of}
 use Rattle.buffer_cache.specs.declared.fault.CacheFault.{CacheFault}
 use Rattle.driver_laws.specs.declared.answers.outcome.Stop.{Stop}
 use Rattle.buffer_cache.proofs.Passes.{keeps_none, keeps_join}
 use Rattle.cached_run.proofs.Keepings.{setup_none, setup_more, setup_asked, data_at, not_stopped}
-use Rattle.cached_run.proofs.Readings.{AreGiven, given_none, given_more, given_all, given_end, given_stops, set_behind}
+use Rattle.cached_run.proofs.Readings.{AreGiven, given_none, given_more, given_all, given_cut, given_end, given_stops, set_behind}
 use Rattle.cached_run.proofs.transfers.read_blocks.Goals as goal
 
 pub loop-k-init : goal.loop-k-init
 loop-k-init g c =
     let here : Stage = site g.P.Packs.tells g.P.Packs.held g.T.Sink.tells g.T.Sink.taken c.args.subsystem.now.world c.args.packs.now c.args.trace.now in
     record {
-      so_far = given_none c.args.unit c.args.first c.args.blocks.now.items c.args.cache.now here;
+      so_far = given_none c.args.line c.args.unit c.args.first c.args.blocks.now.items c.args.cache.now here;
       setup = setup_none here;
       may = c.requires.may;
       room = refl;
@@ -34,7 +35,7 @@ loop-k-preserved g c =
     let mid : Stage = site g.P.Packs.tells g.P.Packs.held g.T.Sink.tells g.T.Sink.taken c.loop-k.subsystem.world c.loop-k.packs c.loop-k.trace in
     let new : Stage = site g.P.Packs.tells g.P.Packs.held g.T.Sink.tells g.T.Sink.taken c.read.new.subsystem.world c.read.new.packs c.read.new.trace in
     let reads = c.in-Ok.ensures.reads refl in
-    let still = c.in-Ok.ensures.keeps.never_again in
+    let still : StillTell mid new = record { packs = c.in-Ok.ensures.keeps.never_again; trace = c.in-Ok.ensures.keeps.never_again_trace } in
     let room = c.requires.room in
     let same = c.loop-k.invariant.room in
     let here = c.loop-k-test.true in
@@ -42,7 +43,7 @@ loop-k-preserved g c =
     record {
       so_far = given_more c.args.line c.args.unit c.args.first c.loop-k.k c.read.new.into c.loop-k.blocks.items c.args.cache.now c.loop-k.cache c.read.new.self old mid new lt
           c.loop-k.invariant.setup still c.loop-k.invariant.so_far reads c.in-Ok.ensures.holds;
-      setup = setup_more old mid new still c.loop-k.invariant.setup (setup_asked mid new reads.asks);
+      setup = setup_more old mid new still.packs c.loop-k.invariant.setup (setup_asked mid new reads.asks);
       may = c.in-Ok.ensures.may refl;
       room = length-set c.loop-k.blocks.items c.loop-k.k c.read.new.into ∙ same;
       keeps = keeps_join g.P.Packs.tells g.P.Packs.faults g.T.Sink.tells g.T.Sink.faults c.args.subsystem.now c.loop-k.subsystem c.read.new.subsystem c.args.packs.now c.loop-k.packs c.read.new.packs
@@ -55,7 +56,8 @@ returns-in-Err-Unusable-clause-reads g c =
     let mid : Stage = site g.P.Packs.tells g.P.Packs.held g.T.Sink.tells g.T.Sink.taken c.loop-k.subsystem.world c.loop-k.packs c.loop-k.trace in
     let new : Stage = site g.P.Packs.tells g.P.Packs.held g.T.Sink.tells g.T.Sink.taken c.read.new.subsystem.world c.read.new.packs c.read.new.trace in
     given_end c.args.line c.args.unit c.args.first c.args.count c.loop-k.k c.loop-k.blocks.items (slice_set c.loop-k.blocks.items c.loop-k.k c.read.new.into) c.args.cache.now c.loop-k.cache c.read.new.self old mid new
-    c.loop-k-test.true (set_behind c.loop-k.blocks.items c.loop-k.k c.read.new.into) c.loop-k.invariant.setup c.in-Err-Unusable.ensures.keeps.never_again c.loop-k.invariant.so_far
+    c.loop-k-test.true (set_behind c.loop-k.blocks.items c.loop-k.k c.read.new.into) c.loop-k.invariant.setup
+    (record { packs = c.in-Err-Unusable.ensures.keeps.never_again; trace = c.in-Err-Unusable.ensures.keeps.never_again_trace }) c.loop-k.invariant.so_far
     (c.in-Err-Unusable.ensures.reads (not_stopped (Unit {0}) c.in-Err-Unusable.field-0 c.in-Err-Unusable.field-0-is)) c.in-Err-Unusable.ensures.holds
 
 pub returns-in-Err-Unusable-clause-setup : goal.returns-in-Err-Unusable-clause-setup
@@ -85,7 +87,7 @@ returns-in-Err-Stop-clause-stops g c =
     let old : Stage = site g.P.Packs.tells g.P.Packs.held g.T.Sink.tells g.T.Sink.taken c.args.subsystem.now.world c.args.packs.now c.args.trace.now in
     let mid : Stage = site g.P.Packs.tells g.P.Packs.held g.T.Sink.tells g.T.Sink.taken c.loop-k.subsystem.world c.loop-k.packs c.loop-k.trace in
     let new : Stage = site g.P.Packs.tells g.P.Packs.held g.T.Sink.tells g.T.Sink.taken c.read.new.subsystem.world c.read.new.packs c.read.new.trace in
-    given_stops c.args.unit (c.args.first + c.loop-k.k) (λ contents. AreGiven contents c.args.unit c.args.first c.loop-k.k c.loop-k.blocks.items) c.args.cache.now c.loop-k.cache old mid new
+    given_stops (λ contents. touches c.loop-k.k c.args.line c.args.unit c.args.first None) c.args.unit (c.args.first + c.loop-k.k) (λ contents. AreGiven contents c.args.unit c.args.first c.loop-k.k c.loop-k.blocks.items) c.args.cache.now c.loop-k.cache old mid new
     c.loop-k.invariant.setup c.in-Err-Stop.ensures.keeps.never_again c.loop-k.invariant.so_far c.in-Err-Stop.ensures.holds
 
 pub returns-in-Err-Stop-clause-room : goal.returns-in-Err-Stop-clause-room
@@ -104,7 +106,7 @@ returns-clause-reads g c =
     let new : Stage = site g.P.Packs.tells g.P.Packs.held g.T.Sink.tells g.T.Sink.taken c.loop-k.subsystem.world c.loop-k.packs c.loop-k.trace in
     let end = c.loop-k.auto.k-end in
     let over = c.loop-k-test.false in
-    given_all c.args.unit c.args.first c.args.count c.loop-k.k c.loop-k.blocks.items c.args.cache.now c.loop-k.cache old new (omega (arith, end, over)) c.loop-k.invariant.so_far
+    given_all c.args.line c.args.unit c.args.first c.args.count c.loop-k.k c.loop-k.blocks.items c.args.cache.now c.loop-k.cache old new (omega (arith, end, over)) c.loop-k.invariant.so_far
 
 pub returns-clause-setup : goal.returns-clause-setup
 returns-clause-setup g c =
@@ -121,3 +123,12 @@ returns-clause-room g c =
 pub returns-clause-keeps : goal.returns-clause-keeps
 returns-clause-keeps g c =
     c.loop-k.invariant.keeps
+
+pub returns-in-Err-Stop-clause-cut : goal.returns-in-Err-Stop-clause-cut
+returns-in-Err-Stop-clause-cut g c =
+    let old : Stage = site g.P.Packs.tells g.P.Packs.held g.T.Sink.tells g.T.Sink.taken c.args.subsystem.now.world c.args.packs.now c.args.trace.now in
+    let mid : Stage = site g.P.Packs.tells g.P.Packs.held g.T.Sink.tells g.T.Sink.taken c.loop-k.subsystem.world c.loop-k.packs c.loop-k.trace in
+    let new : Stage = site g.P.Packs.tells g.P.Packs.held g.T.Sink.tells g.T.Sink.taken c.read.new.subsystem.world c.read.new.packs c.read.new.trace in
+    given_cut c.in-Err-Stop.stop c.args.line c.args.unit c.args.first c.args.count c.loop-k.k c.loop-k.blocks.items c.args.cache.now c.loop-k.cache old mid new c.loop-k-test.true c.loop-k.invariant.setup
+    (record { packs = c.in-Err-Stop.ensures.keeps.never_again; trace = c.in-Err-Stop.ensures.keeps.never_again_trace }) c.loop-k.invariant.so_far
+    (c.in-Err-Stop.ensures.till c.in-Err-Stop.stop (ap (λ (z : CacheFault). stop_of {A = Unit {0}} (Err z)) c.in-Err-Stop.field-0-is))

@@ -1,20 +1,20 @@
 use Rattle.std.proofs.Common.{Option, Some, refl, ap, subst, arith}
 use Rattle.std.specs.Prelude.{None, Err}
-use Rattle.buffer_cache.specs.Passes.{Stage}
+use Rattle.buffer_cache.specs.Passes.{Stage, StillTell}
 use Rattle.buffer_cache.specs.Passes.{site, Keeps}
 use Rattle.buffer_cache.specs.Calls.{stop_of}
 use Rattle.buffer_cache.specs.declared.fault.CacheFault.{CacheFault}
 use Rattle.driver_laws.specs.declared.answers.outcome.Stop.{Stop}
 use Rattle.buffer_cache.proofs.Passes.{keeps_none, keeps_join}
 use Rattle.cached_run.proofs.Keepings.{setup_none, setup_more, setup_asked, data_at, not_stopped}
-use Rattle.cached_run.proofs.Writings.{written_none, written_more, written_all, written_end, written_stops}
+use Rattle.cached_run.proofs.Writings.{written_none, written_more, written_all, written_cut, written_end, written_stops}
 use Rattle.cached_run.proofs.transfers.write_blocks.Goals as goal
 
 pub loop-k-init : goal.loop-k-init
 loop-k-init g c =
     let here : Stage = site g.P.Packs.tells g.P.Packs.held g.T.Sink.tells g.T.Sink.taken c.args.subsystem.now.world c.args.packs.now c.args.trace.now in
     record {
-      so_far = written_none c.args.unit c.args.first c.args.from.now c.args.cache.now here;
+      so_far = written_none c.args.line c.args.unit c.args.first c.args.from.now c.args.cache.now here;
       setup = setup_none here;
       may = c.requires.may;
       keeps = keeps_none g.P.Packs.tells g.P.Packs.faults g.T.Sink.tells g.T.Sink.faults c.args.subsystem.now c.args.packs.now c.args.trace.now c.requires.may.ready;
@@ -32,11 +32,11 @@ loop-k-preserved g c =
     let mid : Stage = site g.P.Packs.tells g.P.Packs.held g.T.Sink.tells g.T.Sink.taken c.loop-k.subsystem.world c.loop-k.packs c.loop-k.trace in
     let new : Stage = site g.P.Packs.tells g.P.Packs.held g.T.Sink.tells g.T.Sink.taken c.write.new.subsystem.world c.write.new.packs c.write.new.trace in
     let writes = c.in-Ok.ensures.writes refl in
-    let still = c.in-Ok.ensures.keeps.never_again in
+    let still : StillTell mid new = record { packs = c.in-Ok.ensures.keeps.never_again; trace = c.in-Ok.ensures.keeps.never_again_trace } in
     record {
       so_far = written_more c.args.line c.args.unit c.args.first c.loop-k.k c.args.from.now c.args.cache.now c.loop-k.cache c.write.new.self old mid new c.loop-k.invariant.setup still
           c.loop-k.invariant.so_far writes c.in-Ok.ensures.holds;
-      setup = setup_more old mid new still c.loop-k.invariant.setup (setup_asked mid new writes.asks);
+      setup = setup_more old mid new still.packs c.loop-k.invariant.setup (setup_asked mid new writes.asks);
       may = c.in-Ok.ensures.may refl;
       keeps = keeps_join g.P.Packs.tells g.P.Packs.faults g.T.Sink.tells g.T.Sink.faults c.args.subsystem.now c.loop-k.subsystem c.write.new.subsystem c.args.packs.now c.loop-k.packs c.write.new.packs
           c.args.trace.now c.loop-k.trace c.write.new.trace None c.loop-k.invariant.keeps c.in-Ok.ensures.keeps;
@@ -48,7 +48,7 @@ returns-in-Err-Unusable-clause-writes g c =
     let mid : Stage = site g.P.Packs.tells g.P.Packs.held g.T.Sink.tells g.T.Sink.taken c.loop-k.subsystem.world c.loop-k.packs c.loop-k.trace in
     let new : Stage = site g.P.Packs.tells g.P.Packs.held g.T.Sink.tells g.T.Sink.taken c.write.new.subsystem.world c.write.new.packs c.write.new.trace in
     written_end c.args.line c.args.unit c.args.first c.args.count c.loop-k.k c.args.from.now c.args.cache.now c.loop-k.cache c.write.new.self old mid new c.loop-k-test.true
-    c.loop-k.invariant.setup c.in-Err-Unusable.ensures.keeps.never_again c.loop-k.invariant.so_far (c.in-Err-Unusable.ensures.writes (not_stopped (Unit {0}) c.in-Err-Unusable.field-0 c.in-Err-Unusable.field-0-is)) c.in-Err-Unusable.ensures.holds
+    c.loop-k.invariant.setup (record { packs = c.in-Err-Unusable.ensures.keeps.never_again; trace = c.in-Err-Unusable.ensures.keeps.never_again_trace }) c.loop-k.invariant.so_far (c.in-Err-Unusable.ensures.writes (not_stopped (Unit {0}) c.in-Err-Unusable.field-0 c.in-Err-Unusable.field-0-is)) c.in-Err-Unusable.ensures.holds
 
 pub returns-in-Err-Unusable-clause-setup : goal.returns-in-Err-Unusable-clause-setup
 returns-in-Err-Unusable-clause-setup g c =
@@ -73,7 +73,7 @@ returns-in-Err-Stop-clause-stops g c =
     let old : Stage = site g.P.Packs.tells g.P.Packs.held g.T.Sink.tells g.T.Sink.taken c.args.subsystem.now.world c.args.packs.now c.args.trace.now in
     let mid : Stage = site g.P.Packs.tells g.P.Packs.held g.T.Sink.tells g.T.Sink.taken c.loop-k.subsystem.world c.loop-k.packs c.loop-k.trace in
     let new : Stage = site g.P.Packs.tells g.P.Packs.held g.T.Sink.tells g.T.Sink.taken c.write.new.subsystem.world c.write.new.packs c.write.new.trace in
-    written_stops c.args.unit c.args.first c.args.count c.loop-k.k c.args.from.now c.args.cache.now c.loop-k.cache old mid new c.loop-k-test.true
+    written_stops c.args.line c.args.unit c.args.first c.args.count c.loop-k.k c.args.from.now c.args.cache.now c.loop-k.cache old mid new c.loop-k-test.true
     c.loop-k.invariant.setup c.in-Err-Stop.ensures.keeps.never_again c.loop-k.invariant.so_far c.in-Err-Stop.ensures.holds
 
 pub returns-in-Err-Stop-clause-keeps : goal.returns-in-Err-Stop-clause-keeps
@@ -88,7 +88,7 @@ returns-clause-writes g c =
     let new : Stage = site g.P.Packs.tells g.P.Packs.held g.T.Sink.tells g.T.Sink.taken c.loop-k.subsystem.world c.loop-k.packs c.loop-k.trace in
     let end = c.loop-k.auto.k-end in
     let over = c.loop-k-test.false in
-    written_all c.args.unit c.args.first c.args.count c.loop-k.k c.args.from.now c.args.cache.now c.loop-k.cache old new (omega (arith, end, over)) c.loop-k.invariant.so_far
+    written_all c.args.line c.args.unit c.args.first c.args.count c.loop-k.k c.args.from.now c.args.cache.now c.loop-k.cache old new (omega (arith, end, over)) c.loop-k.invariant.so_far
 
 pub returns-clause-setup : goal.returns-clause-setup
 returns-clause-setup g c =
@@ -101,3 +101,12 @@ returns-clause-may g c =
 pub returns-clause-keeps : goal.returns-clause-keeps
 returns-clause-keeps g c =
     c.loop-k.invariant.keeps
+
+pub returns-in-Err-Stop-clause-cut : goal.returns-in-Err-Stop-clause-cut
+returns-in-Err-Stop-clause-cut g c =
+    let old : Stage = site g.P.Packs.tells g.P.Packs.held g.T.Sink.tells g.T.Sink.taken c.args.subsystem.now.world c.args.packs.now c.args.trace.now in
+    let mid : Stage = site g.P.Packs.tells g.P.Packs.held g.T.Sink.tells g.T.Sink.taken c.loop-k.subsystem.world c.loop-k.packs c.loop-k.trace in
+    let new : Stage = site g.P.Packs.tells g.P.Packs.held g.T.Sink.tells g.T.Sink.taken c.write.new.subsystem.world c.write.new.packs c.write.new.trace in
+    written_cut c.in-Err-Stop.stop c.args.line c.args.unit c.args.first c.args.count c.loop-k.k c.args.from.now c.args.cache.now c.loop-k.cache old mid new c.loop-k-test.true c.loop-k.invariant.setup
+    (record { packs = c.in-Err-Stop.ensures.keeps.never_again; trace = c.in-Err-Stop.ensures.keeps.never_again_trace }) c.loop-k.invariant.so_far
+    (c.in-Err-Stop.ensures.till c.in-Err-Stop.stop (ap (λ (z : CacheFault). stop_of {A = Unit {0}} (Err z)) c.in-Err-Stop.field-0-is))

@@ -8,7 +8,7 @@ use Rattle.cached_run.proofs.transfers.write_blocks.Given as goal
 -- the first blocks were written
 abbrev pub invariant-loop-k : goal.invariant-loop-k
 invariant-loop-k g l = record {
-  so_far : WrittenSoFar l.unit l.first l.k l.from l.fn.cache l.cache
+  so_far : WrittenSoFar l.line l.unit l.first l.k l.from l.fn.cache l.cache
       (site g.P.Packs.tells g.P.Packs.held g.T.Sink.tells g.T.Sink.taken l.fn.subsystem.world l.fn.packs l.fn.trace)
       (site g.P.Packs.tells g.P.Packs.held g.T.Sink.tells g.T.Sink.taken l.subsystem.world l.packs l.trace);
   setup : KeepsSetup

@@ -18,7 +18,7 @@ returns-in-Err-Refused-clause-runs g c = uncached refused_apart (script_refused 
 }))
 
 pub returns-in-Ok-play_cached-clause-runs : goal.returns-in-Ok-play_cached-clause-runs
-returns-in-Ok-play_cached-clause-runs g c = cached_done _ _ c.in-Ok.ensures.taken (record {
+returns-in-Ok-play_cached-clause-runs g c = cached_done c.args.capacity _ _ c.in-Ok.ensures.taken (record {
   lines = c.in-Ok.script;
   read = λ t. c.in-Ok.ensures.end t;
   spelled = λ t. c.in-Ok.ensures.ok t;
@@ -40,23 +40,23 @@ returns-in-Err-TooLong-clause-runs g c = uncached too_long_apart (script_too_lon
     (c.in-Err-TooLong.ensures.untouched (cached_before (Unit {0}) _ _ _ c.in-Err-TooLong.field-0-is)).same)
 
 pub returns-in-Err-Sink-clause-runs : goal.returns-in-Err-Sink-clause-runs
-returns-in-Err-Sink-clause-runs g c = cached_sink _ _ c.in-Ok.ensures.taken
+returns-in-Err-Sink-clause-runs g c = cached_sink c.args.capacity _ _ c.in-Ok.ensures.taken
     (record {
       lines = c.in-Ok.script;
       read = λ t. c.in-Ok.ensures.end t;
       spelled = λ t. c.in-Ok.ensures.ok t;
-      leaves = λ t. cached_leaves _ _ _ _ _ _ _ c.in-Err-Sink.field-0-is (c.in-Err-Sink.ensures.stopped t);
+      leaves = λ t. cached_leaves _ _ _ _ _ _ _ _ c.in-Err-Sink.field-0-is (c.in-Err-Sink.ensures.stopped t);
     })
     (c.in-Err-Sink.ensures.fits (cached_plays (Unit {0}) _ c.in-Err-Sink.field-0-is))
     (c.in-Err-Sink.ensures.causes.sink (err_is c.in-Err-Sink.field-0-is))
 
 pub returns-in-Err-Store-clause-runs : goal.returns-in-Err-Store-clause-runs
-returns-in-Err-Store-clause-runs g c = cached_store _ _ c.in-Ok.ensures.taken
+returns-in-Err-Store-clause-runs g c = cached_store c.args.capacity _ _ c.in-Ok.ensures.taken
     (record {
       lines = c.in-Ok.script;
       read = λ t. c.in-Ok.ensures.end t;
       spelled = λ t. c.in-Ok.ensures.ok t;
-      leaves = λ t. cached_leaves _ _ _ _ _ _ _ c.in-Err-Store.field-0-is (c.in-Err-Store.ensures.stopped t);
+      leaves = λ t. cached_leaves _ _ _ _ _ _ _ _ c.in-Err-Store.field-0-is (c.in-Err-Store.ensures.stopped t);
     })
     (c.in-Err-Store.ensures.causes.store (err_is c.in-Err-Store.field-0-is))
 

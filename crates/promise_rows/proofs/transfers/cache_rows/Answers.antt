@@ -1,4 +1,4 @@
-use Rattle.promise_rows.proofs.Cache.{changed_entry_dropped, another_block_written_back, refused_insertion_not_counted, sync_stops_early, refused_insertion_promotes, another_block_written, block_always_found}
+use Rattle.promise_rows.proofs.Cache.{changed_entry_dropped, another_block_written_back, refused_insertion_not_counted, sync_stops_early, refused_insertion_promotes, another_block_written, block_always_found, refused_rises_at_a_stop}
 use Rattle.promise_rows.proofs.transfers.cache_rows.Goals as goal
 
 pub returns-clause-changed_entry_is_dropped_unwritten : goal.returns-clause-changed_entry_is_dropped_unwritten
@@ -21,3 +21,6 @@ returns-clause-another_block_is_written c = another_block_written
 
 pub returns-clause-block_is_always_found : goal.returns-clause-block_is_always_found
 returns-clause-block_is_always_found c = block_always_found
+
+pub returns-clause-refused_rises_at_a_stop : goal.returns-clause-refused_rises_at_a_stop
+returns-clause-refused_rises_at_a_stop c = refused_rises_at_a_stop

@@ -1,4 +1,4 @@
-use Rattle.promise_rows.proofs.Cached.{last_sync_forgotten, block_older_than_the_last_sync, last_unusable_block_ok, fault_called_that_of_a_sink, write_answered_before_it_is_done, unit_behind_a_sync}
+use Rattle.promise_rows.proofs.Cached.{last_sync_forgotten, block_older_than_the_last_sync, last_unusable_block_ok, fault_called_that_of_a_sink, write_answered_before_it_is_done, unit_behind_a_sync, cached_bytes_beyond_the_drive, cached_not_as_long_as_written, later_lines_played_behind_a_sink_that_failed, cache_of_another_size, sync_that_writes_nothing}
 use Rattle.promise_rows.proofs.transfers.cached_rows.Goals as goal
 
 pub returns-clause-last_sync_is_forgotten : goal.returns-clause-last_sync_is_forgotten
@@ -18,3 +18,18 @@ returns-clause-write_is_answered_before_it_is_done c = write_answered_before_it_
 
 pub returns-clause-unit_behind_a_sync : goal.returns-clause-unit_behind_a_sync
 returns-clause-unit_behind_a_sync c = unit_behind_a_sync
+
+pub returns-clause-cached_bytes_beyond_the_drive : goal.returns-clause-cached_bytes_beyond_the_drive
+returns-clause-cached_bytes_beyond_the_drive c = cached_bytes_beyond_the_drive
+
+pub returns-clause-cached_not_as_long_as_written : goal.returns-clause-cached_not_as_long_as_written
+returns-clause-cached_not_as_long_as_written c = cached_not_as_long_as_written
+
+pub returns-clause-later_lines_played_behind_a_sink_that_failed : goal.returns-clause-later_lines_played_behind_a_sink_that_failed
+returns-clause-later_lines_played_behind_a_sink_that_failed c = later_lines_played_behind_a_sink_that_failed
+
+pub returns-clause-cache_of_another_size : goal.returns-clause-cache_of_another_size
+returns-clause-cache_of_another_size c = cache_of_another_size
+
+pub returns-clause-sync_that_writes_nothing : goal.returns-clause-sync_that_writes_nothing
+returns-clause-sync_that_writes_nothing c = sync_that_writes_nothing

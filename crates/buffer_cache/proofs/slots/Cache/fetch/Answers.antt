@@ -6,6 +6,15 @@ use Rattle.buffer_cache.proofs.Passes.{on_err, keeps_err, keeps_join}
 use Rattle.buffer_cache.specs.Asks.{Fetches}
 use Rattle.buffer_cache.specs.Calls.{IfTold, Holds}
 use Rattle.buffer_cache.proofs.Stays.{all_data, holds_untouched, holds_behind_read, fetched_true}
+use Rattle.std.proofs.Common.{[], ◌∷◌}
+use Rattle.std.specs.Prelude.{is_some, if◌then◌else◌}
+use Rattle.driver_laws.specs.declared.answers.outcome.Stop.{Stop}
+use Rattle.driver_laws.specs.rules.Requests.{reads}
+use Rattle.driver_laws.specs.rules.Entries.{to_write_back, write_backs}
+use Rattle.buffer_cache.specs.Passes.{StillTell, map_at}
+use Rattle.buffer_cache.specs.Asks.{AsksTill}
+use Rattle.buffer_cache.specs.Calls.{fetch_asked}
+use Rattle.buffer_cache.proofs.Tills.{on_stop, till_more, till_behind}
 use Rattle.buffer_cache.proofs.slots.Cache.fetch.Goals as goal
 
 pub returns-in_err-fetch_block-clause-stops : goal.returns-in_err-fetch_block-clause-stops
@@ -84,3 +93,25 @@ pub returns-clause-keeps : goal.returns-clause-keeps
 returns-clause-keeps g c =
     keeps_join g.P.Packs.tells g.P.Packs.faults g.T.Sink.tells g.T.Sink.faults c.args.subsystem.now c.fetch_block.new.subsystem c.make_room.new.subsystem c.args.packs.now c.fetch_block.new.packs
     c.make_room.new.packs c.args.trace.now c.fetch_block.new.trace c.make_room.new.trace None c.in_ok-fetch_block.ensures.keeps c.in_ok-make_room.ensures.keeps
+
+pub returns-in_err-fetch_block-clause-till : goal.returns-in_err-fetch_block-clause-till
+returns-in_err-fetch_block-clause-till g c =
+    let old : Stage = site g.P.Packs.tells g.P.Packs.held g.T.Sink.tells g.T.Sink.taken c.args.subsystem.now.world c.args.packs.now c.args.trace.now in
+    let new : Stage = site g.P.Packs.tells g.P.Packs.held g.T.Sink.tells g.T.Sink.taken c.fetch_block.new.subsystem.world c.fetch_block.new.packs c.fetch_block.new.trace in
+    let held = map_at old c.args.unit c.args.block in
+    on_stop (λ (stop : Stop). IfTold c.args.self.now old new (AsksTill stop c.args.line (fetch_asked held c.args.self.now c.args.unit c.args.block) old new))
+    c.from_residual.result c.in_err-fetch_block.field-0.0 c.from_residual.ensures.1
+    (λ t tables fit. till_more c.in_err-fetch_block.field-0.0 c.args.line (reads c.args.unit c.args.block ∷ []) (if is_some held then write_backs (to_write_back c.args.self.now) else []) old new
+    c.in_err-fetch_block.ensures.till)
+
+pub returns-in_err-make_room-clause-till : goal.returns-in_err-make_room-clause-till
+returns-in_err-make_room-clause-till g c =
+    let old : Stage = site g.P.Packs.tells g.P.Packs.held g.T.Sink.tells g.T.Sink.taken c.args.subsystem.now.world c.args.packs.now c.args.trace.now in
+    let mid : Stage = site g.P.Packs.tells g.P.Packs.held g.T.Sink.tells g.T.Sink.taken c.fetch_block.new.subsystem.world c.fetch_block.new.packs c.fetch_block.new.trace in
+    let new : Stage = site g.P.Packs.tells g.P.Packs.held g.T.Sink.tells g.T.Sink.taken c.make_room.new.subsystem.world c.make_room.new.packs c.make_room.new.trace in
+    let fetches = subst (λ b. Fetches c.args.line c.args.unit c.args.block b c.fetch_block.new.into old mid) c.if-not-branch.false c.in_ok-fetch_block.ensures.fetches in
+    let still : StillTell mid new = record { packs = c.in_err-make_room.ensures.keeps.never_again; trace = c.in_err-make_room.ensures.keeps.never_again_trace } in
+    on_stop (λ (stop : Stop). IfTold c.args.self.now old new (AsksTill stop c.args.line (fetch_asked (map_at old c.args.unit c.args.block) c.args.self.now c.args.unit c.args.block) old new))
+    c.from_residual-in_err-make_room.result c.in_err-make_room.field-0.0 c.from_residual-in_err-make_room.ensures.1
+    (λ t tables fit. subst (λ held. AsksTill c.in_err-make_room.field-0.0 c.args.line (fetch_asked held c.args.self.now c.args.unit c.args.block) old new) (sym (fetches.told (still.packs t) tables))
+    (till_behind c.in_err-make_room.field-0.0 c.args.line (reads c.args.unit c.args.block ∷ []) (write_backs (to_write_back c.args.self.now)) old mid new fetches.asks c.in_err-make_room.ensures.till still))

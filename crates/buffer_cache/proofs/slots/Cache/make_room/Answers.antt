@@ -12,6 +12,11 @@ use Rattle.buffer_cache.specs.Asks.{IsData, Asks}
 use Rattle.buffer_cache.specs.Calls.{IfTold, Holds}
 use Rattle.buffer_cache.proofs.Joins.{asks_none}
 use Rattle.buffer_cache.proofs.Stays.{all_data, holds_left, unchanged_data}
+use Rattle.driver_laws.specs.declared.answers.outcome.Stop.{Stop}
+use Rattle.driver_laws.specs.rules.Entries.{to_write_back}
+use Rattle.buffer_cache.specs.Asks.{AsksTill}
+use Rattle.buffer_cache.proofs.Tills.{on_stop}
+use Rattle.driver_laws.specs.rules.Entries.{State}
 use Rattle.buffer_cache.proofs.slots.Cache.make_room.Goals as goal
 
 pub returns-in_default-clause-asks : goal.returns-in_default-clause-asks
@@ -78,3 +83,13 @@ returns-clause-asks g c =
 
 pub returns-clause-keeps : goal.returns-clause-keeps
 returns-clause-keeps g c = c.in_ok-store_block.ensures.keeps
+
+pub returns-in_err-store_block-clause-till : goal.returns-in_err-store_block-clause-till
+returns-in_err-store_block-clause-till g c =
+    let old : Stage = site g.P.Packs.tells g.P.Packs.held g.T.Sink.tells g.T.Sink.taken c.args.subsystem.now.world c.args.packs.now c.args.trace.now in
+    let new : Stage = site g.P.Packs.tells g.P.Packs.held g.T.Sink.tells g.T.Sink.taken c.store_block.new.subsystem.world c.store_block.new.packs c.store_block.new.trace in
+    on_stop (λ (stop : Stop). AsksTill stop c.args.line (write_backs (to_write_back c.args.self.now)) old new) c.from_residual.result c.in_err-store_block.field-0.0 c.from_residual.ensures.1
+    (subst (λ last. AsksTill c.in_err-store_block.field-0.0 c.args.line (write_backs last) old new) (sym (sym c.last_changed.ensures ∙ c.in-Some.is)) c.in_err-store_block.ensures.till)
+
+pub returns-clause-refused : goal.returns-clause-refused
+returns-clause-refused g c = ap (λ (s : State). s.refused) c.last_is_written.ensures

@@ -11,6 +11,10 @@ use Rattle.driver_laws.specs.rules.Requests.{writes}
 use Rattle.buffer_cache.specs.Asks.{IsData, LeftBy}
 use Rattle.buffer_cache.proofs.Joins.{asks_none}
 use Rattle.buffer_cache.proofs.Stays.{data_stays, all_data, put_data}
+use Rattle.std.proofs.Common.{[], ◌∷◌}
+use Rattle.driver_laws.specs.declared.answers.outcome.Stop.{Stop}
+use Rattle.buffer_cache.specs.Asks.{AsksTill}
+use Rattle.buffer_cache.proofs.Tills.{on_stop}
 use Rattle.buffer_cache.proofs.slots.Cache.place.Goals as goal
 
 pub returns-then-insert-clause-places : goal.returns-then-insert-clause-places
@@ -70,3 +74,10 @@ returns-clause-places g c = record {
 
 pub returns-clause-keeps : goal.returns-clause-keeps
 returns-clause-keeps g c = c.in_ok-store_block.ensures.keeps
+
+pub returns-in_err-store_block-clause-till : goal.returns-in_err-store_block-clause-till
+returns-in_err-store_block-clause-till g c =
+    let old : Stage = site g.P.Packs.tells g.P.Packs.held g.T.Sink.tells g.T.Sink.taken c.args.subsystem.now.world c.args.packs.now c.args.trace.now in
+    let new : Stage = site g.P.Packs.tells g.P.Packs.held g.T.Sink.tells g.T.Sink.taken c.store_block.new.subsystem.world c.store_block.new.packs c.store_block.new.trace in
+    on_stop (λ (stop : Stop). AsksTill stop c.args.line (writes c.args.unit c.args.block c.args.from.now ∷ []) old new) c.from_residual.result c.in_err-store_block.field-0.0 c.from_residual.ensures.1
+    c.in_err-store_block.ensures.till

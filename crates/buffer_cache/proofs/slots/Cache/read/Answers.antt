@@ -9,6 +9,11 @@ use Rattle.buffer_cache.specs.Asks.{IsData}
 use Rattle.buffer_cache.specs.Calls.{MayUse, IfTold, Holds, Reads, given_by}
 use Rattle.buffer_cache.proofs.Stays.{never_some, no_entry, some_entry, front_data}
 use Rattle.buffer_cache.proofs.Wholes.{read_entry, not_fronted}
+use Rattle.std.proofs.Common.{true}
+use Rattle.driver_laws.specs.rules.Calls.{read_found}
+use Rattle.buffer_cache.specs.Passes.{map_at}
+use Rattle.buffer_cache.specs.Asks.{AsksTill}
+use Rattle.buffer_cache.proofs.Tills.{no_stop, read_asks}
 use Rattle.buffer_cache.proofs.slots.Cache.read.Goals as goal
 
 pub returns-then-give-clause-reads : goal.returns-then-give-clause-reads
@@ -71,3 +76,17 @@ returns-clause-may g c = c.read_new.ensures.may
 
 pub returns-clause-keeps : goal.returns-clause-keeps
 returns-clause-keeps g c = c.read_new.ensures.keeps
+
+pub returns-then-give-clause-till : goal.returns-then-give-clause-till
+returns-then-give-clause-till g c = λ stop e. no_stop stop e
+
+pub returns-clause-till : goal.returns-clause-till
+returns-clause-till g c =
+    let old : Stage = site g.P.Packs.tells g.P.Packs.held g.T.Sink.tells g.T.Sink.taken c.args.subsystem.now.world c.args.packs.now c.args.trace.now in
+    let new : Stage = site g.P.Packs.tells g.P.Packs.held g.T.Sink.tells g.T.Sink.taken c.read_new.new.subsystem.world c.read_new.new.packs c.read_new.new.trace in
+    let s : State = c.args.self.now in
+    let none = no_entry c.args.unit c.args.block s.entries (sym c.if-give.false ∙ c.give.ensures.found) in
+    let held = map_at old c.args.unit c.args.block in
+    λ stop e t tables fit. subst (λ rs. AsksTill stop c.args.line rs old new) (read_asks s c.args.unit c.args.block held none)
+    (subst (λ (z : State). IfTold z old new (AsksTill stop c.args.line (read_found held true z c.args.unit c.args.block).asked old new))
+    (c.give.ensures.fronts ∙ not_fronted c.args.unit c.args.block s none) (c.read_new.ensures.till stop e) t tables fit)

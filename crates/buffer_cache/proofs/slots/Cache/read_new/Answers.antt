@@ -8,6 +8,13 @@ use Rattle.buffer_cache.specs.Asks.{IsData}
 use Rattle.buffer_cache.specs.Calls.{Fetched}
 use Rattle.buffer_cache.proofs.Stays.{data_stays, holds_more, room_none, put_data}
 use Rattle.buffer_cache.proofs.Wholes.{read_unusable, read_usable, holds_read, keeps_stopped, never_stopped}
+use Rattle.std.proofs.Common.{true}
+use Rattle.driver_laws.specs.declared.answers.outcome.Stop.{Stop}
+use Rattle.driver_laws.specs.rules.Calls.{read_found}
+use Rattle.buffer_cache.specs.Passes.{map_at}
+use Rattle.buffer_cache.specs.Asks.{AsksTill}
+use Rattle.buffer_cache.specs.Calls.{IfTold}
+use Rattle.buffer_cache.proofs.Tills.{fetch_read, no_stop, on_stopped}
 use Rattle.buffer_cache.proofs.slots.Cache.read_new.Goals as goal
 
 pub returns-then-not-branch-clause-reads : goal.returns-then-not-branch-clause-reads
@@ -86,3 +93,18 @@ returns-then-not-branch-clause-keeps g c = c.in_ok-fetch.ensures.keeps
 
 pub returns-clause-keeps : goal.returns-clause-keeps
 returns-clause-keeps g c = c.in_ok-fetch.ensures.keeps
+
+pub returns-in_err-fetch-clause-till : goal.returns-in_err-fetch-clause-till
+returns-in_err-fetch-clause-till g c =
+    let old : Stage = site g.P.Packs.tells g.P.Packs.held g.T.Sink.tells g.T.Sink.taken c.args.subsystem.now.world c.args.packs.now c.args.trace.now in
+    let new : Stage = site g.P.Packs.tells g.P.Packs.held g.T.Sink.tells g.T.Sink.taken c.fetch.new.subsystem.world c.fetch.new.packs c.fetch.new.trace in
+    let held = map_at old c.args.unit c.args.block in
+    on_stopped (λ (stop : Stop). IfTold c.args.self.now old new (AsksTill stop c.args.line (read_found held true c.args.self.now c.args.unit c.args.block).asked old new))
+    c.from_residual.result c.in_err-fetch.field-0.0 c.from_residual.ensures.1
+    (λ t tables fit. subst (λ rs. AsksTill c.in_err-fetch.field-0.0 c.args.line rs old new) (fetch_read held c.args.self.now c.args.unit c.args.block) (c.in_err-fetch.ensures.till t tables fit))
+
+pub returns-then-not-branch-clause-till : goal.returns-then-not-branch-clause-till
+returns-then-not-branch-clause-till g c = λ stop e. no_stop stop e
+
+pub returns-clause-till : goal.returns-clause-till
+returns-clause-till g c = λ stop e. no_stop stop e

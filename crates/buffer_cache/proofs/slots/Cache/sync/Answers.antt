@@ -11,6 +11,9 @@ use Rattle.buffer_cache.specs.Views.{entries_of, state_of}
 use Rattle.buffer_cache.specs.Calls.{Syncs}
 use Rattle.buffer_cache.proofs.Stays.{all_data, holds_alike, holds_asked}
 use Rattle.buffer_cache.proofs.Turns.{flushed_data, syncs_of}
+use Rattle.driver_laws.specs.declared.answers.outcome.Stop.{Stop}
+use Rattle.buffer_cache.specs.Asks.{AsksTill}
+use Rattle.buffer_cache.proofs.Tills.{on_stop}
 use Rattle.buffer_cache.proofs.slots.Cache.sync.Goals as goal
 
 pub returns-clause-syncs : goal.returns-clause-syncs
@@ -66,3 +69,10 @@ returns-in_err-write_all_back-clause-keeps g c =
 
 pub returns-clause-keeps : goal.returns-clause-keeps
 returns-clause-keeps g c = c.in_ok-write_all_back.ensures.keeps
+
+pub returns-in_err-write_all_back-clause-till : goal.returns-in_err-write_all_back-clause-till
+returns-in_err-write_all_back-clause-till g c =
+    let old : Stage = site g.P.Packs.tells g.P.Packs.held g.T.Sink.tells g.T.Sink.taken c.args.subsystem.now.world c.args.packs.now c.args.trace.now in
+    let new : Stage = site g.P.Packs.tells g.P.Packs.held g.T.Sink.tells g.T.Sink.taken c.write_all_back.new.subsystem.world c.write_all_back.new.packs c.write_all_back.new.trace in
+    on_stop (λ (stop : Stop). AsksTill stop c.args.line (written_back c.args.self.now.entries) old new) c.from_residual.result c.in_err-write_all_back.field-0.0 c.from_residual.ensures.1
+    (subst (λ (s : State). AsksTill c.in_err-write_all_back.field-0.0 c.args.line (written_back s.entries) old new) c.self.view_is c.in_err-write_all_back.ensures.till)

@@ -9,6 +9,11 @@ use Rattle.buffer_cache.specs.Asks.{IsData}
 use Rattle.buffer_cache.specs.Calls.{MayUse, IfTold, Holds, Writes, is_done}
 use Rattle.buffer_cache.proofs.Stays.{never_some, no_entry, some_entry, change_data}
 use Rattle.buffer_cache.proofs.Wholes.{write_entry, not_changed}
+use Rattle.std.proofs.Common.{true}
+use Rattle.driver_laws.specs.rules.Calls.{write_found}
+use Rattle.buffer_cache.specs.Passes.{map_at}
+use Rattle.buffer_cache.specs.Asks.{AsksTill}
+use Rattle.buffer_cache.proofs.Tills.{no_stop, write_asks}
 use Rattle.buffer_cache.proofs.slots.Cache.write.Goals as goal
 
 pub returns-then-change-clause-writes : goal.returns-then-change-clause-writes
@@ -71,3 +76,17 @@ returns-clause-may g c = c.write_new.ensures.may
 
 pub returns-clause-keeps : goal.returns-clause-keeps
 returns-clause-keeps g c = c.write_new.ensures.keeps
+
+pub returns-then-change-clause-till : goal.returns-then-change-clause-till
+returns-then-change-clause-till g c = λ stop e. no_stop stop e
+
+pub returns-clause-till : goal.returns-clause-till
+returns-clause-till g c =
+    let old : Stage = site g.P.Packs.tells g.P.Packs.held g.T.Sink.tells g.T.Sink.taken c.args.subsystem.now.world c.args.packs.now c.args.trace.now in
+    let new : Stage = site g.P.Packs.tells g.P.Packs.held g.T.Sink.tells g.T.Sink.taken c.write_new.new.subsystem.world c.write_new.new.packs c.write_new.new.trace in
+    let s : State = c.args.self.now in
+    let none = no_entry c.args.unit c.args.block s.entries (sym c.if-change.false ∙ c.change.ensures.found) in
+    let held = map_at old c.args.unit c.args.block in
+    λ stop e t tables fit. subst (λ rs. AsksTill stop c.args.line rs old new) (write_asks s c.args.unit c.args.block c.args.from.now held none)
+    (subst (λ (z : State). IfTold z old new (AsksTill stop c.args.line (write_found held true z c.args.unit c.args.block c.args.from.now).asked old new))
+    (c.change.ensures.changes ∙ not_changed c.args.unit c.args.block c.args.from.now s none) (c.write_new.ensures.till stop e) t tables fit)

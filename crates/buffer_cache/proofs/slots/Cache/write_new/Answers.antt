@@ -7,6 +7,15 @@ use Rattle.driver_laws.specs.rules.Entries.{State, entry_of}
 use Rattle.buffer_cache.specs.Calls.{Fetched}
 use Rattle.buffer_cache.proofs.Stays.{data_stays, holds_more, room_none}
 use Rattle.buffer_cache.proofs.Wholes.{write_unusable, write_usable, holds_write, holds_stored, keeps_stopped, never_stopped}
+use Rattle.std.proofs.Common.{[], ◌∷◌}
+use Rattle.driver_laws.specs.declared.answers.outcome.Stop.{Stop}
+use Rattle.driver_laws.specs.rules.Requests.{reads, writes}
+use Rattle.driver_laws.specs.rules.Entries.{to_write_back, write_backs}
+use Rattle.driver_laws.specs.rules.Calls.{write_found}
+use Rattle.buffer_cache.specs.Passes.{StillTell, map_at}
+use Rattle.buffer_cache.specs.Asks.{AsksTill}
+use Rattle.buffer_cache.specs.Calls.{IfTold}
+use Rattle.buffer_cache.proofs.Tills.{no_stop, on_stopped, till_behind, till_write}
 use Rattle.buffer_cache.proofs.slots.Cache.write_new.Goals as goal
 
 pub returns-then-not-branch-clause-writes : goal.returns-then-not-branch-clause-writes
@@ -110,3 +119,31 @@ returns-in_err-place-clause-may g c = never_stopped c.from_residual-in_err-place
 
 pub returns-clause-may : goal.returns-clause-may
 returns-clause-may g c = λ e. c.in_ok-place.ensures.may
+
+pub returns-in_err-fetch-clause-till : goal.returns-in_err-fetch-clause-till
+returns-in_err-fetch-clause-till g c =
+    let old : Stage = site g.P.Packs.tells g.P.Packs.held g.T.Sink.tells g.T.Sink.taken c.args.subsystem.now.world c.args.packs.now c.args.trace.now in
+    let new : Stage = site g.P.Packs.tells g.P.Packs.held g.T.Sink.tells g.T.Sink.taken c.fetch.new.subsystem.world c.fetch.new.packs c.fetch.new.trace in
+    let held = map_at old c.args.unit c.args.block in
+    on_stopped (λ (stop : Stop). IfTold c.args.self.now old new (AsksTill stop c.args.line (write_found held true c.args.self.now c.args.unit c.args.block c.args.from.now).asked old new))
+    c.from_residual.result c.in_err-fetch.field-0.0 c.from_residual.ensures.1
+    (λ t tables fit. till_write c.in_err-fetch.field-0.0 c.args.line held c.args.self.now c.args.unit c.args.block c.args.from.now old new (c.in_err-fetch.ensures.till t tables fit))
+
+pub returns-in_err-place-clause-till : goal.returns-in_err-place-clause-till
+returns-in_err-place-clause-till g c =
+    let old : Stage = site g.P.Packs.tells g.P.Packs.held g.T.Sink.tells g.T.Sink.taken c.args.subsystem.now.world c.args.packs.now c.args.trace.now in
+    let mid : Stage = site g.P.Packs.tells g.P.Packs.held g.T.Sink.tells g.T.Sink.taken c.fetch.new.subsystem.world c.fetch.new.packs c.fetch.new.trace in
+    let new : Stage = site g.P.Packs.tells g.P.Packs.held g.T.Sink.tells g.T.Sink.taken c.place.new.subsystem.world c.place.new.packs c.place.new.trace in
+    let fetched = subst (λ b. Fetched c.args.line c.args.unit c.args.block b c.fetch.new.into c.args.self.now c.fetch.new.self old mid) c.if-not-branch.false c.in_ok-fetch.ensures.fetches in
+    let still : StillTell mid new = record { packs = c.in_err-place.ensures.keeps.never_again; trace = c.in_err-place.ensures.keeps.never_again_trace } in
+    on_stopped (λ (stop : Stop). IfTold c.args.self.now old new (AsksTill stop c.args.line (write_found (map_at old c.args.unit c.args.block) true c.args.self.now c.args.unit c.args.block c.args.from.now).asked old new))
+    c.from_residual-in_err-place.result c.in_err-place.field-0.0 c.from_residual-in_err-place.ensures.1
+    (λ t tables fit. subst (λ held. AsksTill c.in_err-place.field-0.0 c.args.line (write_found held true c.args.self.now c.args.unit c.args.block c.args.from.now).asked old new) (sym (fetched.told (still.packs t) tables))
+    (till_behind c.in_err-place.field-0.0 c.args.line (reads c.args.unit c.args.block ∷ write_backs (to_write_back c.args.self.now)) (writes c.args.unit c.args.block c.args.from.now ∷ []) old mid new
+    fetched.asks c.in_err-place.ensures.till still))
+
+pub returns-then-not-branch-clause-till : goal.returns-then-not-branch-clause-till
+returns-then-not-branch-clause-till g c = λ stop e. no_stop stop e
+
+pub returns-clause-till : goal.returns-clause-till
+returns-clause-till g c = λ stop e. no_stop stop e

@@ -1,10 +1,8 @@
-use Rattle.std.proofs.Common.{ap}
-use Rattle.driver_laws.specs.rules.Entries.{State}
 use Rattle.cached_run.proofs.bench.Bench.new.Goals as goal
 
 pub returns-clause-cache : goal.returns-clause-cache
 returns-clause-cache c =
-    ap (λ (s : State). s.entries) c.in_ok-cache.ensures
+    c.in_ok-cache.ensures
 
 pub returns-clause-subsystem : goal.returns-clause-subsystem
 returns-clause-subsystem c =
