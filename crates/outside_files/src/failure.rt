@@ -57,7 +57,7 @@ pub struct SinkNotes {
 
 impl PackNotes {
     /// Nothing was written, and nothing failed.
-    pub(crate) fn new() -> PackNotes {
+    pub fn new() -> PackNotes {
         PackNotes {
             first: None,
             written: 0,
