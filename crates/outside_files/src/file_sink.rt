@@ -2,6 +2,7 @@ ghost use Rattle.std.specs.Prelude.{◌≡◌, ℕ, ◌<◌, ◌≤◌, ◌++◌
 ghost use Rattle.outside_traits.specs.Causes.{HasCause, Counts};
 ghost use Rattle.outside_files.specs.Answers.{TakesOn};
 
+use crate::failure::Deed;
 use crate::streams::{counted, some_taken};
 use outside_traits::traits::{Sink, SinkFailed};
 use std::io;
@@ -16,6 +17,7 @@ pub struct FileSink<'a, R: Files> {
     name: &'a str,
     file: Option<R::File>,
     faults: u64,
+    first: Option<(Deed, io::Error)>,
 }
 
 impl<'a, R: Files> FileSink<'a, R> {
@@ -29,7 +31,18 @@ impl<'a, R: Files> FileSink<'a, R> {
             name,
             file: None,
             faults: 0,
+            first: None,
         }
+    }
+
+    /// The first call that failed, and its error: the file could not be made, or could not be written.
+    pub fn first_failure(&self) -> Option<(Deed, io::Error)> {
+        self.first
+    }
+
+    /// The name of its file.
+    pub fn name(&self) -> &str {
+        self.name
     }
 
     fn try_write(&mut self, from: &[u8]) -> io::Result<usize>
@@ -44,6 +57,15 @@ impl<'a, R: Files> FileSink<'a, R> {
         match &mut self.file {
             Some(file) => file.write(from),
             None => Err(io::Error::from(ErrorKind::NotFound)),
+        }
+    }
+}
+
+/// Keeps an error, unless there was one before.
+fn note_first(first: &mut Option<(Deed, io::Error)>, answer: &io::Result<usize>, deed: Deed) {
+    if let Err(error) = answer {
+        if first.is_none() {
+            *first = Some((deed, *error));
         }
     }
 }
@@ -70,6 +92,12 @@ impl<'a, R: Files> Sink for FileSink<'a, R> {
         ensures on { TakesOn R.File.contents self.old.file self.new.file result from.now }
     {
         let answer = some_taken(self.try_write(from), from.len());
+        let deed = if self.file.is_some() {
+            Deed::Write
+        } else {
+            Deed::Make
+        };
+        note_first(&mut self.first, &answer, deed);
         counted(answer, SinkFailed, &mut self.faults)
     }
 }

@@ -4,6 +4,7 @@ ghost use Rattle.outside_traits.specs.Causes.{HasCause, Counts};
 ghost use Rattle.outside_files.specs.Folder.{with_put, IsTorn, tells_whole};
 ghost use Rattle.outside_files.specs.declared.folder.Part.TheVariants.{Image};
 
+use crate::failure::{Deed, PackNotes};
 use crate::folder::{PackFolder, Part};
 use crate::os_folder::OsFolder;
 use crate::streams::counted;
@@ -35,16 +36,30 @@ fn mark_byte(on: bool) -> u8
     u8::from(on)
 }
 
+/// Keeps why a call on a unit's file failed, unless one failed before.
+fn note<F: PackFolder, T>(
+    folder: &F,
+    notes: &mut PackNotes,
+    answer: &io::Result<T>,
+    deed: Deed,
+    unit: u8,
+    part: Part,
+) {
+    let is_open = folder.is_open(unit, part);
+    notes.note(answer, deed, unit, part, is_open);
+}
+
 /// The packs in the files of a folder: block b is bytes 512*b to 512*b+511 of its unit's image, and byte b of the marks belongs
 /// to block b. A missing file is empty, and is made at its first write.
 ///
 /// They tell what they hold where the folder does, up to a write that failed when a part of its bytes had gone out: that block
-/// is neither old nor new. Each error counts as a fault; a call that was interrupted is made again.
+/// is neither old nor new. Each error counts as a fault, and the first one is kept; a call that was interrupted is made again.
 #[derive(Drop)]
 pub struct FilePacks<F> {
     folder: F,
     torn: bool,
     faults: u64,
+    notes: PackNotes,
 }
 
 impl<R: Files + AllocGlobal> FilePacks<OsFolder<R>>
@@ -72,7 +87,13 @@ impl<F: PackFolder> FilePacks<F> {
             folder,
             torn: false,
             faults: 0,
+            notes: PackNotes::new(),
         }
+    }
+
+    /// What is kept for the message of a run that failed.
+    pub fn notes(&self) -> PackNotes {
+        self.notes
     }
 
     /// Whether a block is marked.
@@ -132,6 +153,14 @@ impl<F: PackFolder> Packs for FilePacks<F> {
         ensures torn { self.new.torn ≡ self.old.torn }
     {
         let length = length_of(&mut self.folder, unit, Part::Image);
+        note(
+            &self.folder,
+            &mut self.notes,
+            &length,
+            Deed::Measure,
+            unit,
+            Part::Image,
+        );
         counted(length, StoreFailed, &mut self.faults)
     }
 
@@ -147,6 +176,14 @@ impl<F: PackFolder> Packs for FilePacks<F> {
     {
         let place = place_in_image(block);
         let read = read_window(&mut self.folder, unit, Part::Image, place, into);
+        note(
+            &self.folder,
+            &mut self.notes,
+            &read,
+            Deed::Read,
+            unit,
+            Part::Image,
+        );
         counted(read, StoreFailed, &mut self.faults)
     }
 
@@ -162,6 +199,15 @@ impl<F: PackFolder> Packs for FilePacks<F> {
             → IsTorn (F.tells self.new.folder) (F.held self.old.folder) (F.held self.new.folder) unit Image (512 * block) from.now }
     {
         let written = self.put(unit, Part::Image, place_in_image(block), from);
+        note(
+            &self.folder,
+            &mut self.notes,
+            &written,
+            Deed::Write,
+            unit,
+            Part::Image,
+        );
+        self.notes.count(&written, block);
         counted(written, StoreFailed, &mut self.faults)
     }
 
@@ -175,6 +221,14 @@ impl<F: PackFolder> Packs for FilePacks<F> {
         ensures torn { self.new.torn ≡ self.old.torn }
     {
         let mark = self.read_mark(unit, block);
+        note(
+            &self.folder,
+            &mut self.notes,
+            &mark,
+            Deed::Read,
+            unit,
+            Part::Marks,
+        );
         counted(mark, StoreFailed, &mut self.faults)
     }
 
@@ -189,6 +243,14 @@ impl<F: PackFolder> Packs for FilePacks<F> {
         ensures torn { self.new.torn ≡ self.old.torn }
     {
         let written = self.put(unit, Part::Marks, u64::from(block), &[mark_byte(on)]);
+        note(
+            &self.folder,
+            &mut self.notes,
+            &written,
+            Deed::Write,
+            unit,
+            Part::Marks,
+        );
         counted(written, StoreFailed, &mut self.faults)
     }
 }
@@ -205,6 +267,14 @@ impl<F: PackFolder> WidePacks for FilePacks<F> {
     {
         let place = place_in_image(block);
         let read = read_window(&mut self.folder, unit, Part::Image, place, into);
+        note(
+            &self.folder,
+            &mut self.notes,
+            &read,
+            Deed::Read,
+            unit,
+            Part::Image,
+        );
         counted(read, StoreFailed, &mut self.faults)
     }
 
@@ -219,6 +289,14 @@ impl<F: PackFolder> WidePacks for FilePacks<F> {
     {
         let place = u64::from(block);
         let read = read_window(&mut self.folder, unit, Part::Marks, place, into);
+        note(
+            &self.folder,
+            &mut self.notes,
+            &read,
+            Deed::Read,
+            unit,
+            Part::Marks,
+        );
         counted(read, StoreFailed, &mut self.faults)
     }
 }

@@ -47,6 +47,11 @@ pub trait PackFolder {
     /// What the two files of each unit hold, where it tells.
     ghost held: { Self → ℕ → Pack };
 
+    /// Whether a file is open. If it is not, a call on it that failed could not open it.
+    fn is_open(&self, _unit: u8, _part: Part) -> bool {
+        true
+    }
+
     /// Answers a file's length, in bytes.
     fn length(&mut self, unit: u8, part: Part) -> io::Result<u64>
         requires { unit < 32 }

@@ -8,6 +8,7 @@
 //! `pack_rows` and by the programs' stored runs.
 #![tactic(auto)]
 
+pub mod failure;
 pub mod file_sink;
 pub mod files;
 pub mod folder;

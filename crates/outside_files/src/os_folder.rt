@@ -1,33 +1,53 @@
-ghost use Rattle.std.specs.Prelude.{◌≡◌, ◌<◌, ◌≤◌, IfOk, OnOk, vec_len};
+ghost use Rattle.std.specs.Prelude.{◌≡◌, ◌≢◌, ◌⊎◌, ◌↔◌, ◌<◌, ◌≤◌, true, false, Ok, Err, is_some, IfSome, IfOk, IfErr, OnOk, vec_len};
+ghost use Rattle.std.specs.IoError.{error_kind};
+ghost use Rattle.std.specs.Fs.{metadata_len};
+ghost use Rattle.std.specs.declared.io.ErrorKind.TheVariants.{NotFound, PermissionDenied, ReadOnlyFilesystem};
+ghost use Rattle.outside_files.specs.declared.os_folder.Opened.{Opened};
+ghost use Rattle.outside_files.specs.declared.os_folder.Known.TheVariants.{Nothing, Missing, Open};
 
 use crate::folder::{PackFolder, Part};
 use crate::streams::some_taken;
-use std::fs::{OpenFile, OpenOptions};
+use std::fs::{Metadata, OpenFile, OpenOptions};
 use std::io;
 use std::io::ErrorKind;
 use std::os::unix::fs::FileExt;
 use std::rt::Files;
+
+/// A file that is open, and why it may not be written, if so.
+#[derive(Drop)]
+struct Opened<F> {
+    file: F,
+    locked: Option<io::Error>,
+}
 
 /// What is known of a file: one that was opened stays open, and one that was missing stays missing until it is made here.
 #[derive(Drop)]
 enum Known<F> {
     Nothing,
     Missing,
-    Open(F),
+    Open(Opened<F>),
 }
 
 impl<F: Drop> Known<F> {
     /// What an opening tells of a file: one that is not there is missing, unless it was to be made.
-    fn by_opening(answer: io::Result<F>, create: bool) -> io::Result<Known<F>> {
+    fn by_opening(answer: io::Result<Opened<F>>, create: bool) -> io::Result<Known<F>>
+        ensures open { IfOk answer (λ opened. result ≡ Ok (Open opened)) }
+        ensures missing { IfErr answer (λ error. error_kind error ≡ NotFound → create ≡ false → result ≡ Ok Missing) }
+        ensures failed { IfErr answer (λ error. (error_kind error ≢ NotFound) ⊎ (create ≡ true) → result ≡ Err error) }
+    {
         match answer {
-            Ok(file) => Ok(Known::Open(file)),
+            Ok(opened) => Ok(Known::Open(opened)),
             Err(error) if !create && error.kind() == ErrorKind::NotFound => Ok(Known::Missing),
             Err(error) => Err(error),
         }
     }
 
     /// Whether the file is yet to be opened, or to be made.
-    fn is_to_be_opened(&self, create: bool) -> bool {
+    fn is_to_be_opened(&self, create: bool) -> bool
+        ensures unknown { self.now ≡ Nothing → result ≡ true }
+        ensures missing { self.now ≡ Missing → result ≡ create }
+        ensures open { (opened : Opened F) → self.now ≡ Open opened → result ≡ false }
+    {
         match self {
             Known::Nothing => true,
             Known::Missing => create,
@@ -35,10 +55,13 @@ impl<F: Drop> Known<F> {
         }
     }
 
-    /// The file, where it is open.
-    fn file(&self) -> Option<&F> {
+    /// The file, if it is open.
+    fn file(&self) -> Option<&Opened<F>>
+        ensures open { IfSome result (λ opened. self.now ≡ Open opened.now) }
+        ensures closed { is_some result ≡ false → (opened : Opened F) → self.now ≢ Open opened }
+    {
         match self {
-            Known::Open(file) => Some(file),
+            Known::Open(opened) => Some(opened),
             _ => None,
         }
     }
@@ -52,24 +75,41 @@ pub struct OsFolder<R: Files + AllocGlobal> {
     files: Vec<Known<R::File>>,
 }
 
-/// Opens a file for reading and writing, or for reading alone where it may not be written and is not to be made.
-fn open_file<R: Files>(rt: &R, name: &str, create: bool) -> io::Result<R::File> {
+/// Opens a file for reading and writing. One that may not be written, and is not to be made, is opened for reading alone.
+fn open_file<R: Files>(rt: &R, name: &str, create: bool) -> io::Result<Opened<R::File>> {
     let mut how = OpenOptions::new();
     how.read(true).write(true).create(create);
     match how.open(rt, name) {
-        Err(error) if !create && is_forbidden(error.kind()) => how.write(false).open(rt, name),
-        answer => answer,
+        Ok(file) => Ok(Opened { file, locked: None }),
+        Err(error) if !create && is_forbidden(error.kind()) => {
+            let file = how.write(false).open(rt, name)?;
+            Ok(Opened {
+                file,
+                locked: Some(error),
+            })
+        }
+        Err(error) => Err(error),
     }
 }
 
 /// Whether a file that can't be opened for writing may still be one to read.
-fn is_forbidden(kind: ErrorKind) -> bool {
+fn is_forbidden(kind: ErrorKind) -> bool
+    ensures { (result ≡ true) ↔ (kind ≡ PermissionDenied) ⊎ (kind ≡ ReadOnlyFilesystem) }
+{
     kind == ErrorKind::PermissionDenied || kind == ErrorKind::ReadOnlyFilesystem
+}
+
+/// The length of a file in bytes, by what the system says of it.
+fn length_by(metadata: &Metadata) -> u64
+    ensures { result ≡ metadata_len metadata.now }
+{
+    metadata.len()
 }
 
 /// The length of an open file.
 fn length_in_bytes<F: OpenFile>(file: &F) -> io::Result<u64> {
-    Ok(file.metadata()?.len())
+    let metadata = file.metadata()?;
+    Ok(length_by(&metadata))
 }
 
 impl<R: Files + AllocGlobal> OsFolder<R> {
@@ -110,7 +150,7 @@ impl<R: Files + AllocGlobal> OsFolder<R> {
     }
 
     /// A file, opened where it is not; none where it is missing.
-    fn find(&mut self, unit: u8, part: Part, create: bool) -> io::Result<Option<&R::File>>
+    fn find(&mut self, unit: u8, part: Part, create: bool) -> io::Result<Option<&Opened<R::File>>>
         requires { unit < 32 }
     {
         let number = self.look_up(unit, part, create)?;
@@ -129,24 +169,36 @@ where
 
     ghost held = { λ _. λ _. empty_pack };
 
+    fn is_open(&self, unit: u8, part: Part) -> bool {
+        match self.files.get(part.number(unit)) {
+            Some(known) => known.file().is_some(),
+            None => false,
+        }
+    }
+
     fn length(&mut self, unit: u8, part: Part) -> io::Result<u64> {
         match self.find(unit, part, false)? {
             None => Ok(0),
-            Some(file) => length_in_bytes(file),
+            Some(opened) => length_in_bytes(&opened.file),
         }
     }
 
     fn read_at(&mut self, unit: u8, part: Part, at: u64, into: &mut [u8]) -> io::Result<usize> {
         match self.find(unit, part, false)? {
             None => Ok(0),
-            Some(file) => file.read_at(into, at),
+            Some(opened) => opened.file.read_at(into, at),
         }
     }
 
     fn write_at(&mut self, unit: u8, part: Part, at: u64, from: &[u8]) -> io::Result<usize> {
         match self.find(unit, part, true)? {
             None => Err(io::Error::from(ErrorKind::NotFound)),
-            Some(file) => some_taken(file.write_at(from, at), from.len()),
+            Some(opened) => {
+                if let Some(error) = opened.locked {
+                    return Err(error);
+                }
+                some_taken(opened.file.write_at(from, at), from.len())
+            }
         }
     }
 }

@@ -3,7 +3,9 @@ ghost use Rattle.std.specs.Io.KnownBytes.{ReadConsumes, WriteAppends};
 ghost use Rattle.outside_traits.specs.Causes.{HasCause, Counts, HandsOn};
 ghost use Rattle.outside_files.specs.Answers.{takes_nothing, bytes_in};
 
+use crate::failure::{SinkNotes, SourceNotes};
 use outside_traits::traits::{Sink, SinkFailed, Source, SourceFailed};
+use std::alloc::Global;
 use std::io;
 use std::io::{ErrorKind, Read, Write};
 
@@ -44,6 +46,7 @@ pub struct StdSource<R: Read> {
     inner: R,
     is_known: bool,
     faults: u64,
+    notes: SourceNotes,
     ghost known: { IsTrue is_known → IsTrue (is_some (R.remaining inner)) },
 }
 
@@ -58,6 +61,7 @@ impl<R: Read> StdSource<R> {
             inner,
             is_known: false,
             faults: 0,
+            notes: SourceNotes::new(),
         }
     }
 
@@ -73,7 +77,24 @@ impl<R: Read> StdSource<R> {
             inner,
             is_known: true,
             faults: 0,
+            notes: SourceNotes::new(),
         }
+    }
+}
+
+impl<R: Read> StdSource<R> {
+    /// From now on the bytes that are given are kept, for the message of a run that refuses them.
+    pub fn keep(&mut self, alloc: Global)
+        ensures inner { self.new.inner ≡ self.old.inner }
+        ensures told { self.new.is_known ≡ self.old.is_known }
+        ensures faults { self.new.faults ≡ self.old.faults }
+    {
+        self.notes.keep(alloc);
+    }
+
+    /// What is kept for the message of a run that failed.
+    pub fn notes(&self) -> &SourceNotes {
+        &self.notes
     }
 }
 
@@ -98,6 +119,7 @@ impl<R: Read> Source for StdSource<R> {
         ensures given { ReadConsumes (R.remaining self.old.inner) (R.remaining self.new.inner) result into.new }
     {
         let answer = self.inner.read(into);
+        self.notes.note(&answer, into);
         counted(answer, SourceFailed, &mut self.faults)
     }
 }
@@ -109,6 +131,7 @@ pub struct StdSink<W: Write> {
     inner: W,
     is_known: bool,
     faults: u64,
+    notes: SinkNotes,
     ghost known: { IsTrue is_known → IsTrue (is_some (W.contents inner)) },
 }
 
@@ -123,6 +146,7 @@ impl<W: Write> StdSink<W> {
             inner,
             is_known: false,
             faults: 0,
+            notes: SinkNotes::new(),
         }
     }
 
@@ -137,7 +161,15 @@ impl<W: Write> StdSink<W> {
             inner,
             is_known: true,
             faults: 0,
+            notes: SinkNotes::new(),
         }
+    }
+}
+
+impl<W: Write> StdSink<W> {
+    /// What is kept for the message of a run that failed.
+    pub fn notes(&self) -> &SinkNotes {
+        &self.notes
     }
 }
 
@@ -162,6 +194,7 @@ impl<W: Write> Sink for StdSink<W> {
         ensures taken { WriteAppends (W.contents self.old.inner) (W.contents self.new.inner) result from.now }
     {
         let answer = some_taken(self.inner.write(from), from.len());
+        self.notes.note(&answer, from);
         counted(answer, SinkFailed, &mut self.faults)
     }
 }

@@ -1,0 +1,289 @@
+use crate::fields::FieldFault;
+use crate::shown::Shown;
+use outside_files::failure::Deed;
+use outside_files::folder::Part;
+use std::fmt::{Display, Formatter};
+use std::{fmt, io};
+use thiserror::Error;
+
+/// A unit's file, by its name.
+#[derive(Clone, Copy, Debug)]
+pub struct FileName {
+    pub unit: u8,
+    pub is_image: bool,
+}
+
+/// How far a command that writes a pack came.
+#[derive(Clone, Copy, Debug)]
+pub struct Came {
+    pub written: u64,
+    pub last: u32,
+}
+
+/// What a call on a file tried, in words.
+#[derive(Clone, Copy, Debug)]
+pub struct Tried {
+    pub deed: Deed,
+}
+
+/// Why a run did not end with 0: its text is a sentence without the program's name before it.
+#[derive(Clone, Copy, Debug, Error)]
+pub enum Reason<'a> {
+    /// The words are no command.
+    #[error("{0}")]
+    Words(FieldFault<'a>),
+    /// The words are not text.
+    #[error("a word of the command is not text (UTF-8)")]
+    NoText,
+    /// A line of the script has a faulty field.
+    #[error("line {line} of the script: {fault}")]
+    Field {
+        line: u64,
+        fault: FieldFault<'a>,
+    },
+    /// A unit that a line names was not declared.
+    #[error("line {line} of the script: unit {unit} is not declared by a 'unit' line before")]
+    UnitUnknown {
+        line: u64,
+        unit: Shown<'a>,
+    },
+    /// A unit is declared again.
+    #[error("line {line} of the script: unit {unit} was declared before")]
+    UnitTwice {
+        line: u64,
+        unit: Shown<'a>,
+    },
+    /// An id comes again.
+    #[error("line {line} of the script: id {id} was used before, and each may be used once")]
+    IdTwice {
+        line: u64,
+        id: Shown<'a>,
+    },
+    /// A unit is declared too late.
+    #[error("line {line} of the script: 'unit' lines must come before all other lines")]
+    LateUnit {
+        line: u64,
+    },
+    /// There are too many lines, requests or noises.
+    #[error("line {line} of the script: a script has at most 1000000 lines, 65536 requests and 4096 'noise' lines")]
+    TooMany {
+        line: u64,
+    },
+    /// A line is too long.
+    #[error("line {line} of the script: it has more than 140000 bytes")]
+    LineLong {
+        line: u64,
+    },
+    /// The script is too long.
+    #[error("the script has more than 16777216 bytes")]
+    ScriptLong,
+    /// The places of a noise are not in order.
+    #[error("line {line} of the script: BITS must be 1 to 64 places from 0 to 4127, each greater than the one before")]
+    Bits {
+        line: u64,
+    },
+    /// A line of the script is refused otherwise.
+    #[error("line {line} of the script is refused: {kind}")]
+    Script {
+        line: u64,
+        kind: Shown<'a>,
+    },
+    /// A line of the trace is refused.
+    #[error("line {line} of hp.trace: {what}")]
+    Trace {
+        line: u64,
+        what: &'static str,
+    },
+    /// Standard input failed.
+    #[error("cannot read standard input: {error}")]
+    Input {
+        error: io::Error,
+    },
+    /// There is no trace.
+    #[error("there is no hp.trace in this folder: 'hpsim play' makes it")]
+    NoTrace,
+    /// The trace can't be read.
+    #[error("cannot read hp.trace: {error}")]
+    TraceUnread {
+        error: io::Error,
+    },
+    /// Standard output failed.
+    #[error("cannot write to standard output: {error}")]
+    Output {
+        error: io::Error,
+    },
+    /// The trace's file failed.
+    #[error("cannot {tried} hp.trace: {error}")]
+    TraceUnwritten {
+        tried: Tried,
+        error: io::Error,
+    },
+    /// A pack's file failed, before anything was written.
+    #[error("cannot {tried} {file}: {error}")]
+    File {
+        tried: Tried,
+        file: FileName,
+        error: io::Error,
+    },
+    /// A pack's file failed, and this was written before.
+    #[error("cannot {tried} {file}: {error} ({came})")]
+    FileAfter {
+        tried: Tried,
+        file: FileName,
+        error: io::Error,
+        came: Came,
+    },
+    /// An image is too long.
+    #[error("hp{unit}.dsk has {length} bytes, and a whole {kind} has {whole}: what stands behind them may be a footer of SIMH's, which 'truncate -s {whole} hp{unit}.dsk' takes off")]
+    TooLong {
+        unit: u8,
+        length: u64,
+        kind: &'static str,
+        whole: u64,
+    },
+    /// There is no table.
+    #[error("hp{unit}.dsk has no bad-sector table of an {kind}: 'hpsim bad144 fresh {unit} {kind} SERIAL' makes one")]
+    NoTable {
+        unit: u8,
+        kind: &'static str,
+    },
+    /// A block is none of the data blocks.
+    #[error("block {block} is no data block of an {kind}: those are 0 to {last}, and behind them are replacements and tables")]
+    Reserved {
+        block: u64,
+        kind: &'static str,
+        last: u64,
+    },
+    /// A block is listed already.
+    #[error("block {block} is listed already, as entry {entry}")]
+    Listed {
+        block: u64,
+        entry: u64,
+    },
+    /// A table is full.
+    #[error("the table of hp{unit}.dsk has 126 entries, and there is room for no more")]
+    Full {
+        unit: u8,
+    },
+    /// A replacement is marked.
+    #[error("replacement {index} of hp{unit}.dsk, block {block}, is marked, and would be needed")]
+    Spare {
+        unit: u8,
+        index: u64,
+        block: u64,
+    },
+    /// Too many blocks are marked.
+    #[error("hp{unit}.dsk has {count} marked data blocks, and a table lists 126 at most")]
+    TooManyMarks {
+        unit: u8,
+        count: u64,
+    },
+    /// No place of the table is good.
+    #[error("all five places of the table of hp{unit}.dsk are marked")]
+    NoCopy {
+        unit: u8,
+    },
+    /// A block came back otherwise than it was written.
+    #[error("block {block} of hp{unit}.dsk came back otherwise than it was written; blocks up to it are emptied, and no table is written")]
+    Differs {
+        unit: u8,
+        block: u64,
+    },
+    /// Bytes beyond a partition were asked.
+    #[error("bytes {at} to {end} were asked, and partition {part} of an {kind} has {size} bytes ({blocks} blocks)")]
+    Outside {
+        at: u64,
+        end: u64,
+        part: char,
+        kind: &'static str,
+        size: u64,
+        blocks: u64,
+    },
+    /// There are too many bytes.
+    #[error("standard input has more than {most} bytes, which is the most that is written at once")]
+    TooManyBytes {
+        most: u64,
+    },
+    /// A block can't be used.
+    #[error("block {block} of partition {part} of hp{unit}.dsk cannot be used, since it is marked and has no good replacement: {moved} bytes before it were {what}")]
+    Unusable {
+        block: u64,
+        part: char,
+        unit: u8,
+        moved: u64,
+        what: &'static str,
+    },
+    /// There was no memory.
+    #[error("there is no memory for {what}")]
+    Memory {
+        what: &'static str,
+    },
+    /// A status of which no more is known.
+    #[error("the run ended with status {status}")]
+    Other {
+        status: u8,
+    },
+}
+
+/// What a person should know of a run before it begins.
+#[derive(Clone, Copy, Debug, Error)]
+pub enum Warning {
+    /// The image is missing.
+    #[error("hp{unit}.dsk does not exist: taken as an empty pack")]
+    Missing {
+        unit: u8,
+    },
+    /// The pack has the table of another kind of drive.
+    #[error("hp{unit}.dsk has the bad-sector table of an {old}, and is written as an {new} now")]
+    OtherKind {
+        unit: u8,
+        old: &'static str,
+        new: &'static str,
+    },
+}
+
+impl FileName {
+    pub fn new(unit: u8, part: Part) -> FileName {
+        let is_image = match part {
+            Part::Image => true,
+            Part::Marks => false,
+        };
+        FileName { unit, is_image }
+    }
+}
+
+impl Display for FileName {
+    fn fmt<W: fmt::Write>(&self, f: &mut Formatter<W>) -> fmt::Result {
+        let unit = self.unit;
+        if self.is_image {
+            return write!(f, "hp{unit}.dsk");
+        }
+        write!(f, "hp{unit}.bad")
+    }
+}
+
+impl Display for Came {
+    fn fmt<W: fmt::Write>(&self, f: &mut Formatter<W>) -> fmt::Result {
+        let written = self.written;
+        let last = self.last;
+        if written == 0 {
+            return f.write_str("no block was written before");
+        }
+        write!(
+            f,
+            "{written} blocks were written before, the last one block {last} of the pack"
+        )
+    }
+}
+
+impl Display for Tried {
+    fn fmt<W: fmt::Write>(&self, f: &mut Formatter<W>) -> fmt::Result {
+        f.write_str(match self.deed {
+            Deed::Open => "open",
+            Deed::Make => "open or make",
+            Deed::Read => "read",
+            Deed::Write => "write",
+            Deed::Measure => "get the length of",
+        })
+    }
+}
