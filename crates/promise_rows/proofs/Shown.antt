@@ -154,7 +154,7 @@ pub writes : (t : Target) {code : ℕ} {old new : Outside} → RunsTransfer (Wri
 writes t {code} {old} {new} run is tell = writes_by t old new run.answer (sym run.code_is ∙ is) run.ends tell
 
 -- ---- THE CACHE AND THE EXERCISE
-pub cached : {code : ℕ} {old new : Outside} → RunsCached code old new → code ≡ 0 → AllTell new → KeepsTheCache old new
+pub cached : {capacity code : ℕ} {old new : Outside} → RunsCached capacity code old new → code ≡ 0 → AllTell new → KeepsTheCache capacity old new
 cached run done tell =
     let whole = run.done done in
     let plays = whole.plays tell.packs in
@@ -166,6 +166,9 @@ cached run done tell =
       held = plays.held;
       marks = plays.rest.marks;
       others = plays.rest.others;
+      sessions = plays.asked.sessions;
+      asks = plays.asked.asks;
+      traced = plays.asked.told tell.trace;
     }
 
 -- ---- THE TOOL. What is refused has changed nothing.

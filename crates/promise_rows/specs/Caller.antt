@@ -32,6 +32,8 @@ use Rattle.script_reader.specs.Grammar.{IsRefused}
 use Rattle.script_reader.specs.cached.Scripts.{Script as CachedLines, Spells as SpellsCached}
 use Rattle.script_reader.specs.cached.Meaning.{meaning_of}
 use Rattle.cached_run.specs.Answers.{answers_of, map_of_inputs, text_of}
+use Rattle.cached_run.specs.Sessions.{AsksFor, Session, parts_in}
+use Rattle.driver_laws.specs.rules.Sessions.{told_in}
 use Rattle.command_parts.specs.Outside.{Outside}
 use Rattle.command_parts.specs.Lines.{Told as IsTold, too_long_text}
 use Rattle.command_parts.specs.declared.words.Target.{Target}
@@ -166,8 +168,9 @@ pub record KeepsPartitions (command : Option Command) (code : ℕ) (old new : Ou
       × ((block : ℕ) → content_of t.kind table (new.held t.unit) block
       ≡ with_range (content_of t.kind table (old.held t.unit)) (first_of t.kind t.part) t.at old.left block)
 
--- THE CACHE. With 0 each request was answered at its own line, in the order of the lines, and the packs hold what all writes leave.
-pub record KeepsTheCache (old new : Outside) : Type 0 where
+-- THE CACHE. With 0 each request was answered at its own line, in the order of the lines; the packs hold what all writes leave; and the trace
+-- has the requests that a cache of so many blocks asks for.
+pub record KeepsTheCache (capacity : ℕ) (old new : Outside) : Type 0 where
   pub lines : CachedLines
   pub tables : ℕ → Option Table
   pub spelled : SpellsCached old.left lines.lines lines.count
@@ -176,6 +179,9 @@ pub record KeepsTheCache (old new : Outside) : Type 0 where
       (map_of_inputs (drives_of (meaning_of lines)) (contents_of (drives_of (meaning_of lines)) tables old.held) (inputs_of (meaning_of lines)))
   pub marks : (unit : ℕ) → (new.held unit).marks ≡ (old.held unit).marks
   pub others : (unit : ℕ) → drives_of (meaning_of lines) unit ≡ None → new.held unit ≡ old.held unit
+  pub sessions : List Session
+  pub asks : AsksFor capacity (drives_of (meaning_of lines)) (contents_of (drives_of (meaning_of lines)) tables old.held) (inputs_of (meaning_of lines)) sessions
+  pub traced : new.taken ≡ old.taken ++ trace_text (told_in (parts_in sessions))
 
 -- THE EXERCISE. With 0 the script of the number was played, each of its requests was answered, and the four lines of the tally were printed.
 pub record KeepsTheExercise (number : ℕ) (old new : Outside) : Type 0 where

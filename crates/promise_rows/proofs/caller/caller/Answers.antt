@@ -1,6 +1,6 @@
 use Rattle.std.proofs.Common.{inl}
 use Rattle.pack_format.specs.Formatted.{table_for}
-use Rattle.promise_rows.proofs.Shown.{add_unchanged, headline, stopped, refusals, reads, writes}
+use Rattle.promise_rows.proofs.Shown.{add_unchanged, cached, headline, stopped, refusals, reads, writes}
 use Rattle.promise_rows.proofs.caller.caller.Goals as goal
 
 pub returns-clause-headline : goal.returns-clause-headline
@@ -45,3 +45,6 @@ pub returns-clause-exercise : goal.returns-clause-exercise
 returns-clause-exercise g c = λ number is zero tell.
     let done = (c.run.ensures.exercise number is).done zero in
     record { tally = done.tally; answered = done.exercised.answered; printed = done.told tell.out }
+
+pub returns-clause-cached : goal.returns-clause-cached
+returns-clause-cached g c = λ capacity is zero tell. cached (c.run.ensures.cached capacity is) zero tell
