@@ -1,5 +1,5 @@
 //! Tests of memory, packs in memory, the queue, the drive and its attaching, of numbers that come from outside, of the formatter's single calls, each of
-//! which goes wrong once, and of the caller of `blocking_rows`. There are tests alone here, so that the crates that they test are proved once.
+//! which goes wrong once, and of the caller of `callers`. There are tests alone here, so that the crates that they test are proved once.
 #![tactic(auto)]
 
 #[cfg(test)]
