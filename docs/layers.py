@@ -1,7 +1,7 @@
 #!/usr/bin/env python3
 """The picture of the layers in `docs/layers.md`, drawn from `crates.txt`.
 
-    layers.py          says whether the picture is as `crates.txt` is
+    layers.py          says whether the picture is as `crates.txt` is, and whether the files are there that the document names
     layers.py --write  draws it anew
 
 A crate stands in the lowest row that is above all crates that it stands on, and in the column of its heading in `crates.txt`.
@@ -44,6 +44,9 @@ if __name__ == '__main__':
         sys.exit(__doc__)
     with open(PAGE) as file:
         text = file.read()
+    gone = [path for path in re.findall(r'`(\w+/src/[\w/]+\.rt)`', text) if not os.path.exists(os.path.join(TOP, 'crates', path))]
+    if gone:
+        sys.exit(f'docs/layers.md names {", ".join(gone)}, which is gone: name another file there')
     made = text[:text.index(BEGIN)] + BEGIN + picture() + text[text.index(END):]
     if sys.argv[1:]:
         with open(PAGE, 'w') as file:

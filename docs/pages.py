@@ -20,6 +20,8 @@ PLACES = ('(stage ', '(site ', '(telling ')
 
 
 def read(path):
+    if not os.path.exists(os.path.join(TOP, path)):
+        sys.exit(f'a CALLING.md page takes code from {path}, which is gone: name another file there')
     with open(os.path.join(TOP, path), encoding='utf-8') as file:
         return file.read()
 

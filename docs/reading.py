@@ -152,6 +152,8 @@ def counted(text):
 
     def file_row(row):
         nonlocal total
+        if not os.path.exists(os.path.join(TOP, row[1])):
+            sys.exit(f'docs/reading.md lists {row[1]}, which is gone: name another file there')
         count = len(lines_of(os.path.join(TOP, row[1])))
         total += count
         return f'`{row[1]}`|{count:,}|'
