@@ -591,7 +591,7 @@ def made(names):
     body = '\n'.join(alone_proof(*a) for a in alone)
     where = {r['name']: k for k, g in enumerate(groups, 1) for r in g}
     row_names = lambda which: '\n'.join(f"use Rattle.trace_rows.specs.Rows{k}.{{{', '.join(n for r in g for n in which(r['name']))}}}" for k, g in enumerate(groups, 1) if any(which(r['name']) for r in g))
-    lib = LIB_HEAD
+    lib = LIB_HEAD.format(rows=len(rows), refused=len(refused))
     texts = ['first_read', 'empty_script', 'short_burst_repaired', 'until_offset', 'written_as_far_as_done', 'offline', 'partition_ends', 'each_fault']
     laws = '/// The traces of the rows are legal: each plays its script, and its moments may come one after another.\npub fn rows_law()\n'
     laws += ''.join(f'    ensures {n} {{ IsAccepted {n}_script {n}_start {n} }}\n' for n in rows) + '{}\n\n'
@@ -662,7 +662,7 @@ use Rattle.trace_replay.proofs.Following.{follow_on}
 LIB_HEAD = """//! Rows of traces: scripts over packs with the traces that belong to them, each proved legal by computation, and lines out of
 //! place, each refused by its rule. The rows stand as text in `docs/trace-rows`, and `rows.py` there writes this crate anew.
 //!
-//! What is proved: 39 worked traces are legal, and each of 96 lines out of place is refused by its rule, by computation.
+//! What is proved: {rows} worked traces are legal, and each of {refused} lines out of place is refused by its rule, by computation.
 #![tactic(auto)]
 
 """
