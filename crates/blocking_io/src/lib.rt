@@ -9,7 +9,7 @@
 //! one after another joins, also where the last one stops. What the packs hold is said where they tell it, and the driver's tables are
 //! theirs; that the driver is quiet again, and that a drain ends, is said of all.
 //!
-//! Nothing here is only tested; `CALLING.md` shows a caller, which `blocking_rows` proves and `drive_rows` runs.
+//! Nothing here is only tested; `CALLING.md` shows a caller, which `callers` proves and `drive_rows` runs.
 #![tactic(auto)]
 
 mod answers;

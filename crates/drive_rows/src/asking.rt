@@ -1,7 +1,7 @@
-// The caller of `blocking_rows`: three blocks over a marked one, of a pack that lists it, and of one that lists none.
+// The caller `write_then_read` of `callers`: three blocks over a marked one, of a pack that lists it, and of one that lists none.
 use crate::few_blocks::{FewBlocks, Wrong, few_blocks};
 use bad144_table::{empty_table, insert, write_table};
-use blocking_rows::{attached, write_then_read};
+use callers::{attached, write_then_read};
 use mass_outside::mem_streams::SureSink;
 use outside_traits::traits::Packs;
 use pack_geometry::{DriveKind, Place, copy_block};

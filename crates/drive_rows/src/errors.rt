@@ -1,7 +1,7 @@
 // The texts of errors. The program prints none of them.
 use bad144_table::{InsertFault, TableFault};
 use bad144_tool::ToolFault;
-use blocking_rows::{RawFault, Stop};
+use callers::{RawFault, Stop};
 use command_parts::load::LoadFault;
 use main_memory::NoFrames;
 use mass_text::NumberFault;

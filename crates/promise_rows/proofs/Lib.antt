@@ -10,3 +10,4 @@ mod Raw
 mod Cache
 mod Cached
 mod Shown
+mod Waited

@@ -13,3 +13,4 @@ pub mod Raw
 pub mod Cache
 pub mod Cached
 pub mod Caller
+pub mod Waited

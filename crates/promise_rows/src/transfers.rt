@@ -2,16 +2,19 @@
 //! functions here do nothing: each stands for a law.
 
 ghost use Rattle.promise_rows.specs.Raw.{DrainEndsEarly, ReadComesFromThePack, DriveIsOffline, WriteBeforeItsLines, DoneInBlocks, DumpAtTheFront, OutsideByOne, EdgeWithoutItsBytes};
+ghost use Rattle.promise_rows.specs.Waited.{AnswerLeftUntaken, UnforwardedCountsTheBadBlock};
 ghost use Rattle.promise_rows.specs.Cache.{ChangedEntryDropped, AnotherBlockWrittenBack, RefusedInsertionNotCounted, RefusedRisesAtAStop, SyncStopsEarly, RefusedInsertionPromotes, AnotherBlockWritten, BlockAlwaysFound};
 ghost use Rattle.promise_rows.specs.Cached.{LastSyncForgotten, BlockOlderThanTheLastSync, CachedBytesBeyondTheDrive, CachedNotAsLongAsWritten, LaterLinesPlayedBehindASinkThatFailed, CacheOfAnotherSize, SyncThatWritesNothing, LastUnusableBlockOk, FaultCalledThatOfASink, WriteAnsweredBeforeItIsDone, UnitBehindASync};
 
 /// Of a request that is waited for: it has ended, a read gives the bytes of its blocks, nothing hinders a driver that is ready for one, and
-/// before a block is written all lines are sent.
+/// before a block is written all lines are sent; behind it no answer waits, and a block that can't be used is not counted as done.
 pub fn asked_rows()
     ensures drain_ends_early { DrainEndsEarly }
     ensures read_comes_from_the_pack { ReadComesFromThePack }
     ensures drive_is_offline { DriveIsOffline }
     ensures write_before_its_lines { WriteBeforeItsLines }
+    ensures answer_left_untaken { AnswerLeftUntaken }
+    ensures unforwarded_counts_the_bad_block { UnforwardedCountsTheBadBlock }
 {}
 
 /// Of a raw transfer: bytes are counted, a dump ends its partition, the last byte of a partition is inside, and a block that is written in

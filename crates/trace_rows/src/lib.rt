@@ -1,7 +1,7 @@
 //! Rows of traces: scripts over packs with the traces that belong to them, each proved legal by computation, and lines out of
 //! place, each refused by its rule. The rows stand as text in `docs/trace-rows`, and `rows.py` there writes this crate anew.
 //!
-//! What is proved: 39 worked traces are legal, and each of 96 lines out of place is refused by its rule, by computation.
+//! What is proved: 39 worked traces are legal, and each of 101 lines out of place is refused by its rule, by computation.
 #![tactic(auto)]
 
 ghost use Rattle.std.specs.Prelude.{◌≡◌, ◌++◌, true, false, replicate, None, [], ◌∷◌, codes};

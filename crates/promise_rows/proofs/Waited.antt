@@ -10,8 +10,7 @@ use Rattle.blocking_io.specs.Asking.{Answers, setup_at}
 use Rattle.blocking_io.specs.FrontsPasses.{reached_by}
 use Rattle.blocking_io.specs.declared.reached.Reached.TheVariants.{Before}
 use Rattle.blocking_io.proofs.FrontsBlocks.{first_is}
-use Rattle.blocking_rows.specs.Outcomes.{UnforwardedCountsTheBadBlock}
-use Rattle.blocking_rows.proofs.outcomes.waited_law.Goals as goal
+use Rattle.promise_rows.specs.Waited.{AnswerLeftUntaken, UnforwardedCountsTheBadBlock}
 
 ok_is_all : (written : Bool) (bytes : List ℕ) (done : ℕ) → reached_by (if written then WriteOk else ReadOk bytes) ≡ Before done → ⊥
 ok_is_all true bytes done is = cc is
@@ -37,13 +36,10 @@ by_met met.Outside blocks first bad done r none past is = cc is
 by_met met.Eof blocks first bad done r none past is = cc is
 by_met (met.Inside at) blocks first bad done r none past is = by_first blocks first bad done r (first_unusable r.count blocks first 0) refl none past is
 
-pub returns-clause-answer_left_untaken : goal.returns-clause-answer_left_untaken
-returns-clause-answer_left_untaken c = λ s ready waits. waits ready.quiet.taken
+pub answer_left_untaken : AnswerLeftUntaken
+answer_left_untaken s ready waits = waits ready.quiet.taken
 
-counted : UnforwardedCountsTheBadBlock
-counted line bad done r old new answers tells tables none past is =
+pub unforwarded_counts_the_bad_block : UnforwardedCountsTheBadBlock
+unforwarded_counts_the_bad_block line bad done r old new answers tells tables none past is =
     let s = setup_at old in
     by_met (met_in s r) (map_of s r.unit) (first_in s r) bad done r none past (sym (answers.mapped tells tables).reached ∙ is)
-
-pub returns-clause-unforwarded_counts_the_bad_block : goal.returns-clause-unforwarded_counts_the_bad_block
-returns-clause-unforwarded_counts_the_bad_block c = counted

@@ -3,7 +3,7 @@ use Rattle.pack_geometry.specs.declared.DriveKind.TheVariants.{Rm03}
 use Rattle.driver_machine.specs.World.{Setup, new_world}
 use Rattle.hp_driver.specs.Subsystem.{State}
 use Rattle.blocking_io.specs.Asking.{IsReady}
-use Rattle.blocking_rows.proofs.caller.attached.Goals as goal
+use Rattle.callers.proofs.attaching.attached.Goals as goal
 
 pub returns-in-Ok-new-clause-ready : goal.returns-in-Ok-new-clause-ready
 returns-in-Ok-new-clause-ready g c =
