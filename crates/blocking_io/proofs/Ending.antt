@@ -2,7 +2,7 @@
 use Rattle.std.proofs.Common.{◌≡◌, ℕ, ◌≤◌, Bool, IsTrue, List, [], ◌∷◌, ◌++◌, None, refl, sym, ap, subst, ◌∙◌, append-nil}
 use Rattle.pack_geometry.specs.Pack.{Pack}
 use Rattle.trace_replay.specs.requests.Requests.{Request, IsRequest}
-use Rattle.trace_replay.specs.Moments.{Moment, Idle, Answered, answers_in}
+use Rattle.trace_replay.specs.Moments.{Moment, Played, Idle, Answered, answers_in}
 use Rattle.trace_replay.specs.Script as script
 use Rattle.trace_replay.specs.Script.{IsThere}
 use Rattle.trace_replay.specs.Text.{trace_text, moment_text}
@@ -16,6 +16,8 @@ use Rattle.driver_machine.specs.Guards.{IsSetUp}
 use Rattle.driver_machine.specs.Sound.{Sound, AtWork}
 use Rattle.driver_machine.specs.Runs.{NoneOutstanding}
 use Rattle.driver_laws.specs.shown.RunsRuns.{Stay}
+use Rattle.driver_laws.specs.shown.Lengths.{AreAsLong}
+use Rattle.driver_laws.proofs.shown.Lengths.{empty_drains_keep_lengths}
 use Rattle.driver_laws.specs.shown.Calls.{Stands}
 use Rattle.driver_laws.proofs.shown.DrainsLaws.{drain_left, none_outstanding}
 use Rattle.driver_laws.specs.rules.Sessions.{IsSession, behind, behind_all, waited, told_in}
@@ -31,7 +33,7 @@ use Rattle.hp_driver.proofs.Passes.{Waits}
 use Rattle.blocking_io.specs.Given.{Given, gives_all, reached_by, bytes_by}
 use Rattle.blocking_io.specs.Calls.{Stage}
 use Rattle.blocking_io.specs.Asking.{Answers}
-use Rattle.blocking_io.proofs.Waiting.{first_part, still_up, more_told, more_given, IsAskedTo, SoAsked, IsDrainedTo, SoDrained, Turns}
+use Rattle.blocking_io.proofs.Waiting.{first_part, asked_moments, drained_moments, still_up, more_told, more_given, IsAskedTo, SoAsked, IsDrainedTo, SoDrained, Turns}
 
 -- ---- QUIET
 quiet_of : (held : ℕ → Pack) (w : World) (s : Replay) → Stands held w s → IsCalm s → NoneOutstanding w → w.answers ≡ [] → IsQuiet w
@@ -77,6 +79,7 @@ pub record IsEnd (line : ℕ) (r : Request) (asked drained : List Moment) (old n
   pub given : now.given ≡ gives_all (answers_in (asked ++ drained)) old.given
   pub setup : setup_of now.world now.held ≡ with_packs (setup_of old.world old.held) now.held
   pub stay : IsTrue now.packs_tell → Stay (setup_of old.world old.held).drives old.held now.held
+  pub long : IsTrue now.packs_tell → (s : Replay) → StandsQuiet old.held old.world s → AreAsLong s (drained_moments line r asked drained) old.held now.held
   pub ended : IsTrue now.packs_tell → (s : Replay) → StandsQuiet old.held old.world s → Ended line r asked drained now s
 
 module _ (line : ℕ) (r : Request) (asked drained : List Moment) (old now : Stage) (sound : Sound old.world) (work : AtWork old.world) (quiet : IsQuiet old.world)
@@ -118,6 +121,8 @@ module _ (line : ℕ) (r : Request) (asked drained : List Moment) (old now : Sta
     units = λ u set. still_up old.world now.world old.held now.held u end.setup set;
     setup = end.setup;
     stays = end.stay;
+    long = λ t s q. subst (λ (ms : List Moment). AreAsLong s ms old.held now.held)
+        (ap (λ (ms : List Moment). asked_moments line r asked ++ Played line script.Drain ∷ ms) (sym (append-nil drained))) (end.long t s q);
     mapped = λ t tables. record {
       follows = λ s q. record {
         session = (end.ended t s q).session;
@@ -147,6 +152,7 @@ drained_answers line r old now sound work quiet unit is some idle so =
       given = so.given;
       setup = so.setup;
       stay = so.stay;
+      long = so.long;
       ended = λ t s q.
           let at : IsDrainedTo line r so.asked so.drained now s = so.far t s q in
           record {
@@ -168,6 +174,8 @@ nothing_answers line r old mid now sound work quiet unit is some idle same_world
       setup = subst (λ (w : World). setup_of w now.held ≡ with_packs (setup_of old.world old.held) now.held) (sym same_world)
           (subst (λ (held : ℕ → Pack). setup_of mid.world held ≡ with_packs (setup_of old.world old.held) held) (sym same_held) so.setup);
       stay = λ t. subst (Stay (setup_of old.world old.held).drives old.held) (sym same_held) so.stay;
+      long = λ t s q. subst (AreAsLong s (drained_moments line r so.asked (Idle line ∷ [])) old.held) (sym same_held)
+          (empty_drains_keep_lengths s (asked_moments line r so.asked) old.held mid.held mid.world line (so.long s q));
       ended = λ t s q.
           let at : IsAskedTo line r so.asked mid s = so.far s q in
           let goes : GoesTo line script.Drain mid.held mid.world (behind s (first_part line r so.asked)) (Nothing line ∷ []) =

@@ -1,13 +1,13 @@
 -- Sessions of requests, one behind the other.
-use Rattle.std.proofs.Common.{◌≡◌, inl, inr, ℕ, ◌==◌, not, List, [], ◌∷◌, ◌++◌, Option, refl, sym, ap, subst, ◌∙◌, append-nil, append_assoc}
+use Rattle.std.proofs.Common.{◌≡◌, inl, inr, ℕ, ◌==◌, not, List, [], ◌∷◌, ◌++◌, length, Option, refl, sym, ap, subst, ◌∙◌, append-nil, append_assoc}
 use Rattle.std.specs.Prelude.{slice_index}
 use Rattle.std.proofs.lemmas.Grind.{flat_map-append}
 use Rattle.pack_geometry.specs.declared.DriveKind.{DriveKind}
 use Rattle.pack_geometry.specs.Pack.{Pack}
-use Rattle.trace_replay.specs.Moments.{Moment}
+use Rattle.trace_replay.specs.Moments.{Moment, Played}
 use Rattle.trace_replay.specs.Text.{trace_text, moment_text}
 use Rattle.trace_replay.specs.Packs.{Surface}
-use Rattle.trace_replay.specs.Replay.{Replay, AreLeft}
+use Rattle.trace_replay.specs.Replay.{Replay, AreLeft, after_moment, after_moments}
 use Rattle.driver_laws.specs.rules.Beginnings.{with_next}
 use Rattle.driver_laws.specs.rules.Stands.{Setup}
 use Rattle.driver_laws.specs.answers.Outcome.{IsFront}
@@ -15,12 +15,15 @@ use Rattle.driver_laws.specs.declared.answers.outcome.Stop.{Stop}
 use Rattle.driver_laws.specs.declared.answers.outcome.Stop.TheVariants.{Store, Sink}
 use Rattle.driver_laws.proofs.answers.Joined.{front_more, front_of_front}
 use Rattle.driver_laws.specs.shown.RunsRuns.{Stay}
+use Rattle.driver_laws.specs.shown.Lengths.{length_behind, AreAsLong}
+use Rattle.driver_laws.proofs.shown.Lengths.{long_append}
+use Rattle.driver_laws.proofs.shown.TraceRuns.{moments_append}
 use Rattle.driver_laws.specs.shown.NextBlock.{HasNext}
 use Rattle.driver_laws.specs.rules.Sessions.{Part, IsSession, behind, behind_all, waited, told_in}
 use Rattle.driver_laws.specs.rules.Waited.{with_packs}
 use Rattle.hp_driver.specs.Passes.{StandsQuiet}
 use Rattle.blocking_io.specs.Calls.{Stage}
-use Rattle.blocking_io.specs.Asking.{setup_at}
+use Rattle.blocking_io.specs.Asking.{setup_at, moments_in}
 use Rattle.blocking_io.specs.Stopping.{Took, LeftAt, IsCut, begun}
 use Rattle.blocking_io.specs.Sessions.{Reaches, AnswersReach, SessionsJoin, StopsJoin, TwoThenStop}
 
@@ -36,6 +39,24 @@ behind_append s (x ∷ xs) ys = behind_append (behind s x) xs ys
 told_append : (xs ys : List Part) → told_in (xs ++ ys) ≡ told_in xs ++ told_in ys
 told_append [] ys = refl
 told_append (x ∷ xs) ys = ap (λ (ms : List Moment). x.told ++ ms) (told_append xs ys) ∙ sym (append_assoc x.told (told_in xs) (told_in ys))
+
+moments_both : (xs ys : List Part) → moments_in (xs ++ ys) ≡ moments_in xs ++ moments_in ys
+moments_both [] ys = refl
+moments_both (x ∷ xs) ys = ap (λ (ms : List Moment). Played x.line x.input ∷ ms)
+    (ap (λ (ms : List Moment). x.told ++ ms) (moments_both xs ys) ∙ sym (append_assoc x.told (moments_in xs) (moments_in ys)))
+
+behind_moments : (s : Replay) (xs : List Part) → behind_all s xs ≡ after_moments s (moments_in xs)
+behind_moments s [] = refl
+behind_moments s (x ∷ xs) = behind_moments (behind s x) xs ∙ sym (moments_append (after_moment s (Played x.line x.input)) x.told (moments_in xs))
+
+-- images as long as both have made them
+long_both : (s : Replay) (xs ys : List Part) (old mid new : ℕ → Pack) → AreAsLong s (moments_in xs) old mid → AreAsLong (behind_all s xs) (moments_in ys) mid new → AreAsLong s (moments_in (xs ++ ys)) old new
+long_both s xs ys old mid new one other unit =
+    other unit
+    ∙ ap (λ (n : ℕ). length_behind (behind_all s xs) (moments_in ys) unit n) (one unit)
+    ∙ ap (λ (z : Replay). length_behind z (moments_in ys) unit (length_behind s (moments_in xs) unit (length (old unit).image))) (behind_moments s xs)
+    ∙ sym (long_append s (moments_in xs) (moments_in ys) unit (length (old unit).image))
+    ∙ ap (λ (ms : List Moment). length_behind s ms unit (length (old unit).image)) (sym (moments_both xs ys))
 
 both_text : (xs ys : List Part) → trace_text (told_in (xs ++ ys)) ≡ trace_text (told_in xs) ++ trace_text (told_in ys)
 both_text xs ys = ap trace_text (told_append xs ys) ∙ flat_map-append moment_text (told_in xs) (told_in ys)
@@ -98,6 +119,7 @@ answers_reach line r old new answers = record {
   trace = λ t. answers.trace t ∙ ap (λ (ms : List Moment). old.taken ++ trace_text (answers.asked ++ ms)) (sym (append-nil answers.drained));
   setup = answers.setup;
   stays = answers.stays;
+  long = λ t tables s q. answers.long t s q;
   tables = λ t tables. (answers.mapped t tables).tables;
   reaches = λ t tables s q. record {
     session = ((answers.mapped t tables).follows s q).session;
@@ -115,6 +137,8 @@ sessions_join xs ys old mid new first next still = record {
   setup = next.setup ∙ ap (λ (z : Setup). with_packs z new.held) first.setup;
   stays = λ t. stay_both (setup_at old).drives old.held mid.held new.held (first.stays (still.packs t))
       (subst (λ (drives : ℕ → Option DriveKind). Stay drives mid.held new.held) (same_drives old mid first.setup) (next.stays t));
+  long = λ t tables s q. long_both s xs ys old.held mid.held new.held (first.long (still.packs t) tables s q)
+      (next.long t (first.tables (still.packs t) tables) (behind_all s xs) (first.reaches (still.packs t) tables s q).stands);
   tables = λ t tables. next.tables t (first.tables (still.packs t) tables);
   reaches = λ t tables s q.
       let one : Reaches xs mid s = first.reaches (still.packs t) tables s q in

@@ -5,11 +5,11 @@ use Rattle.std.proofs.lemmas.Grind.{flat_map-append}
 use Rattle.pack_geometry.specs.declared.DriveKind.{DriveKind}
 use Rattle.pack_geometry.specs.Pack.{Pack}
 use Rattle.trace_replay.specs.requests.Requests.{Request, IsRequest}
-use Rattle.trace_replay.specs.Moments.{Moment, Answered, played, answers_in}
+use Rattle.trace_replay.specs.Moments.{Moment, Played, Answered, played, answers_in}
 use Rattle.trace_replay.specs.Script as script
 use Rattle.trace_replay.specs.Script.{Input}
 use Rattle.trace_replay.specs.Text.{trace_text, moment_text}
-use Rattle.trace_replay.specs.Replay.{Replay}
+use Rattle.trace_replay.specs.Replay.{Replay, after_moment, after_moments}
 use Rattle.driver_laws.specs.rules.Stands.{Setup}
 use Rattle.driver_machine.specs.World.{World, unit_at}
 use Rattle.driver_machine.specs.Acts.{Act, Taken, after, after_all}
@@ -22,6 +22,10 @@ use Rattle.driver_laws.specs.answers.Packs.{packs_after_all}
 use Rattle.driver_laws.proofs.answers.Units.{setups_stay}
 use Rattle.driver_laws.proofs.answers.Waiting.{events_alone, submissions_alone}
 use Rattle.driver_laws.specs.shown.RunsRuns.{AreDeclared, Stay}
+use Rattle.driver_laws.specs.shown.Lengths.{AreAsLong}
+use Rattle.driver_laws.specs.shown.Within.{ShowsAll}
+use Rattle.driver_laws.proofs.shown.Lengths.{drained_shows, first_events_keep_lengths, later_events_keep_lengths, submissions_keep_lengths}
+use Rattle.driver_laws.proofs.shown.TraceRuns.{moments_append}
 use Rattle.driver_laws.proofs.shown.RunsLaws.{runs_keep}
 use Rattle.driver_laws.proofs.shown.Inputted.{lines_play_nothing}
 use Rattle.driver_laws.specs.rules.Sessions.{Part, MayPlay, IsPart, behind}
@@ -153,6 +157,9 @@ pub record IsAskedTo (line : ℕ) (r : Request) (asked : List Moment) (now : Sta
   pub part : IsPart s (first_part line r asked)
   pub opened : IsOpen now.held now.world (behind s (first_part line r asked))
 
+abbrev pub asked_moments : ℕ → Request → List Moment → List Moment
+asked_moments line r asked = Played line (script.Submit r) ∷ asked
+
 pub record SoAsked (line : ℕ) (r : Request) (old now : Stage) : Type 0 where
   pub asked : List Moment
   pub trace : IsTrue now.trace_tells → now.taken ≡ old.taken ++ trace_text asked
@@ -162,6 +169,7 @@ pub record SoAsked (line : ℕ) (r : Request) (old now : Stage) : Type 0 where
   pub setup : setup_of now.world now.held ≡ with_packs (setup_of old.world old.held) now.held
   pub waits : Waits 812800 now.world
   pub stay : Stay (setup_of old.world old.held).drives old.held now.held
+  pub long : (s : Replay) → StandsQuiet old.held old.world s → AreAsLong s (asked_moments line r asked) old.held now.held
   pub far : (s : Replay) → StandsQuiet old.held old.world s → IsAskedTo line r asked now s
 
 pub asked_so : (line : ℕ) (r : Request) (old now : Stage) → Sound old.world → AtWork old.world → IsQuiet old.world → IsRequest r → 1 ≤ line → GivesSubmission line r old now
@@ -182,6 +190,8 @@ asked_so line r old now sound work quiet is some gives =
       stay = subst (Stay (setup_of old.world old.held).drives old.held) (sym gives.packs)
           (acts_stay (setup_of old.world old.held).drives old.held old.held old.world acts sound gives.acts.run (are_declared old.world old.held)
           (none_stays (setup_of old.world old.held).drives old.held));
+      long = λ s q. subst (AreAsLong s (asked_moments line r lines) old.held) (sym gives.packs)
+          (submissions_keep_lengths s [] old.held old.held old.world line gives.slot r gives.held (λ unit. refl));
       far = λ s q.
           let goes : GoesTo line (script.Submit r) old.held old.world s acts = quiet_submits line gives.slot r gives.held old.held old.world s q gives.may gives.is some in
           record {
@@ -198,6 +208,9 @@ pub record IsDrainedTo (line : ℕ) (r : Request) (asked drained : List Moment) 
   pub may : MayPlay (behind s (first_part line r asked))
   pub from : DrainsFrom line (behind s (first_part line r asked)) drained now.held now.world
 
+abbrev pub drained_moments : ℕ → Request → (asked drained : List Moment) → List Moment
+drained_moments line r asked drained = asked_moments line r asked ++ Played line script.Drain ∷ drained
+
 pub record SoDrained (line : ℕ) (r : Request) (old now : Stage) : Type 0 where
   pub asked : List Moment
   pub drained : List Moment
@@ -208,6 +221,7 @@ pub record SoDrained (line : ℕ) (r : Request) (old now : Stage) : Type 0 where
   pub unit : IsSetUp now.world r.unit
   pub setup : setup_of now.world now.held ≡ with_packs (setup_of old.world old.held) now.held
   pub stay : IsTrue now.packs_tell → Stay (setup_of old.world old.held).drives old.held now.held
+  pub long : IsTrue now.packs_tell → (s : Replay) → StandsQuiet old.held old.world s → AreAsLong s (drained_moments line r asked drained) old.held now.held
   pub far : IsTrue now.packs_tell → (s : Replay) → StandsQuiet old.held old.world s → IsDrainedTo line r asked drained now s
 
 -- and all lines are sent
@@ -223,6 +237,7 @@ drained_sent line r old mid w tells taken same still sent so = record {
   unit = subst (λ (v : World). IsSetUp v r.unit) (sym same) so.unit;
   setup = subst (λ (v : World). setup_of v mid.held ≡ with_packs (setup_of old.world old.held) mid.held) (sym same) so.setup;
   stay = so.stay;
+  long = so.long;
   far = λ t s q.
       let at : IsDrainedTo line r so.asked so.drained mid s = so.far t s q in
       record {
@@ -262,6 +277,8 @@ first_drained line r input old mid now some still still_traced sound work is so 
       setup = next_setup old mid now acts so.setup gives.acts.world;
       stay = λ t. subst (Stay (setup_of old.world old.held).drives old.held) (sym (gives.packs t))
           (acts_stay (setup_of old.world old.held).drives old.held mid.held mid.world acts sound gives.acts.run (declared_now old.world mid.world old.held mid.held so.setup) so.stay);
+      long = λ t s q. subst (AreAsLong s (drained_moments line r so.asked lines) old.held) (sym (gives.packs t))
+          (first_events_keep_lengths s (asked_moments line r so.asked) old.held mid.held mid.world line input gives.tried sound (so.far s q).opened.stands.shows gives.acts.run (so.long s q));
       far = λ t s q.
           let at : IsAskedTo line r so.asked mid s = so.far s q in
           record {
@@ -288,6 +305,14 @@ first_turns line r input old mid now some is so gives =
     less : (n : ℕ) → n < 812800 → 0 + n ≤ 812800
     less n lt = omega (arith, lt)
 
+-- the replay behind the moments so far shows the world
+shows_drained : (line : ℕ) (r : Request) (asked drained : List Moment) (mid : Stage) (s : Replay) → IsDrainedTo line r asked drained mid s
+    → ShowsAll mid.world (after_moments s (drained_moments line r asked drained))
+shows_drained line r asked drained mid s at =
+    let ends = at.from.draining.ends in
+    subst (ShowsAll mid.world) (sym (moments_append s (asked_moments line r asked) (Played line script.Drain ∷ drained)))
+    (subst (ShowsAll mid.world) (sym ends.is) (drained_shows mid.world ends.last ends.over.rests.shows))
+
 pub more_drained : (line : ℕ) (r : Request) (input : Input) (old mid now : Stage) → (IsTrue now.packs_tell → IsTrue mid.packs_tell) → (IsTrue now.trace_tells → IsTrue mid.trace_tells)
     → Sound mid.world → AtWork mid.world → next_event mid.world ≡ Some input → SoDrained line r old mid → GivesEvent line input mid now → SoDrained line r old now
 more_drained line r input old mid now still still_traced sound work is so gives =
@@ -309,6 +334,10 @@ more_drained line r input old mid now still still_traced sound work is so gives 
       setup = next_setup old mid now acts so.setup gives.acts.world;
       stay = λ t. subst (Stay (setup_of old.world old.held).drives old.held) (sym (gives.packs t))
           (acts_stay (setup_of old.world old.held).drives old.held mid.held mid.world acts sound gives.acts.run (declared_now old.world mid.world old.held mid.held so.setup) (so.stay (still t)));
+      long = λ t s q. subst (AreAsLong s (drained_moments line r so.asked (so.drained ++ lines)) old.held) (sym (gives.packs t))
+          (subst (λ (ms : List Moment). AreAsLong s ms old.held (packs_after_all mid.world mid.held acts)) (append_assoc (asked_moments line r so.asked) (Played line script.Drain ∷ so.drained) lines)
+          (later_events_keep_lengths s (drained_moments line r so.asked so.drained) old.held mid.held mid.world line input gives.tried sound
+          (shows_drained line r so.asked so.drained mid s (so.far (still t) s q)) gives.acts.run (so.long (still t) s q)));
       far = λ t s q.
           let at : IsDrainedTo line r so.asked so.drained mid s = so.far (still t) s q in
           record {

@@ -1,15 +1,16 @@
 -- A REQUEST THAT IS WAITED FOR, as its callers see it: over the driver's world and the packs before and after.
-use Rattle.std.specs.Prelude.{◌≡◌, ℕ, ◌≤◌, false, IsTrue, List, [], ◌++◌, Some}
+use Rattle.std.specs.Prelude.{◌≡◌, ℕ, ◌≤◌, false, IsTrue, List, [], ◌∷◌, ◌++◌, Some}
 use Rattle.pack_geometry.specs.Pack.{block_at}
 use Rattle.trace_replay.specs.requests.Requests as told
 use Rattle.trace_replay.specs.requests.Requests.{IsRequest}
-use Rattle.trace_replay.specs.Moments.{Moment}
+use Rattle.trace_replay.specs.Moments.{Moment, Played}
 use Rattle.trace_replay.specs.Text.{trace_text}
 use Rattle.trace_replay.specs.Replay.{Replay, IsOver}
 use Rattle.driver_laws.specs.rules.Stands.{Setup, home_in}
 use Rattle.driver_machine.specs.Guards.{IsSetUp}
 use Rattle.driver_laws.specs.shown.RunsRuns.{Stay}
-use Rattle.driver_laws.specs.rules.Sessions.{IsSession, behind_all, waited}
+use Rattle.driver_laws.specs.shown.Lengths.{AreAsLong}
+use Rattle.driver_laws.specs.rules.Sessions.{Part, IsSession, behind_all, waited}
 use Rattle.driver_laws.specs.rules.Rest.{HasTables}
 use Rattle.driver_laws.specs.rules.Waited.{map_of, answer_in, map_behind, with_packs}
 use Rattle.hp_driver.specs.Passes.{IsQuiet, setup_of, StandsQuiet}
@@ -37,6 +38,11 @@ pub record MayAsk (s : State) (r : Request) (bytes : List ℕ) : Type 0 where
 abbrev pub setup_at : Stage → Setup
 setup_at stage = setup_of stage.world stage.held
 
+-- the moments of parts: each input, and the lines behind it
+abbrev pub moments_in : List Part → List Moment
+moments_in [] = []
+moments_in (p ∷ parts) = Played p.line p.input ∷ (p.told ++ moments_in parts)
+
 -- THE LINES of a request that was waited for are those of one session, from each replay that stands for the driver before, and the replay
 -- behind it stands for the driver after; so requests follow one another, and nobody has to know what came before.
 pub record Follows (line : ℕ) (r : told.Request) (asked drained : List Moment) (old new : Stage) (s : Replay) : Type 0 where
@@ -56,7 +62,7 @@ pub record IsMapped (line : ℕ) (r : told.Request) (asked drained : List Moment
   pub tables : HasTables (setup_at new)
 
 -- WHERE NOTHING STOPS IT. Units, kinds and tables of the driver stay; and of the packs, where they tell, what lies beyond their sectors,
--- the marks, and those of other units.
+-- the marks, and those of other units; and each image is just as long as the blocks that were written make it.
 pub record Answers (line : ℕ) (r : told.Request) (old new : Stage) : Type 0 where
   pub asked : List Moment
   pub drained : List Moment
@@ -64,4 +70,5 @@ pub record Answers (line : ℕ) (r : told.Request) (old new : Stage) : Type 0 wh
   pub units : (u : ℕ) → IsSetUp old.world u → IsSetUp new.world u
   pub setup : setup_at new ≡ with_packs (setup_at old) new.held
   pub stays : IsTrue new.packs_tell → Stay (setup_at old).drives old.held new.held
+  pub long : IsTrue new.packs_tell → (s : Replay) → StandsQuiet old.held old.world s → AreAsLong s (moments_in (waited line r asked drained)) old.held new.held
   pub mapped : IsTrue new.packs_tell → HasTables (setup_at old) → IsMapped line r asked drained old new

@@ -5,15 +5,17 @@ use Rattle.trace_replay.specs.Text.{trace_text}
 use Rattle.trace_replay.specs.Replay.{Replay}
 use Rattle.driver_laws.specs.declared.answers.outcome.Stop.{Stop}
 use Rattle.driver_laws.specs.shown.RunsRuns.{Stay}
+use Rattle.driver_laws.specs.shown.Lengths.{AreAsLong}
 use Rattle.driver_laws.specs.rules.Sessions.{Part, IsSession, behind_all, waited, told_in}
 use Rattle.driver_laws.specs.rules.Rest.{HasTables}
 use Rattle.driver_laws.specs.rules.Waited.{with_packs}
 use Rattle.hp_driver.specs.Passes.{StandsQuiet}
 use Rattle.blocking_io.specs.Calls.{Stage}
-use Rattle.blocking_io.specs.Asking.{setup_at, Answers}
+use Rattle.blocking_io.specs.Asking.{setup_at, moments_in, Answers}
 use Rattle.blocking_io.specs.Stopping.{StopsIn, begun, Stops}
 
--- A SESSION THAT CAME TO ITS END, from each replay that stands for the driver before; the replay behind it stands for it after.
+-- A SESSION THAT CAME TO ITS END, from each replay that stands for the driver before; the replay behind it stands for it after, and each
+-- image is just as long as the blocks that were written make it.
 pub record Reaches (parts : List Part) (new : Stage) (s : Replay) : Type 0 where
   pub session : IsSession s parts
   pub stands : StandsQuiet new.held new.world (behind_all s parts)
@@ -22,6 +24,7 @@ pub record GoesOn (parts : List Part) (old new : Stage) : Type 0 where
   pub trace : IsTrue new.trace_tells → new.taken ≡ old.taken ++ trace_text (told_in parts)
   pub setup : setup_at new ≡ with_packs (setup_at old) new.held
   pub stays : IsTrue new.packs_tell → Stay (setup_at old).drives old.held new.held
+  pub long : IsTrue new.packs_tell → HasTables (setup_at old) → (s : Replay) → StandsQuiet old.held old.world s → AreAsLong s (moments_in parts) old.held new.held
   pub tables : IsTrue new.packs_tell → HasTables (setup_at old) → HasTables (setup_at new)
   pub reaches : IsTrue new.packs_tell → HasTables (setup_at old) → (s : Replay) → StandsQuiet old.held old.world s → Reaches parts new s
 

@@ -35,6 +35,7 @@ asks_of law line r old new a leaves = record {
       setup = g.setup;
       stays = g.stays;
       tables = g.tables;
+      long = g.long;
       reaches = λ t tables s q. record { session = (g.reaches t tables s q).session; stands = (g.reaches t tables s q).stands };
     }
 

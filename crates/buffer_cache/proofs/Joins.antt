@@ -18,6 +18,7 @@ asks_none line s = record {
     setup = refl;
     stays = λ t. (others_none (setup_at s)).stay;
     tables = λ t tables. tables;
+    long = λ t tables replay stands unit. refl;
     reaches = λ t tables replay stands. record { session = tt; stands = stands };
   };
   others = λ t tables. others_none (setup_at s);

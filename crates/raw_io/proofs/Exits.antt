@@ -31,6 +31,7 @@ transfers_of law reads r old new ask a = record {
       setup = g.setup;
       stays = g.stays;
       tables = g.tables;
+      long = g.long;
       reaches = λ t tables s q. record { session = (g.reaches t tables s q).session; stands = (g.reaches t tables s q).stands };
     }
 
