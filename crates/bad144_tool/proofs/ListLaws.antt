@@ -1,14 +1,18 @@
 -- The lines of a table's entries, one after another.
-use Rattle.std.proofs.Common.{◌≡◌, ℕ, suc, Bool, true, false, IsTrue, Result, Ok, Err, IsErr, ◌+◌, ◌<◌, ◌≤◌, List, [], ◌∷◌, ◌++◌, take, drop, length, get_or, Some, refl, sym, ap, ◌∙◌, subst, arith, append_assoc}
+use Rattle.std.proofs.Common.{◌≡◌, ℕ, suc, Bool, true, false, IsTrue, Result, Ok, Err, IsErr, ◌+◌, ◌<◌, ◌≤◌, List, [], ◌∷◌, ◌++◌, take, drop, length, get_or, Option, None, Some, refl, sym, ap, ◌∙◌, subst, arith, append_assoc}
 use Rattle.std.proofs.Math.Seq.{take-append-add, take-suc}
 use Rattle.std.proofs.lemmas.List.{take-append-le, take_min, length-take-le, take-append-drop}
 use Rattle.std.proofs.lemmas.Option.{get_or_from_slice_get, slice_get_within}
-use Rattle.std.specs.Prelude.{min, slice_get}
+use Rattle.std.specs.Prelude.{IfSome, min, slice_get}
 use Rattle.pack_geometry.specs.declared.DriveKind.{DriveKind}
 use Rattle.pack_geometry.specs.declared.Place.{Place}
+use Rattle.pack_geometry.specs.Pack.{Pack}
+use Rattle.pack_geometry.specs.PackTable.{IsTableOf}
+use Rattle.pack_geometry.specs.TableSpelling.{IsTable, Table}
 use Rattle.outside_traits.specs.Puts.{Puts, TakesFront}
 use Rattle.outside_traits.specs.Causes.{Rose}
-use Rattle.bad144_tool.specs.Texts.{entry_line, entry_lines}
+use Rattle.bad144_tool.specs.Adding.{Fits}
+use Rattle.bad144_tool.specs.Texts.{IsListed, entry_line, entry_lines}
 
 entry_lines-append : (kind : DriveKind) (j : ℕ) (xs ys : List Place) → entry_lines kind j (xs ++ ys) ≡ entry_lines kind j xs ++ entry_lines kind (j + length xs) ys
 entry_lines-append kind j [] ys = let same : j ≡ j + 0 = omega arith in ap (λ (n : ℕ). entry_lines kind n ys) same
@@ -110,3 +114,16 @@ puts_cut {taken = taken} {old = old} {new = new} {xs = xs} ys is first =
           (sym (take-append-le (min front.0 (length xs)) xs ys (omega arith) ∙ take_min front.0 xs)),
     ))
     first.cause.later first.cause.failed
+
+-- a table that was read is one of the drive's kind, and the pack's where the packs tell
+pub listed : (kind : DriveKind) (unit : ℕ) (tells : Bool) (old mid : ℕ → Pack) (table : Option Table) → IfSome table (λ t. t.kind ≡ kind) → IfSome table IsTable
+    → (IsTrue tells → Fits kind (old unit)) → (IsTrue tells → mid ≡ old) → (IsTrue tells → IsTableOf kind (mid unit) table) → IsListed kind tells (old unit) table
+listed kind unit tells old mid table drive valid fits same is = record {
+  valid = both table drive valid;
+  fits = fits;
+  table_is = λ t. subst (λ (packs : ℕ → Pack). IsTableOf kind (packs unit) table) (same t) (is t);
+}
+  where
+    both : (table : Option Table) → IfSome table (λ t. t.kind ≡ kind) → IfSome table IsTable → IfSome table (λ t. (t.kind ≡ kind) × IsTable t)
+    both None drive valid = tt
+    both (Some t) drive valid = (drive, valid)

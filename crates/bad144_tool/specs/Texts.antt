@@ -1,11 +1,11 @@
 -- What the tool prints. Numbers are decimal, and each line ends with LF.
-use Rattle.std.specs.Prelude.{◌≡◌, ℕ, ◌+◌, ◌*◌, ◌≤◌, Bool, IsTrue, List, [], ◌∷◌, ◌++◌, Option, None, Some, codes, decimal, length}
+use Rattle.std.specs.Prelude.{◌≡◌, ℕ, ◌+◌, ◌*◌, ◌≤◌, Bool, IsTrue, List, [], ◌∷◌, ◌++◌, Option, None, Some, IfSome, codes, decimal, length}
 use Rattle.pack_geometry.specs.declared.DriveKind.{DriveKind}
 use Rattle.pack_geometry.specs.declared.Place.{Place}
 use Rattle.pack_geometry.specs.Geometry.{block_count, block_number}
 use Rattle.pack_geometry.specs.Pack.{Pack}
 use Rattle.pack_geometry.specs.PackTable.{IsTableOf}
-use Rattle.pack_geometry.specs.TableSpelling.{Table}
+use Rattle.pack_geometry.specs.TableSpelling.{Table, IsTable}
 use Rattle.outside_traits.specs.Puts.{TakesFront}
 
 -- a name and its number
@@ -39,16 +39,21 @@ abbrev pub list_text : DriveKind → Option Table → List ℕ
 list_text kind None = no_table_line
 list_text kind (Some table) = table_line table ++ entry_lines kind 0 table.places
 
--- the list of the pack's table was taken, where the sink tells
-pub record Lists (kind : DriveKind) (pack : Pack) (tells : Bool) (taken taken_after : List ℕ) : Type 0 where
-  pub fits : length pack.image ≤ 512 * block_count kind
+-- a table of a drive of this kind, or none: whatever the packs tell, it is one that 512 bytes may spell; where they do, it is the pack's,
+-- whose image is not too long
+pub record IsListed (kind : DriveKind) (known : Bool) (pack : Pack) (table : Option Table) : Type 0 where
+  pub valid : IfSome table (λ t. (t.kind ≡ kind) × IsTable t)
+  pub fits : IsTrue known → length pack.image ≤ 512 * block_count kind
+  pub table_is : IsTrue known → IsTableOf kind pack table
+
+-- its list was taken, where the sink tells
+pub record Lists (kind : DriveKind) (known : Bool) (pack : Pack) (tells : Bool) (taken taken_after : List ℕ) : Type 0 where
   pub table : Option Table
-  pub table_is : IsTableOf kind pack table
+  pub is : IsListed kind known pack table
   pub told : IsTrue tells → taken_after ≡ taken ++ list_text kind table
 
 -- a front of it was taken
-pub record ListsFront (kind : DriveKind) (pack : Pack) (tells : Bool) (taken taken_after : List ℕ) : Type 0 where
-  pub fits : length pack.image ≤ 512 * block_count kind
+pub record ListsFront (kind : DriveKind) (known : Bool) (pack : Pack) (tells : Bool) (taken taken_after : List ℕ) : Type 0 where
   pub table : Option Table
-  pub table_is : IsTableOf kind pack table
+  pub is : IsListed kind known pack table
   pub told : IsTrue tells → TakesFront taken taken_after (list_text kind table)

@@ -1,4 +1,4 @@
-ghost use Rattle.std.specs.Prelude.{◌≡◌, ◌<◌, ◌+◌, [], ◌∷◌, if◌then◌else◌, IsTrue, IfOk, IfErr, length};
+ghost use Rattle.std.specs.Prelude.{◌≡◌, ◌<◌, ◌≤◌, ◌+◌, [], ◌∷◌, if◌then◌else◌, IsTrue, IfOk, IfErr, length};
 ghost use Rattle.pack_geometry.specs.Geometry.{block_number, IsInside};
 ghost use Rattle.outside_traits.specs.Causes.{HasCause};
 ghost use Rattle.bad144_tool.specs.Changes.{DoesAll};
@@ -69,6 +69,7 @@ fn mark_all<P: Packs>(
     requires kind { table.now.kind ≡ kind }
     ensures does { DoesAll P.tells P.held P.faults unit packs.old packs.new result (markings kind (P.held packs.old unit) table.now.places) }
     ensures counted { IfOk result (λ count. IsTrue (P.tells packs.new) → count ≡ length (to_mark kind (P.held packs.old unit) table.now.places)) }
+    ensures few { IfOk result (λ count. count ≤ 126) }
 {
     let mut count = 0u8;
     for i in 0..entries(table) {
@@ -89,6 +90,7 @@ pub fn mark<P: Packs>(packs: &mut P, unit: u8, kind: DriveKind) -> Result<u8, To
     requires { unit < 32 }
     ensures never_again { IsTrue (P.tells packs.new) → IsTrue (P.tells packs.old) }
     ensures marked { IfOk result (λ count. IsTrue (P.tells packs.new) → Marks kind unit (P.held packs.old) (P.held packs.new) count) }
+    ensures few { IfOk result (λ count. count ≤ 126) }
     ensures faults { IfErr result (IsMarkFault kind) }
     ensures why { IfErr result (λ fault. IsTrue (P.tells packs.new) → IsWhy kind (P.held packs.old unit) 0 fault) }
     ensures left { IfErr result (λ fault. IsTrue (P.tells packs.new) → LeavesMarks kind unit (P.held packs.old) (P.held packs.new) fault) }

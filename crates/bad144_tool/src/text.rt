@@ -1,6 +1,7 @@
 ghost use Rattle.std.specs.Prelude.{◌≡◌, ◌≤◌, ◌+◌, ◌++◌, length};
 ghost use Rattle.pack_geometry.specs.declared.DriveKind.{DriveKind};
 ghost use Rattle.pack_geometry.specs.Geometry.{block_number};
+ghost use Rattle.pack_geometry.specs.TableSpelling.{IsTable};
 ghost use Rattle.bad144_tool.specs.Texts.{entry_line, field_text, no_table_line, table_line};
 
 use bad144_table::{BadTable, entries, serial};
@@ -35,7 +36,8 @@ pub fn entry_line(i: u8, place: Place, block: u32) -> LineBuf
 
 /// The line that begins the list of a table: `serial S entries E`.
 pub(crate) fn table_line(table: &BadTable) -> LineBuf
-    ensures { result ≡ table_line table.now }
+    ensures text { result ≡ table_line table.now }
+    ensures valid { IsTable table.now }
 {
     let mut text = LineBuf::new();
     put_field(&mut text, "serial ", serial(table));

@@ -1,6 +1,6 @@
 ghost use Rattle.std.specs.Prelude.{◌≡◌, ◌≢◌, ℕ, ◌<◌, ◌≤◌, ◌*◌, [], ◌++◌, length, IsTrue, IfOk, IfErr, IfSome, OnOk, IsErrOf};
 ghost use Rattle.pack_geometry.specs.Geometry.{IsInside, block_count, block_number, limit_of};
-ghost use Rattle.pack_geometry.specs.TableSpelling.{Table, table_text};
+ghost use Rattle.pack_geometry.specs.TableSpelling.{IsTable, Table, table_text};
 ghost use Rattle.outside_traits.specs.Puts.{Puts};
 ghost use Rattle.bad144_tool.specs.Adding.{Adds, AreFree, Fits, HasTable, IsFirstMarked, MayList};
 ghost use Rattle.bad144_tool.specs.Changes.{IsCutShort, with_changes};
@@ -98,6 +98,7 @@ fn make_plan<P: Packs>(
     ensures never_again { IsTrue (P.tells packs.new) → IsTrue (P.tells packs.old) }
     ensures same { IsTrue (P.tells packs.new) → P.held packs.new ≡ P.held packs.old }
     ensures index { IfOk result (λ plan. plan.index < length plan.table.places) }
+    ensures room { IfOk result (λ plan. length plan.table.places ≤ 126) }
     ensures low { OnOk result (block < limit_of kind) }
     ensures may { IfOk result (λ plan. IsTrue (P.tells packs.new) →
         (old : Table) × MayList kind (P.held packs.old unit) block plan.index old plan.table) }
@@ -133,6 +134,7 @@ pub fn add<P: Packs>(
     requires block { block < block_count kind }
     ensures never_again { IsTrue (P.tells packs.new) → IsTrue (P.tells packs.old) }
     ensures added { IfOk result (λ i. IsTrue (P.tells packs.new) → Adds kind unit block way (P.held packs.old) (P.held packs.new) i) }
+    ensures index { IfOk result (λ i. i < 126) }
     ensures faults { IfErr result (IsAddFault kind) }
     ensures why { IfErr result (λ fault. IsTrue (P.tells packs.new) → IsWhy kind (P.held packs.old unit) block fault) }
     ensures left { IfErr result (λ fault. IsTrue (P.tells packs.new) → Leaves kind unit block way (P.held packs.old) (P.held packs.new) fault) }
@@ -199,7 +201,8 @@ fn write_none<O: Sink>(out: &mut O) -> Result<(), SinkFailed>
 
 /// Writes the line that begins the list of a table.
 fn write_head<O: Sink>(table: &BadTable, out: &mut O) -> Result<(), SinkFailed>
-    ensures { Puts O.tells O.taken O.faults out.old out.new result (the_line table.now) }
+    ensures puts { Puts O.tells O.taken O.faults out.old out.new result (the_line table.now) }
+    ensures valid { IsTable table.now }
 {
     write_all(out, table_line(table).as_bytes())
 }
@@ -207,7 +210,8 @@ fn write_head<O: Sink>(table: &BadTable, out: &mut O) -> Result<(), SinkFailed>
 /// Writes the list of a table.
 fn write_table<O: Sink>(table: &BadTable, kind: DriveKind, out: &mut O) -> Result<(), SinkFailed>
     requires { table.now.kind ≡ kind }
-    ensures { Puts O.tells O.taken O.faults out.old out.new result (the_line table.now ++ entry_lines kind 0 table.now.places) }
+    ensures puts { Puts O.tells O.taken O.faults out.old out.new result (the_line table.now ++ entry_lines kind 0 table.now.places) }
+    ensures valid { IsTable table.now }
 {
     write_head(table, out)?;
     write_entries(table, kind, out)
@@ -220,7 +224,8 @@ fn write_list<O: Sink>(
     out: &mut O,
 ) -> Result<(), SinkFailed>
     requires { IfSome table.now (λ t. t.kind ≡ kind) }
-    ensures { Puts O.tells O.taken O.faults out.old out.new result (list_text kind table.now) }
+    ensures puts { Puts O.tells O.taken O.faults out.old out.new result (list_text kind table.now) }
+    ensures valid { IfSome table.now IsTable }
 {
     match table {
         None => write_none(out),
@@ -242,11 +247,10 @@ pub fn list<P: Packs, O: Sink>(
     ensures never_again { IsTrue (P.tells packs.new) → IsTrue (P.tells packs.old) }
     ensures out_never_again { IsTrue (O.tells out.new) → IsTrue (O.tells out.old) }
     ensures same { IsTrue (P.tells packs.new) → P.held packs.new ≡ P.held packs.old }
-    ensures listed { OnOk result (IsTrue (P.tells packs.new) → Lists kind (P.held packs.old unit) (O.tells out.new) (O.taken out.old) (O.taken out.new)) }
+    ensures listed { OnOk result (Lists kind (P.tells packs.new) (P.held packs.old unit) (O.tells out.new) (O.taken out.old) (O.taken out.new)) }
     ensures faults { IfErr result (IsListFault kind) }
     ensures why { IfErr result (λ fault. IsTrue (P.tells packs.new) → IsWhy kind (P.held packs.old unit) 0 fault) }
-    ensures front { IsErrOf result ToolFault.Sink → IsTrue (P.tells packs.new) →
-        ListsFront kind (P.held packs.old unit) (O.tells out.new) (O.taken out.old) (O.taken out.new) }
+    ensures front { IsErrOf result ToolFault.Sink → ListsFront kind (P.tells packs.new) (P.held packs.old unit) (O.tells out.new) (O.taken out.old) (O.taken out.new) }
     ensures silent { IfErr result (λ fault. fault ≢ ToolFault.Sink → out.new ≡ out.old) }
     ensures store { IsCounted ToolFault.Store (P.faults packs.old) (P.faults packs.new) result }
     ensures sink { IsCounted ToolFault.Sink (O.faults out.old) (O.faults out.new) result }

@@ -43,7 +43,7 @@ use std::alloc::Global;
 /// | 4 | SourceFailed | only where the source's count of faults rose | nothing |
 /// | 5 | SinkFailed | only where the count of `out` or of `trace` rose | nothing further |
 /// | 6 | PacksFailed | only where the packs' count rose | of `play` and `cached` the answers so far; else nothing |
-/// | 7 | TooLong | only where the image of a declared unit, or of the unit of any other command, is longer than its pack, and there unless 4, 6 or 9 comes | `too long unit U length L` |
+/// | 7 | TooLong | only where the image of a declared unit, or of the unit of any other command, is longer than its pack, and there unless 4, 6 or 9 comes, or 10 for a range that is outside | `too long unit U length L` |
 /// | 8 | ToolRefused | only where `bad144 add` is refused, or `bad144 mark` finds no table, and there unless 6 or 7 comes | `refused no table`, `refused reserved`, `refused listed I`, `refused full`, `refused spare I` |
 /// | 9 | OutOfMemory | there was no memory, before the first line was played or the first block read or written; never of `bad144` | nothing |
 /// | 10 | TransferRefused | exactly where bytes to be transferred reach beyond the partition, or touch a block that can't be used, unless 4, 5, 6, 7 or 9 comes | `refused outside`; `refused unusable D`, or of a read the bytes before that block |

@@ -1,5 +1,5 @@
 -- What runs of `bad144` come to, from what the tool's calls answer.
-use Rattle.std.proofs.Common.{arith, ◌≡◌, ◌≢◌, inl, inr, ℕ, Bool, IsTrue, List, [], ◌++◌, refl, sym, ap, subst, ◌∙◌, zero, suc, take}
+use Rattle.std.proofs.Common.{arith, ◌≡◌, ◌≢◌, ◌<◌, ◌≤◌, inl, inr, ℕ, Bool, IsTrue, List, [], ◌++◌, refl, sym, ap, subst, ◌∙◌, zero, suc, take}
 use Rattle.std.proofs.lemmas.List.{append-nil}
 use Rattle.outside_traits.specs.Causes.{Rose}
 use Rattle.outside_traits.specs.Puts.{TakesFront}
@@ -78,11 +78,11 @@ module _ {kind : DriveKind} {unit block : ℕ} {way : AddWay} {tells : Bool} {ol
       (add_fault f is why left told)
 
   -- a block was added, and the sink took its text;
-  pub add_done : (index : ℕ) → (IsTrue tells → Adds kind unit block way old new index) → (IsTrue out_tells → after ≡ taken ++ entry_text index)
+  pub add_done : (index : ℕ) → index < 126 → (IsTrue tells → Adds kind unit block way old new index) → (IsTrue out_tells → after ≡ taken ++ entry_text index)
       → RunsAdd kind unit block way 0 tells old new out_tells taken after faults faults_after
-  add_done index adds told = record {
+  add_done index few adds told = record {
     statuses = inl refl;
-    added = λ e t. record { index = index; adds = adds t; told = λ e. told; front = λ e. absurd (omega (arith, e)) };
+    added = λ e. record { index = index; few = few; adds = adds; told = λ e. told; front = λ e. absurd (omega (arith, e)) };
     stopped = λ e. absurd (omega (arith, e));
     silent = λ e. absurd (omega (arith, e));
     too_long = λ e. absurd (omega (arith, e));
@@ -91,11 +91,11 @@ module _ {kind : DriveKind} {unit block : ℕ} {way : AddWay} {tells : Bool} {ol
   }
 
   -- or it failed, and took a front of it.
-  pub add_cut : (index : ℕ) → (IsTrue tells → Adds kind unit block way old new index) → Rose faults faults_after → (IsTrue out_tells → TakesFront taken after (entry_text index))
+  pub add_cut : (index : ℕ) → index < 126 → (IsTrue tells → Adds kind unit block way old new index) → Rose faults faults_after → (IsTrue out_tells → TakesFront taken after (entry_text index))
       → RunsAdd kind unit block way 5 tells old new out_tells taken after faults faults_after
-  add_cut index adds rose front = record {
+  add_cut index few adds rose front = record {
     statuses = inr (inl refl);
-    added = λ e t. record { index = index; adds = adds t; told = λ e. absurd (omega (arith, e)); front = λ e. (rose, front) };
+    added = λ e. record { index = index; few = few; adds = adds; told = λ e. absurd (omega (arith, e)); front = λ e. (rose, front) };
     stopped = λ e. absurd (omega (arith, e));
     silent = λ e. absurd (omega (arith, e));
     too_long = λ e. absurd (omega (arith, e));
@@ -143,7 +143,7 @@ fresh_fault (fault.Spare j) is why stopped same told = absurd is
 -- `bad144 list` answered a fault
 pub list_fault : {kind : DriveKind} {unit : ℕ} {tells : Bool} {old new : ℕ → Pack} {out_tells : Bool} {taken after : List ℕ} {faults faults_after : ℕ}
     → (f : ToolFault) → IsListFault kind f → (IsTrue tells → IsWhy kind (old unit) 0 f) → (IsTrue tells → new ≡ old)
-    → (f ≡ fault.Sink → IsTrue tells → ListsFront kind (old unit) out_tells taken after)
+    → (f ≡ fault.Sink → ListsFront kind tells (old unit) out_tells taken after)
     → (f ≢ fault.Sink → IsTrue out_tells → Told taken after (fault_text unit f) faults faults_after)
     → RunsList kind unit (status_code (fault_status f)) tells old new out_tells taken after faults faults_after
 unfolding fault_text
@@ -194,18 +194,18 @@ fresh_run {kind = kind} {unit = unit} {serial = serial} {tells = tells} {old = o
     (fresh_fault f is why stopped same told)
 
 -- a front of the list was taken, and then nothing more
-pub list_front : {kind : DriveKind} {pack : Pack} {mid_tells tells : Bool} {taken mid after : List ℕ} (faults faults_after : ℕ) → ListsFront kind pack mid_tells taken mid
-    → (IsTrue tells → IsTrue mid_tells) → (IsTrue tells → Told mid after [] faults faults_after) → ListsFront kind pack tells taken after
+pub list_front : {kind : DriveKind} {packs_tell : Bool} {pack : Pack} {mid_tells tells : Bool} {taken mid after : List ℕ} (faults faults_after : ℕ)
+    → ListsFront kind packs_tell pack mid_tells taken mid → (IsTrue tells → IsTrue mid_tells) → (IsTrue tells → Told mid after [] faults faults_after)
+    → ListsFront kind packs_tell pack tells taken after
 list_front {kind = kind} {taken = taken} {mid = mid} {after = after} faults faults_after front again told = record {
-  fits = front.fits;
   table = front.table;
-  table_is = front.table_is;
+  is = front.is;
   told = λ t. subst (λ (text : List ℕ). TakesFront taken text (list_text kind front.table)) (sym (nothing_more mid after faults faults_after (told t))) (front.told (again t));
 }
 
 pub list_run : {kind : DriveKind} {unit : ℕ} {status : Status} {tells : Bool} {old new : ℕ → Pack} {out_tells : Bool} {taken after : List ℕ} {faults faults_after : ℕ}
     → (f : ToolFault) → status ≡ fault_status f → IsListFault kind f → (IsTrue tells → IsWhy kind (old unit) 0 f) → (IsTrue tells → new ≡ old)
-    → (f ≡ fault.Sink → IsTrue tells → ListsFront kind (old unit) out_tells taken after)
+    → (f ≡ fault.Sink → ListsFront kind tells (old unit) out_tells taken after)
     → (f ≢ fault.Sink → IsTrue out_tells → Told taken after (fault_text unit f) faults faults_after)
     → RunsList kind unit (status_code status) tells old new out_tells taken after faults faults_after
 list_run {kind = kind} {unit = unit} {tells = tells} {old = old} {new = new} {out_tells = out_tells} {taken = taken} {after = after} {faults = faults} {faults_after = faults_after} f e is why same front told =
@@ -300,11 +300,11 @@ module _ {kind : DriveKind} {unit : ℕ} {tells : Bool} {old new : ℕ → Pack}
       (mark_fault f is why left told)
 
   -- the listed blocks were marked, and the sink took its text;
-  pub mark_done : (count : ℕ) → (IsTrue tells → Marks kind unit old new count) → (IsTrue out_tells → after ≡ taken ++ marked_text count)
+  pub mark_done : (count : ℕ) → count ≤ 126 → (IsTrue tells → Marks kind unit old new count) → (IsTrue out_tells → after ≡ taken ++ marked_text count)
       → RunsMark kind unit 0 tells old new out_tells taken after faults faults_after
-  mark_done count marks told = record {
+  mark_done count few marks told = record {
     statuses = inl refl;
-    marked = λ e t. record { count = count; marks = marks t; told = λ e. told; front = λ e. absurd (omega (arith, e)) };
+    marked = λ e. record { count = count; few = few; marks = marks; told = λ e. told; front = λ e. absurd (omega (arith, e)) };
     stopped = λ e. absurd (omega (arith, e));
     silent = λ e. absurd (omega (arith, e));
     too_long = λ e. absurd (omega (arith, e));
@@ -313,11 +313,11 @@ module _ {kind : DriveKind} {unit : ℕ} {tells : Bool} {old new : ℕ → Pack}
   }
 
   -- or it failed, and took a front of it.
-  pub mark_cut : (count : ℕ) → (IsTrue tells → Marks kind unit old new count) → Rose faults faults_after → (IsTrue out_tells → TakesFront taken after (marked_text count))
+  pub mark_cut : (count : ℕ) → count ≤ 126 → (IsTrue tells → Marks kind unit old new count) → Rose faults faults_after → (IsTrue out_tells → TakesFront taken after (marked_text count))
       → RunsMark kind unit 5 tells old new out_tells taken after faults faults_after
-  mark_cut count marks rose front = record {
+  mark_cut count few marks rose front = record {
     statuses = inr (inl refl);
-    marked = λ e t. record { count = count; marks = marks t; told = λ e. absurd (omega (arith, e)); front = λ e. (rose, front) };
+    marked = λ e. record { count = count; few = few; marks = marks; told = λ e. absurd (omega (arith, e)); front = λ e. (rose, front) };
     stopped = λ e. absurd (omega (arith, e));
     silent = λ e. absurd (omega (arith, e));
     too_long = λ e. absurd (omega (arith, e));

@@ -1,5 +1,5 @@
 -- What runs of `bad144` have done.
-use Rattle.std.specs.Prelude.{◌≡◌, ◌⊎◌, ℕ, ◌<◌, ◌*◌, Bool, IsTrue, List, [], ◌∷◌, ◌++◌, codes, decimal}
+use Rattle.std.specs.Prelude.{◌≡◌, ◌⊎◌, ℕ, ◌<◌, ◌≤◌, ◌*◌, Bool, IsTrue, List, [], ◌∷◌, ◌++◌, codes, decimal}
 use Rattle.pack_geometry.specs.declared.DriveKind.{DriveKind}
 use Rattle.pack_geometry.specs.Geometry.{block_count}
 use Rattle.outside_traits.specs.Causes.{Rose}
@@ -58,19 +58,21 @@ pub record RunsTooLong (kind : DriveKind) (unit : ℕ) (tells : Bool) (pack : Pa
   pub is : IsTrue tells → IsTooLong kind pack length
   pub told : IsTrue out_tells → Told taken after (too_long_text unit length) faults faults_after
 
--- `bad144 list`: nothing is changed; the list of the pack's table is printed, or a front of it where the sink failed
+-- `bad144 list`: nothing is changed; the list of a table is printed, which is the pack's where the packs tell; or a front of it where the sink
+-- failed
 pub record RunsList (kind : DriveKind) (unit code : ℕ) (tells : Bool) (old new : ℕ → Pack) (out_tells : Bool) (taken after : List ℕ) (faults faults_after : ℕ) : Type 0 where
   pub statuses : (code ≡ 0) ⊎ (code ≡ 5) ⊎ (code ≡ 6) ⊎ (code ≡ 7)
   pub same : IsTrue tells → new ≡ old
-  pub listed : code ≡ 0 → IsTrue tells → Lists kind (old unit) out_tells taken after
-  pub front : code ≡ 5 → IsTrue tells → ListsFront kind (old unit) out_tells taken after
+  pub listed : code ≡ 0 → Lists kind tells (old unit) out_tells taken after
+  pub front : code ≡ 5 → ListsFront kind tells (old unit) out_tells taken after
   pub too_long : code ≡ 7 → RunsTooLong kind unit tells (old unit) out_tells taken after faults faults_after
   pub silent : code ≡ 6 → IsTrue out_tells → after ≡ taken
 
--- a block was added, and its entry's index was printed; or a front of that, where the sink failed
-pub record RunsAdded (kind : DriveKind) (unit block : ℕ) (way : AddWay) (code : ℕ) (old new : ℕ → Pack) (out_tells : Bool) (taken after : List ℕ) (faults faults_after : ℕ) : Type 0 where
+-- an index of a table was printed, that of the block's entry where the packs tell; or a front of that, where the sink failed
+pub record RunsAdded (kind : DriveKind) (unit block : ℕ) (way : AddWay) (code : ℕ) (tells : Bool) (old new : ℕ → Pack) (out_tells : Bool) (taken after : List ℕ) (faults faults_after : ℕ) : Type 0 where
   pub index : ℕ
-  pub adds : Adds kind unit block way old new index
+  pub few : index < 126
+  pub adds : IsTrue tells → Adds kind unit block way old new index
   pub told : code ≡ 0 → IsTrue out_tells → after ≡ taken ++ entry_text index
   pub front : code ≡ 5 → Rose faults faults_after × (IsTrue out_tells → TakesFront taken after (entry_text index))
 
@@ -85,7 +87,7 @@ pub record RunsRefused (kind : DriveKind) (unit block : ℕ) (tells : Bool) (old
 -- `bad144 add`
 pub record RunsAdd (kind : DriveKind) (unit block : ℕ) (way : AddWay) (code : ℕ) (tells : Bool) (old new : ℕ → Pack) (out_tells : Bool) (taken after : List ℕ) (faults faults_after : ℕ) : Type 0 where
   pub statuses : (code ≡ 0) ⊎ (code ≡ 5) ⊎ (code ≡ 6) ⊎ (code ≡ 7) ⊎ (code ≡ 8)
-  pub added : (code ≡ 0) ⊎ (code ≡ 5) → IsTrue tells → RunsAdded kind unit block way code old new out_tells taken after faults faults_after
+  pub added : (code ≡ 0) ⊎ (code ≡ 5) → RunsAdded kind unit block way code tells old new out_tells taken after faults faults_after
   pub stopped : code ≡ 6 → IsTrue tells → IsStopped kind unit block way old new
   pub silent : code ≡ 6 → IsTrue out_tells → after ≡ taken
   pub too_long : code ≡ 7 → RunsTooLong kind unit tells (old unit) out_tells taken after faults faults_after
@@ -104,10 +106,12 @@ pub record RunsFresh (kind : DriveKind) (unit serial code : ℕ) (tells : Bool) 
   pub too_long : code ≡ 7 → RunsTooLong kind unit tells (old unit) out_tells taken after faults faults_after
   pub unchanged : code ≡ 7 → IsTrue tells → new ≡ old
 
--- the listed blocks were marked, and how many is printed; or a front of that, where the sink failed
-pub record RunsMarked (kind : DriveKind) (unit code : ℕ) (old new : ℕ → Pack) (out_tells : Bool) (taken after : List ℕ) (faults faults_after : ℕ) : Type 0 where
+-- a count of a table's entries is printed, that of the listed blocks that were marked where the packs tell; or a front of that, where the sink
+-- failed
+pub record RunsMarked (kind : DriveKind) (unit code : ℕ) (tells : Bool) (old new : ℕ → Pack) (out_tells : Bool) (taken after : List ℕ) (faults faults_after : ℕ) : Type 0 where
   pub count : ℕ
-  pub marks : Marks kind unit old new count
+  pub few : count ≤ 126
+  pub marks : IsTrue tells → Marks kind unit old new count
   pub told : code ≡ 0 → IsTrue out_tells → after ≡ taken ++ marked_text count
   pub front : code ≡ 5 → Rose faults faults_after × (IsTrue out_tells → TakesFront taken after (marked_text count))
 
@@ -120,7 +124,7 @@ pub record RunsNoTable (kind : DriveKind) (unit : ℕ) (tells : Bool) (old new :
 -- `bad144 mark`
 pub record RunsMark (kind : DriveKind) (unit code : ℕ) (tells : Bool) (old new : ℕ → Pack) (out_tells : Bool) (taken after : List ℕ) (faults faults_after : ℕ) : Type 0 where
   pub statuses : (code ≡ 0) ⊎ (code ≡ 5) ⊎ (code ≡ 6) ⊎ (code ≡ 7) ⊎ (code ≡ 8)
-  pub marked : (code ≡ 0) ⊎ (code ≡ 5) → IsTrue tells → RunsMarked kind unit code old new out_tells taken after faults faults_after
+  pub marked : (code ≡ 0) ⊎ (code ≡ 5) → RunsMarked kind unit code tells old new out_tells taken after faults faults_after
   pub stopped : code ≡ 6 → IsTrue tells → IsMarkingStopped kind unit old new
   pub silent : code ≡ 6 → IsTrue out_tells → after ≡ taken
   pub too_long : code ≡ 7 → RunsTooLong kind unit tells (old unit) out_tells taken after faults faults_after

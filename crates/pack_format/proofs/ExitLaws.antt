@@ -69,11 +69,11 @@ pub memory_is_not_store : Memory ≡ Store → ⊥
 memory_is_not_store is = cc
 
 -- a refusal is a fault, and no failure of the packs
-pub refusal_is_fault : (kind : DriveKind) (f : FormatFault) → IsRefusal f → IsFault kind f
-refusal_is_fault kind (TooMany number) is = tt
-refusal_is_fault kind (Spare index) is = tt
-refusal_is_fault kind NoCopy is = tt
-refusal_is_fault kind other is = absurd is
+pub refusal_is_fault : (kind : DriveKind) (serial : ℕ) (f : FormatFault) → IsRefusal f → IsFault kind serial f
+refusal_is_fault kind serial (TooMany number) is = is
+refusal_is_fault kind serial (Spare index) is = is
+refusal_is_fault kind serial NoCopy is = tt
+refusal_is_fault kind serial other is = absurd is
 
 pub refusal_is_not_store : (f : FormatFault) → IsRefusal f → f ≡ Store → ⊥
 refusal_is_not_store f is store = subst IsRefusal store is

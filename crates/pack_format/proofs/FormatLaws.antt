@@ -1,5 +1,5 @@
 -- A pack behind all stages is formatted, and one behind some of them is so in part.
-use Rattle.std.proofs.Common.{◌≡◌, ◌⊎◌, inl, inr, ℕ, zero, suc, ◌-◌, ◌<◌, ◌≤◌, ◌&&◌, Bool, true, false, List, length, replicate, Option, None, Some, refl, sym, ap, ◌∙◌, subst, arith}
+use Rattle.std.proofs.Common.{◌≡◌, ◌⊎◌, inl, inr, ℕ, zero, suc, ◌+◌, ◌-◌, ◌<◌, ◌≤◌, ◌&&◌, not, Bool, true, false, List, length, replicate, Option, None, Some, refl, sym, ap, ◌∙◌, subst, arith}
 use Rattle.std.specs.Prelude.{nat_le, nat_lt, slice_get, if◌then◌else◌}
 use Rattle.std.proofs.lemmas.Bool.{cases_lt}
 use Rattle.std.proofs.lemmas.Bool.Decides.{Decides-ltb, nat_tests}
@@ -15,9 +15,10 @@ use Rattle.pack_geometry.specs.Homes.{content_of, index_in, replacement_home}
 use Rattle.pack_geometry.specs.PackTable.{IsTableOf}
 use Rattle.pack_geometry.specs.TableSpelling.{Table, IsTable, Spells}
 use Rattle.bad144_table.proofs.Positions.{index_listed}
-use Rattle.pack_format.specs.testing.Stages.{Fills, IsTested, Reaches, between, copied, is_copy, ranged}
+use Rattle.pack_format.specs.testing.Stages.{Fills, IsAsLong, IsBelow, IsTested, Reaches, between, copied, is_copy, ranged}
 use Rattle.pack_format.proofs.testing.CopyLaws.{copy_here, which_copy}
-use Rattle.pack_format.proofs.testing.StageLaws.{at, false_true, fill_off, fill_on, same_marks}
+use Rattle.pack_format.proofs.testing.LongLaws.{long_as, long_then}
+use Rattle.pack_format.proofs.testing.StageLaws.{at, false_true, fill_off, fill_on, off, on, same_marks}
 use Rattle.pack_format.specs.Formatted.{CanBeFormatted, Copy, Data, Holds, IsFormatted, IsPartly, IsWritten, IsZeros, Replacement, found, marked_blocks, table_for}
 use Rattle.pack_format.proofs.SurveyLaws.{among}
 
@@ -107,6 +108,17 @@ side set pack sector unwritten =
     (λ is. at (is_marked pack sector) (λ marked. inr marked) (λ unmarked. absurd (unwritten is unmarked)))
     (λ off. inl off)
 
+-- a sector that is written is unmarked
+unmarked_written : {kind : DriveKind} {pack : Pack} {sector : ℕ} → IsWritten kind pack sector → is_marked pack sector ≡ false
+unmarked_written (Data within unmarked) = unmarked
+unmarked_written (Replacement i less is unmarked) = unmarked
+unmarked_written (Copy k less is unmarked) = unmarked
+
+-- an end of a stage is at the sector that it reached, or behind it
+end_of : (begun reached : ℕ) → (begun ≡ reached) ⊎ (begun ≡ reached + 1) → (reached ≤ begun) × (begun ≤ reached + 1)
+end_of begun reached (inl e) = (omega (arith, e), omega (arith, e))
+end_of begun reached (inr e) = (omega (arith, e), omega (arith, e))
+
 module _ (kind : DriveKind) (serial unit n limit from to : ℕ) (table : Table) (old : ℕ → Pack) (s : AreSet kind serial n limit from to table (old unit)) where
   abbrev data_set : ℕ → Bool
   data_set sector = between 0 limit sector
@@ -174,6 +186,45 @@ module _ (kind : DriveKind) (serial unit n limit from to : ℕ) (table : Table) 
   not_copy : (sector : ℕ) → (IsWritten kind (old unit) sector → ⊥) → (copy_set sector ≡ false) ⊎ (is_marked (old unit) sector ≡ true)
   not_copy sector unwritten = side copy_set (old unit) sector (λ is unmarked. let w = copy_of sector is in unwritten (Copy w.0 w.1 w.2 unmarked))
 
+  -- the sectors that a stage writes, by its set
+  abbrev InSet : (ℕ → Bool) → Pack → ℕ → Type 0
+  InSet set pack sector = (set sector && not (is_marked pack sector)) ≡ true
+
+  in_set : (set : ℕ → Bool) (pack : Pack) (sector : ℕ) → pack.marks ≡ (old unit).marks → set sector ≡ true → is_marked (old unit) sector ≡ false → InSet set pack sector
+  in_set set pack sector marks is unmarked = on (set sector) (is_marked pack sector) is (same_marks pack (old unit) sector marks ∙ unmarked)
+
+  of_set : (set : ℕ → Bool) (pack : Pack) (sector : ℕ) → pack.marks ≡ (old unit).marks → InSet set pack sector → (set sector ≡ true) × (is_marked (old unit) sector ≡ false)
+  of_set set pack sector marks is = (by (set sector) (is_marked pack sector) is, sym (same_marks pack (old unit) sector marks) ∙ off (set sector) (is_marked pack sector) is)
+    where
+      by : (d m : Bool) → (d && not m) ≡ true → d ≡ true
+      by true m is = refl
+      by false m is = absurd (false_true is)
+
+  of_data : (sector : ℕ) → (data_set sector ≡ true) × (is_marked (old unit) sector ≡ false) → IsWritten kind (old unit) sector
+  of_data sector is = Data (data_of sector is.0) is.1
+
+  of_spare : (sector : ℕ) → (spare_set sector ≡ true) × (is_marked (old unit) sector ≡ false) → IsWritten kind (old unit) sector
+  of_spare sector is = let w = spare_of sector is.0 in Replacement w.0 (omega (arith, w.1, number)) w.2 is.1
+
+  of_copy : (sector : ℕ) → (copy_set sector ≡ true) × (is_marked (old unit) sector ≡ false) → IsWritten kind (old unit) sector
+  of_copy sector is = let w = copy_of sector is.0 in Copy w.0 w.1 w.2 is.1
+
+  -- and which stage a written sector is of
+  abbrev IsOf : ℕ → Type 0
+  IsOf sector = ((sector < limit_of kind) × (data_set sector ≡ true)) ⊎ ((limit_of kind ≤ sector) × (sector < copy_at kind 0) × (spare_set sector ≡ true))
+      ⊎ ((copy_at kind 0 ≤ sector) × (copy_set sector ≡ true))
+
+  stage_of : (sector : ℕ) → IsWritten kind (old unit) sector → IsOf sector
+  stage_of sector (Data within unmarked) = inl (within, data_in sector within)
+  stage_of sector (Replacement i less is unmarked) =
+      let small : i < n = omega (arith, less, number) in
+      let above = spare_above i small in
+      inr (inl (omega (arith, is, above.0), omega (arith, is, above.1), ap (λ (m : ℕ). spare_set m) is ∙ spare_in i small))
+  stage_of sector (Copy k less is unmarked) = inr (inr (omega (arith, is, (copy_above k).1), ap (λ (m : ℕ). copy_set m) is ∙ copy_here kind k 5 less))
+
+  abbrev WrittenBelow : ℕ → ℕ → Type 0
+  WrittenBelow above sector = (sector < above) × IsWritten kind (old unit) sector
+
   -- the first stage stopped
   module _ (new : ℕ → Pack) (r : Reaches unit (between 0 limit) (replicate 512 0) IsTested old new) where
     done_data : (sector : ℕ) → sector < r.reached → (w : IsWritten kind (old unit) sector) → Holds IsZeros kind serial (old unit) sector (block_at (new unit).image sector) w
@@ -194,6 +245,15 @@ module _ (kind : DriveKind) (serial unit n limit from to : ℕ) (table : Table) 
       behind = r.behind;
       others = λ sector unwritten. r.kept sector (not_data sector unwritten);
       marks = r.marks;
+      begun = r.begun;
+      begun_is = r.begun_is;
+      long = long_as (WrittenBelow r.begun) r.long
+          (λ sector is. (is.0, of_data sector (is.1, is.2)))
+          (λ sector is. (
+            is.0,
+            data_in sector (omega (arith, is.0, (end_of r.begun r.reached r.begun_is).1, data_of r.reached r.among)),
+            unmarked_written is.1,
+          ));
     }
 
   -- the first is done,
@@ -243,7 +303,22 @@ module _ (kind : DriveKind) (serial unit n limit from to : ℕ) (table : Table) 
         behind = λ sector lt. r.behind sector lt ∙ one_above sector (omega (arith, lt, above_data_blocks));
         others = λ sector unwritten. r.kept sector (same_side spare_set (one unit) (old unit) sector first.marks (not_spare sector unwritten)) ∙ one_same sector (not_data sector unwritten);
         marks = r.marks ∙ first.marks;
+        begun = r.begun;
+        begun_is = r.begun_is;
+        long = long_then (InSet data_set (old unit)) (IsBelow (one unit) spare_set r.begun) (WrittenBelow r.begun) first.long r.long
+            (λ sector is.
+            let data_is = of_set data_set (old unit) sector refl is in
+            (omega (arith, data_of sector data_is.0, above_data_blocks, ends.0), of_data sector data_is))
+            (λ sector is. (is.0, of_spare sector (is.1, sym (one_marks sector) ∙ is.2)))
+            (λ sector is. elim (stage_of sector is.1) [
+              | inl of_first ↦ inl (in_set data_set (old unit) sector refl of_first.1 (unmarked_written is.1))
+              | inr (inl of_second) ↦ inr (is.0, of_second.2, one_marks sector ∙ unmarked_written is.1)
+              | inr (inr of_third) ↦ absurd (omega (arith, is.0, ends.1, of_third.0, below_copies))
+            ]);
       }
+        where
+          ends : (r.reached ≤ r.begun) × (r.begun ≤ r.reached + 1)
+          ends = end_of r.begun r.reached r.begun_is
 
     -- or the second is done too,
     module _ (two : ℕ → Pack) (second : Fills unit (ranged (one unit) from to) (replicate 512 0) one two) where
@@ -267,6 +342,32 @@ module _ (kind : DriveKind) (serial unit n limit from to : ℕ) (table : Table) 
       two_same sector unwritten =
           fill_off unit (between from to) (replicate 512 0) one two sector second (same_side spare_set (one unit) (old unit) sector first.marks (not_spare sector unwritten))
           ∙ one_same sector (not_data sector unwritten)
+
+      abbrev BelowCopies : ℕ → Type 0
+      BelowCopies sector = (sector < copy_at kind 0) × IsWritten kind (old unit) sector
+
+      two_long : IsAsLong BelowCopies (length (old unit).image) (length (two unit).image)
+      two_long =
+          long_then (InSet data_set (old unit)) (InSet spare_set (one unit)) BelowCopies first.long second.long
+          (λ sector is. let data_is = of_set data_set (old unit) sector refl is in (data_below kind sector 0 (data_of sector data_is.0), of_data sector data_is))
+          (λ sector is.
+          let spare_is = of_set spare_set (one unit) sector first.marks is in
+          let w = spare_of sector spare_is.0 in
+          (omega (arith, w.2, (spare_above w.0 w.1).1), of_spare sector spare_is))
+          (λ sector is. elim (stage_of sector is.1) [
+            | inl of_first ↦ inl (in_set data_set (old unit) sector refl of_first.1 (unmarked_written is.1))
+            | inr (inl of_second) ↦ inr (in_set spare_set (one unit) sector first.marks of_second.2 (unmarked_written is.1))
+            | inr (inr of_third) ↦ absurd (omega (arith, is.0, of_third.0))
+          ])
+
+      -- a written sector is below the copies, or one of them
+      low_or_copy : (sector : ℕ) → IsWritten kind (old unit) sector → (sector < copy_at kind 0) ⊎ (copy_set sector ≡ true)
+      low_or_copy sector is =
+          elim (stage_of sector is) [
+            | inl of_first ↦ inl (data_below kind sector 0 of_first.0)
+            | inr (inl of_second) ↦ inl of_second.1
+            | inr (inr of_third) ↦ inr of_third.1
+          ]
 
       -- and the third stopped
       module _ (new : ℕ → Pack) (bytes : List ℕ) (spelled : Spells bytes table) (r : Reaches unit (is_copy kind 5) bytes (λ x. x ≡ bytes) two new) where
@@ -305,6 +406,15 @@ module _ (kind : DriveKind) (serial unit n limit from to : ℕ) (table : Table) 
           behind = λ sector lt. r.behind sector lt ∙ two_above sector (omega (arith, lt, above_all));
           others = λ sector unwritten. r.kept sector (same_side copy_set (two unit) (old unit) sector (second.marks ∙ first.marks) (not_copy sector unwritten)) ∙ two_same sector unwritten;
           marks = r.marks ∙ second.marks ∙ first.marks;
+          begun = r.begun;
+          begun_is = r.begun_is;
+          long = long_then BelowCopies (IsBelow (two unit) copy_set r.begun) (WrittenBelow r.begun) two_long r.long
+              (λ sector is. (omega (arith, is.0, above_all, (end_of r.begun r.reached r.begun_is).0), is.1))
+              (λ sector is. (is.0, of_copy sector (is.1, sym (two_marks sector) ∙ is.2)))
+              (λ sector is. elim (low_or_copy sector is.1) [
+                | inl low ↦ inl (low, is.1)
+                | inr copy ↦ inr (is.0, copy, two_marks sector ∙ unmarked_written is.1)
+              ]);
         }
 
       -- or all are done
@@ -402,4 +512,11 @@ module _ (kind : DriveKind) (serial unit n limit from to : ℕ) (table : Table) 
               fill_off unit (λ m. is_copy kind 5 m) bytes two new sector third
               (same_side copy_set (two unit) (old unit) sector (second.marks ∙ first.marks) (not_copy sector unwritten))
               ∙ two_same sector unwritten;
+          long = long_then BelowCopies (InSet copy_set (two unit)) (IsWritten kind (old unit)) two_long third.long
+              (λ sector is. is.1)
+              (λ sector is. of_copy sector (of_set copy_set (two unit) sector (second.marks ∙ first.marks) is))
+              (λ sector is. elim (low_or_copy sector is) [
+                | inl low ↦ inl (low, is)
+                | inr copy ↦ inr (in_set copy_set (two unit) sector (second.marks ∙ first.marks) copy (unmarked_written is))
+              ]);
         }

@@ -1,11 +1,12 @@
 -- Why a pack is not formatted, and what that leaves of it.
-use Rattle.std.specs.Prelude.{◌≡◌, ◌≢◌, ◌⊎◌, ℕ, ◌<◌, ◌≤◌, nat_lt, true, Result, IsErrOf, length}
+use Rattle.std.specs.Prelude.{◌≡◌, ◌⊎◌, ℕ, ◌*◌, ◌<◌, ◌≤◌, nat_lt, true, List, Result, IsErrOf, length}
 use Rattle.pack_geometry.specs.declared.DriveKind.{DriveKind}
-use Rattle.pack_geometry.specs.Geometry.{copy_at}
+use Rattle.pack_geometry.specs.Geometry.{block_count, copy_at}
 use Rattle.pack_geometry.specs.Pack.{Pack}
+use Rattle.pack_geometry.specs.TableSpelling.{Table, Spells}
 use Rattle.outside_traits.specs.Causes.{Rose}
 use Rattle.pack_format.specs.testing.Stages.{is_copy}
-use Rattle.pack_format.specs.testing.TestFaults.{Tests}
+use Rattle.pack_format.specs.testing.TestFaults.{CameBack, Tests}
 use Rattle.pack_format.specs.declared.testing.fault.TestFault.{TestFault}
 use Rattle.pack_format.specs.declared.testing.fault.TestFault.TheVariants as test
 use Rattle.pack_format.specs.Formatted.{HasNoCopy, IsPartly, IsSpare, IsTooLong, IsTooMany, found}
@@ -38,19 +39,24 @@ Leaves kind serial unit old new (Spare index) = new ≡ old
 Leaves kind serial unit old new NoCopy = new ≡ old
 Leaves kind serial unit old new Memory = new ≡ old
 
--- which byte is written at a place of a block: a test's in a data block or a replacement, or one of the table in a copy
-abbrev pub Formats : DriveKind → (block at byte : ℕ) → Type 0
-Formats kind block at byte = Tests (λ sector. nat_lt sector (copy_at kind 0)) block at byte ⊎ (is_copy kind 5 block ≡ true)
+-- which bytes are written to a block: those of a test to a data block or a replacement, and to a copy those that spell a table with the serial
+-- number
+abbrev pub IsTableText : DriveKind → (serial : ℕ) → List ℕ → Type 0
+IsTableText kind serial bytes = (table : Table) × (table.kind ≡ kind) × (table.serial ≡ serial) × Spells bytes table
 
--- what is said of a fault whatever the packs tell: the byte that came back is another one than that which was written there
-abbrev pub IsFault : DriveKind → FormatFault → Type 0
-IsFault kind (Differs block at wrote read) = (at < 512) × Formats kind block at wrote × (wrote ≢ read)
-IsFault kind (TooLong size) = Unit {0}
-IsFault kind (TooMany number) = Unit {0}
-IsFault kind (Spare index) = Unit {0}
-IsFault kind NoCopy = Unit {0}
-IsFault kind Memory = Unit {0}
-IsFault kind Store = Unit {0}
+abbrev pub Formats : DriveKind → (serial block : ℕ) → (bytes : List ℕ) → Type 0
+Formats kind serial block bytes = Tests (λ sector. nat_lt sector (copy_at kind 0)) block bytes ⊎ ((is_copy kind 5 block ≡ true) × IsTableText kind serial bytes)
+
+-- WHAT IS SAID OF A FAULT whatever the packs tell: a length or a number is above its bound, and a byte came back otherwise than it was written, the
+-- first one of its block
+abbrev pub IsFault : DriveKind → (serial : ℕ) → FormatFault → Type 0
+IsFault kind serial (Differs block at wrote read) = CameBack (Formats kind serial) block at wrote read
+IsFault kind serial (TooLong size) = 512 * block_count kind < size
+IsFault kind serial (TooMany number) = 126 < number
+IsFault kind serial (Spare index) = index < 126
+IsFault kind serial NoCopy = Unit {0}
+IsFault kind serial Memory = Unit {0}
+IsFault kind serial Store = Unit {0}
 
 -- the packs fail only where their count of faults rose, which never falls
 pub record IsCaused {T : Type 0} (before now : ℕ) (result : Result T FormatFault) : Type 0 where

@@ -1,12 +1,12 @@
 -- A FORMATTED PACK, why a pack is not formatted, and what a formatting that stops leaves of it.
-use Rattle.std.specs.Prelude.{◌≡◌, ◌⊎◌, ℕ, zero, suc, ◌*◌, ◌<◌, Bool, true, false, List, [], ◌∷◌, ◌++◌, length, map, replicate, Some}
+use Rattle.std.specs.Prelude.{◌≡◌, ◌⊎◌, ℕ, zero, suc, ◌+◌, ◌*◌, ◌<◌, Bool, true, false, List, [], ◌∷◌, ◌++◌, length, map, replicate, Some}
 use Rattle.pack_geometry.specs.declared.DriveKind.{DriveKind}
 use Rattle.pack_geometry.specs.Geometry.{block_count, limit_of, place_at, replacement_at, copy_at}
 use Rattle.pack_geometry.specs.Pack.{Pack, block_at, is_marked}
 use Rattle.pack_geometry.specs.PackTable.{IsTableOf}
 use Rattle.pack_geometry.specs.TableSpelling.{Table, Spells}
 use Rattle.pack_geometry.specs.Homes.{content_of}
-use Rattle.pack_format.specs.testing.Stages.{IsTested}
+use Rattle.pack_format.specs.testing.Stages.{IsAsLong, IsTested}
 
 -- the marked blocks below a number, in ascending order
 abbrev pub if_on : Bool → ℕ → List ℕ
@@ -57,7 +57,8 @@ pub data IsWritten (kind : DriveKind) (pack : Pack) (sector : ℕ) : Type 0 wher
   Copy : (k : ℕ) → k < 5 → sector ≡ copy_at kind k → is_marked pack sector ≡ false → IsWritten kind pack sector
 
 -- FORMATTED: nothing was in the way; each unmarked copy spells the table, which is the pack's; each data block has a home, and zeros for its
--- content; marks stay, and so does every sector that is not written, as marked copies and replacements that no entry uses.
+-- content; marks stay, and so does every sector that is not written, as marked copies and replacements that no entry uses; and the image is as
+-- long as the written sectors make it.
 pub record IsFormatted (kind : DriveKind) (serial : ℕ) (old new : Pack) : Type 0 where
   pub can : CanBeFormatted kind old
   pub copies : (k : ℕ) → k < 5 → is_marked old (copy_at kind k) ≡ false → Spells (block_at new.image (copy_at kind k)) (table_for kind serial old)
@@ -65,6 +66,7 @@ pub record IsFormatted (kind : DriveKind) (serial : ℕ) (old new : Pack) : Type
   pub content : (block : ℕ) → block < limit_of kind → content_of kind (Some (table_for kind serial old)) new block ≡ Some (replicate 512 0)
   pub marks : new.marks ≡ old.marks
   pub others : (sector : ℕ) → ¬ (IsWritten kind old sector) → block_at new.image sector ≡ block_at old.image sector
+  pub long : IsAsLong (IsWritten kind old) (length old.image) (length new.image)
 
 -- what a sector that is written has: the table in a copy, and in another such bytes
 abbrev pub Holds : (Such : List ℕ → Type 0) (kind : DriveKind) (serial : ℕ) (pack : Pack) (sector : ℕ) → List ℕ → IsWritten kind pack sector → Type 0
@@ -81,7 +83,8 @@ pub record IsChanged (kind : DriveKind) (serial : ℕ) (pack : Pack) (sector : �
 
 -- WHERE IT STOPPED. Formatting goes by rising number: over the data blocks, the replacements, and last the copies. So there is one sector
 -- that it reached. Each one before it that is written is done: zeros, or the table in a copy. It has itself what it had, or was changed: to A5
--- or zeros, or the table in a copy. Each one behind it has what it had, and so has each sector that is not written; marks stay.
+-- or zeros, or the table in a copy. Each one behind it has what it had, and so has each sector that is not written; marks stay. The image is as long
+-- as the written sectors before it make it, or as it makes it besides.
 pub record IsPartly (kind : DriveKind) (serial : ℕ) (old new : Pack) : Type 0 where
   pub can : CanBeFormatted kind old
   pub reached : ℕ
@@ -90,3 +93,6 @@ pub record IsPartly (kind : DriveKind) (serial : ℕ) (old new : Pack) : Type 0 
   pub behind : (sector : ℕ) → reached < sector → block_at new.image sector ≡ block_at old.image sector
   pub others : (sector : ℕ) → ¬ (IsWritten kind old sector) → block_at new.image sector ≡ block_at old.image sector
   pub marks : new.marks ≡ old.marks
+  pub begun : ℕ
+  pub begun_is : (begun ≡ reached) ⊎ (begun ≡ reached + 1)
+  pub long : IsAsLong (λ sector. (sector < begun) × IsWritten kind old sector) (length old.image) (length new.image)

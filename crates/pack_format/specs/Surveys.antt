@@ -35,10 +35,10 @@ pub record IsJudged (kind : DriveKind) (pack : Pack) (number : ℕ) (spare : Opt
   pub first : IsFirst kind pack 126 spare
   pub copies : no_copy ≡ all_marked kind pack 5
 
--- the refusals that a finding may have
+-- the refusals that a finding may have, with their numbers
 abbrev pub IsRefusal : FormatFault → Type 0
-IsRefusal (TooMany number) = Unit {0}
-IsRefusal (Spare index) = Unit {0}
+IsRefusal (TooMany number) = 126 < number
+IsRefusal (Spare index) = index < 126
 IsRefusal NoCopy = Unit {0}
 IsRefusal (TooLong size) = ⊥
 IsRefusal (Differs block at wrote read) = ⊥

@@ -24,7 +24,8 @@ pub enum FormatFault {
     /// All five copies of the table are marked.
     #[error("no copy is unmarked")]
     NoCopy,
-    /// A byte of a block came back otherwise than it was written; `at` is its place in the block.
+    /// A block came back otherwise than it was written; `at` is the place of its first byte that did. A block that was found marked as it
+    /// was read back gave nothing: then `at` is 0, and `read` the complement of what was written.
     #[error("byte {at} of block {block} was written as {wrote} and read as {read}")]
     Differs {
         block: u32,

@@ -1,5 +1,5 @@
 //! Formatting a pack.
-ghost use Rattle.std.specs.Prelude.{◌≡◌, ◌≢◌, ℕ, ◌<◌, IfOk, IfErr, IsTrue, OnErr, OnOk};
+ghost use Rattle.std.specs.Prelude.{◌≡◌, ◌≢◌, ℕ, ◌<◌, ◌≤◌, IfOk, IfErr, IsTrue, OnErr, OnOk};
 ghost use Rattle.pack_format.specs.testing.Stations.{IsAtRest};
 ghost use Rattle.pack_format.specs.testing.TestFaults.{IsStop, IsTestCaused};
 ghost use Rattle.pack_format.specs.Faults.{Formats, IsCaused, IsFault, IsWhy, Leaves};
@@ -25,7 +25,7 @@ fn check_length<P: Packs>(packs: &mut P, unit: u8, kind: DriveKind) -> Result<()
     requires { unit < 32 }
     ensures fits { OnOk result (IsTrue (P.tells packs.new) → ¬ (IsTooLong kind (P.held packs.old unit))) }
     ensures why { IfErr result (λ fault. IsTrue (P.tells packs.new) → IsWhy kind (P.held packs.old unit) fault) }
-    ensures fault { IfErr result (IsFault kind) }
+    ensures fault { (serial : ℕ) → IfErr result (IsFault kind serial) }
     ensures same { IsTrue (P.tells packs.new) → P.held packs.new ≡ P.held packs.old }
     ensures never_again { IsTrue (P.tells packs.new) → IsTrue (P.tells packs.old) }
     ensures cause { IsCaused (P.faults packs.old) (P.faults packs.new) result }
@@ -47,12 +47,13 @@ fn write_blocks<P: Packs>(
 ) -> Result<(), TestFault>
     requires unit { unit < 32 }
     requires rest { IsAtRest kind station.old }
+    requires drive { table.now.kind ≡ kind }
     requires can { IsTrue (P.tells packs.old) → CanBeFormatted kind (P.held packs.old unit) }
     requires table { IsTrue (P.tells packs.old) → table.now ≡ table_for kind table.now.serial (P.held packs.old unit) }
     ensures formatted { OnOk result (IsTrue (P.tells packs.new) → IsFormatted kind table.now.serial (P.held packs.old unit) (P.held packs.new unit)) }
     ensures partly { OnErr result (IsTrue (P.tells packs.new) → IsPartly kind table.now.serial (P.held packs.old unit) (P.held packs.new unit)) }
     ensures elsewhere { (other : ℕ) → other ≢ unit → IsTrue (P.tells packs.new) → P.held packs.new other ≡ P.held packs.old other }
-    ensures stop { IfErr result (IsStop (P.tells packs.new) (Formats kind)) }
+    ensures stop { IfErr result (IsStop (P.tells packs.new) (Formats kind table.now.serial)) }
     ensures never_again { IsTrue (P.tells packs.new) → IsTrue (P.tells packs.old) }
     ensures cause { IsTestCaused (P.faults packs.old) (P.faults packs.new) result }
 {
@@ -79,10 +80,11 @@ fn format_through<P: Packs>(
     requires fits { IsTrue (P.tells packs.old) → ¬ (IsTooLong kind (P.held packs.old unit)) }
     ensures formatted { IfOk result (λ report. IsTrue (P.tells packs.new) →
         IsFormatted kind serial (P.held packs.old unit) (P.held packs.new unit) × (report.bad ≡ found kind (P.held packs.old unit))) }
+    ensures few { IfOk result (λ report. report.bad ≤ 126) }
     ensures elsewhere { (other : ℕ) → other ≢ unit → IsTrue (P.tells packs.new) → P.held packs.new other ≡ P.held packs.old other }
     ensures why { IfErr result (λ fault. IsTrue (P.tells packs.new) → IsWhy kind (P.held packs.old unit) fault) }
     ensures left { IfErr result (λ fault. IsTrue (P.tells packs.new) → Leaves kind serial unit (P.held packs.old) (P.held packs.new) fault) }
-    ensures fault { IfErr result (IsFault kind) }
+    ensures fault { IfErr result (IsFault kind serial) }
     ensures never_again { IsTrue (P.tells packs.new) → IsTrue (P.tells packs.old) }
     ensures cause { IsCaused (P.faults packs.old) (P.faults packs.new) result }
 {
@@ -102,7 +104,8 @@ fn format_through<P: Packs>(
 ///
 /// The refusals come in this order, and change nothing: TooLong exactly where the image is longer than the pack; TooMany
 /// exactly where more than 126 data blocks are marked; Spare with the first replacement that would be used and is marked;
-/// NoCopy exactly where all five copies are marked. Differs never comes over packs that tell. Store comes only where the
+/// NoCopy exactly where all five copies are marked. Differs never comes over packs that tell; over others it names the first
+/// byte of a block that came back otherwise, with what was written there and what was read. Store comes only where the
 /// packs' count of faults rose, and leaves a front of what is written: up to one sector all is done, that one has what it had,
 /// or A5, zeros or the table, and none behind it was begun. Memory comes before any write.
 pub fn format<P: Packs>(
@@ -115,10 +118,11 @@ pub fn format<P: Packs>(
     requires { unit < 32 }
     ensures formatted { IfOk result (λ report. IsTrue (P.tells packs.new) →
         IsFormatted kind serial (P.held packs.old unit) (P.held packs.new unit) × (report.bad ≡ found kind (P.held packs.old unit))) }
+    ensures few { IfOk result (λ report. report.bad ≤ 126) }
     ensures elsewhere { (other : ℕ) → other ≢ unit → IsTrue (P.tells packs.new) → P.held packs.new other ≡ P.held packs.old other }
     ensures why { IfErr result (λ fault. IsTrue (P.tells packs.new) → IsWhy kind (P.held packs.old unit) fault) }
     ensures left { IfErr result (λ fault. IsTrue (P.tells packs.new) → Leaves kind serial unit (P.held packs.old) (P.held packs.new) fault) }
-    ensures fault { IfErr result (IsFault kind) }
+    ensures fault { IfErr result (IsFault kind serial) }
     ensures never_again { IsTrue (P.tells packs.new) → IsTrue (P.tells packs.old) }
     ensures cause { IsCaused (P.faults packs.old) (P.faults packs.new) result }
 {

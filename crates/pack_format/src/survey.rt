@@ -1,5 +1,5 @@
 //! The first reading of all blocks.
-ghost use Rattle.std.specs.Prelude.{◌≡◌, ◌<◌, ◌≤◌, ◌+◌, ℕ, true, IsTrue, IfErr, IfOk, OnOk};
+ghost use Rattle.std.specs.Prelude.{◌≡◌, ◌<◌, ◌≤◌, ◌+◌, ℕ, true, IsTrue, IfErr, IfOk, IfSome, OnOk};
 ghost use Rattle.outside_traits.specs.Causes.{HasCause};
 ghost use Rattle.pack_geometry.specs.Geometry.{block_count, limit_of, replacement_at};
 ghost use Rattle.pack_geometry.specs.Pack.{Pack, is_marked};
@@ -62,6 +62,7 @@ fn list(table: &mut BadTable, kind: DriveKind, block: u32)
     ensures survey { (serial number : ℕ) → (pack : Pack) → IsSurvey kind serial pack block number table.old → is_marked pack block ≡ true → number < 126
         → IsSurvey kind serial pack (block + 1) (number + 1) table.new }
     ensures kind { table.new.kind ≡ kind }
+    ensures serial { table.new.serial ≡ table.old.serial }
 {
     match insert(table, place_of(kind, block)) {
         Ok(_) => {}
@@ -78,6 +79,7 @@ fn take(survey: &mut Survey, kind: DriveKind, block: u32, marked: bool)
         → IsSurvey kind serial pack (block + 1) survey.new.found survey.new.table }
     ensures counted { survey.new.found ≤ block + 1 }
     ensures kind { survey.new.table.kind ≡ kind }
+    ensures serial { survey.new.table.serial ≡ survey.old.table.serial }
 {
     if !marked {
         return;
@@ -101,6 +103,7 @@ fn read_data<P: Packs>(
     requires rest { IsAtRest kind station.old }
     ensures survey { IfOk result (λ survey. IsTrue (P.tells packs.new) →
         IsSurvey kind serial (P.held packs.old unit) (limit_of kind) survey.found survey.table) }
+    ensures drive { IfOk result (λ survey. (survey.table.kind ≡ kind) × (survey.table.serial ≡ serial)) }
     ensures rest { OnOk result (IsAtRest kind station.new) }
     ensures same { IsTrue (P.tells packs.new) → P.held packs.new ≡ P.held packs.old }
     ensures never_again { IsTrue (P.tells packs.new) → IsTrue (P.tells packs.old) }
@@ -172,7 +175,8 @@ fn read_copies<P: Packs>(
 
 /// The first marked replacement, where an entry would use it.
 fn used(found: u32, spare: Option<u8>) -> Option<u8>
-    ensures { result ≡ used_of found spare }
+    ensures used { result ≡ used_of found spare }
+    ensures below { IfSome result (λ i. i < found) }
 {
     match spare {
         Some(i) if u32::from(i) < found => Some(i),
@@ -208,9 +212,10 @@ pub(crate) fn first_reading<P: Packs>(
     requires rest { IsAtRest kind station.old }
     requires fits { IsTrue (P.tells packs.old) → ¬ (IsTooLong kind (P.held packs.old unit)) }
     ensures table { IfOk result (λ table. IsTrue (P.tells packs.new) → table ≡ table_for kind serial (P.held packs.old unit)) }
+    ensures drive { IfOk result (λ table. (table.kind ≡ kind) × (table.serial ≡ serial)) }
     ensures can { OnOk result (IsTrue (P.tells packs.new) → CanBeFormatted kind (P.held packs.old unit)) }
     ensures why { IfErr result (λ fault. IsTrue (P.tells packs.new) → IsWhy kind (P.held packs.old unit) fault) }
-    ensures fault { IfErr result (IsFault kind) }
+    ensures fault { IfErr result (IsFault kind serial) }
     ensures rest { OnOk result (IsAtRest kind station.new) }
     ensures same { IsTrue (P.tells packs.new) → P.held packs.new ≡ P.held packs.old }
     ensures never_again { IsTrue (P.tells packs.new) → IsTrue (P.tells packs.old) }

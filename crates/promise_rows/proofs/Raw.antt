@@ -13,7 +13,7 @@ use Rattle.driver_laws.specs.rules.Bytes.{blocks_for, dump_place, dumped, with_b
 use Rattle.driver_laws.proofs.rules.Ranges.{laid_over_none}
 use Rattle.raw_io.specs.Passes.{kind_at, map_at}
 use Rattle.raw_io.specs.Pieces.{start_of}
-use Rattle.promise_rows.specs.Raw.{DrainEndsEarly, ReadComesFromThePack, DriveIsOffline, WriteBeforeItsLines, DoneInBlocks, DumpAtTheFront, OutsideByOne, EdgeWithoutItsBytes}
+use Rattle.promise_rows.specs.Raw.{DrainEndsEarly, ReadComesFromThePack, DriveIsOffline, WriteBeforeItsLines, DoneInBlocks, DumpAtTheFront, OutsideByOne, EdgeWithoutItsBytes, AnyTraceAtAStoppedTransfer, RawLengthensTheImage}
 
 pub drain_ends_early : DrainEndsEarly
 drain_ends_early s slot h at not_ended ready = false≢true (sym not_ended ∙ ready.quiet.none slot h at)
@@ -95,3 +95,18 @@ edge_without_its_bytes unit done first other part from bytes bytes' old new tell
   where
     first_same : Some (other ∷ bytes') ≡ Some (first ∷ laid (take done from) bytes) → other ≡ first
     first_same is = cc is
+
+pub any_trace_at_a_stopped_transfer : AnyTraceAtAStoppedTransfer
+any_trace_at_a_stopped_transfer t w size old new tells traced differs = (
+  λ none stops. elim (stops.left tells) [
+    | inl unbegun ↦ differs (unbegun.1 traced)
+    | inr left ↦ none left.table left.broke.parts left.broke.begun left.broke.session (left.broke.trace traced)
+  ],
+  λ stops none. elim (stops.left tells) [
+    | inl unbegun ↦ differs (unbegun.1 traced)
+    | inr left ↦ none left.table left.broke.parts left.broke.begun left.broke.session (left.broke.trace traced)
+  ],
+)
+
+pub raw_lengthens_the_image : RawLengthensTheImage
+raw_lengthens_the_image reads t held held' trace_tells taken taken' moved unit other = other (moved.long unit)

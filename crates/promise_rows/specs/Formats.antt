@@ -1,5 +1,5 @@
 -- What wrong bodies would do of polls, tests, formatting and their commands, refused by the words of their contracts.
-use Rattle.std.specs.Prelude.{◌≡◌, ◌≢◌, ℕ, ◌+◌, ◌-◌, ◌*◌, ◌^◌, ◌<◌, ◌==◌, Bool, true, false, List, [], length, replicate}
+use Rattle.std.specs.Prelude.{◌≡◌, ◌≢◌, ℕ, ◌+◌, ◌-◌, ◌*◌, ◌^◌, ◌<◌, ◌≤◌, ◌==◌, Bool, true, false, List, [], length, replicate, slice_index}
 use Rattle.pack_geometry.specs.declared.DriveKind.{DriveKind}
 use Rattle.pack_geometry.specs.declared.DriveKind.TheVariants.{Rm03}
 use Rattle.pack_geometry.specs.Geometry.{block_count, copy_at, place_at}
@@ -10,7 +10,9 @@ use Rattle.pack_format.specs.testing.Stations.{IsAimed}
 use Rattle.pack_format.specs.testing.Stages.{Fills, copied, one}
 use Rattle.pack_format.specs.testing.TestFaults.{IsStop, Writes}
 use Rattle.pack_format.specs.declared.testing.fault.TestFault.TheVariants.{Differs}
+use Rattle.pack_format.specs.Faults.{IsFault}
 use Rattle.pack_format.specs.Surveys.{IsSurvey}
+use Rattle.pack_format.specs.declared.fault.FormatFault.TheVariants as format_fault
 use Rattle.command_parts.specs.Lines.{too_long_text}
 use Rattle.pack_commands.specs.Formats.{RunsFormat}
 use Rattle.pack_commands.specs.Tools.{RunsFresh}
@@ -47,3 +49,15 @@ AnotherUnitNamedTooLong = (kind : DriveKind) (serial faults : ℕ) (old new : �
 abbrev pub KindTakenForAnother : Type 0
 KindTakenForAnother = (unit serial faults faults_after : ℕ) (old new : ℕ → Pack) (taken after : List ℕ) → 512 * block_count Rm03 < length (old unit).image
     → ¬ RunsFresh Rm03 unit serial 0 true old new true taken after faults faults_after
+
+-- the image of a pack that was formatted is longer than the drive, or that of one on which formatting stopped
+abbrev pub FormatLengthensTheImage : Type 0
+FormatLengthensTheImage = (kind : DriveKind) (unit serial faults faults_after : ℕ) (old new : ℕ → Pack) (out_tells : Bool) (taken after : List ℕ)
+    → length (old unit).image ≤ 512 * block_count kind → 512 * block_count kind < length (new unit).image
+    → (¬ RunsFormat kind unit serial 0 true old new out_tells taken after faults faults_after)
+    × (¬ RunsFormat kind unit serial 6 true old new out_tells taken after faults faults_after)
+
+-- a byte of a block is told that came back otherwise, and one before it did too
+abbrev pub DiffersAtALaterByte : Type 0
+DiffersAtALaterByte = (kind : DriveKind) (serial block at wrote read k : ℕ) (differs : IsFault kind serial (format_fault.Differs block at wrote read))
+    → k < at → ¬ (slice_index differs.back k ≢ slice_index differs.bytes k)

@@ -1,5 +1,5 @@
 -- Wrong outcomes of requests that are waited for, and of raw transfers.
-use Rattle.std.specs.Prelude.{◌≡◌, ◌≢◌, ◌↔◌, ℕ, ◌+◌, ◌*◌, ◌<◌, ◌≤◌, false, IsTrue, List, ◌∷◌, ◌++◌, length, Result, Err, Some}
+use Rattle.std.specs.Prelude.{◌≡◌, ◌≢◌, ◌↔◌, ℕ, ◌+◌, ◌*◌, ◌<◌, ◌≤◌, Bool, true, false, IsTrue, List, ◌∷◌, ◌++◌, length, Option, Result, Err, Some}
 use Rattle.pack_geometry.specs.declared.DriveKind.{DriveKind}
 use Rattle.partitions.specs.declared.Part.{Part}
 use Rattle.partitions.specs.declared.Part.TheVariants.{B}
@@ -13,8 +13,18 @@ use Rattle.driver_laws.specs.rules.Waited.{answer_in}
 use Rattle.driver_laws.specs.rules.Bytes.{IsOutside, dumped, dump_place}
 use Rattle.raw_io.specs.declared.fault.RawFault.{RawFault}
 use Rattle.raw_io.specs.declared.fault.RawFault.TheVariants.{Outside}
-use Rattle.raw_io.specs.Passes.{Answers, IsReady, MoveFails, Stage, State, kind_at, map_at, setup_at}
+use Rattle.raw_io.specs.Passes.{Answers, IsReady, MoveFails, Stage, State, kind_at, map_at, moments_in, setup_at}
 use Rattle.raw_io.specs.Pieces.{GivesRange, PutsRange, start_of}
+use Rattle.raw_io.specs.Transfers.{AreBegun}
+use Rattle.driver_laws.specs.rules.Sessions.{Part as SessionPart, IsSession, told_in}
+use Rattle.trace_replay.specs.Text.{trace_text}
+use Rattle.pack_geometry.specs.TableSpelling.{Table}
+use Rattle.pack_geometry.specs.Pack.{Pack}
+use Rattle.driver_laws.specs.shown.Lengths.{length_behind}
+use Rattle.command_parts.specs.Outside.{Outside as Between}
+use Rattle.command_parts.specs.declared.words.Target.{Target}
+use Rattle.command_parts.specs.declared.words.Writing.{Writing}
+use Rattle.hpsim_run.specs.Passes.{ReadStops, Store, Transferred, WriteStops, start_at, target_for}
 
 -- A DRAIN ENDS EARLY: a request has not ended behind it.
 abbrev pub DrainEndsEarly : Type 0
@@ -55,3 +65,20 @@ abbrev pub EdgeWithoutItsBytes : Type 0
 EdgeWithoutItsBytes = (unit done first other : ℕ) (part : Part) (from bytes bytes' : List ℕ) (old new : Stage) → IsTrue new.packs_tell → HasTables (setup_at old)
     → map_at old unit (start_of old unit part) ≡ Some (first ∷ bytes) → map_at new unit (start_of old unit part) ≡ Some (other ∷ bytes')
     → PutsRange unit part 1 done from old new → ¬ (other ≢ first)
+
+-- ANY TRACE AT A STOPPED TRANSFER: the packs failed, and the trace took something, which is not the text of a legal session of requests to the partition,
+-- from the start over the packs.
+abbrev pub IsNoSession : (reads : Bool) → Target → (old new : Between) → Type 0
+IsNoSession reads t old new = (table : Option Table) (parts : List SessionPart) → AreBegun reads t.unit t.part parts → IsSession (start_at t table old.held) parts
+    → new.taken ≢ old.taken ++ trace_text (told_in parts)
+
+abbrev pub AnyTraceAtAStoppedTransfer : Type 0
+AnyTraceAtAStoppedTransfer = (t : Target) (w : Writing) (size : ℕ) (old new : Between) → IsTrue new.packs_tell → IsTrue new.trace_tells → new.taken ≢ old.taken
+    → (IsNoSession true t old new → ¬ ReadStops Store t size old new)
+    × ((stops : WriteStops Store w old new) → ¬ IsNoSession false (target_for w stops.from) old new)
+
+-- A RAW TRANSFER LENGTHENS THE IMAGE, or shortens it: it is not as long as the blocks that its lines wrote make it.
+abbrev pub RawLengthensTheImage : Type 0
+RawLengthensTheImage = (reads : Bool) (t : Target) (held held' : ℕ → Pack) (trace_tells : Bool) (taken taken' : List ℕ)
+    → (moved : Transferred reads t held held' trace_tells taken taken') → (unit : ℕ)
+    → ¬ (length (held' unit).image ≢ length_behind (start_at t moved.table held) (moments_in moved.parts) unit (length (held unit).image))

@@ -12,7 +12,7 @@ ghost use Rattle.promise_rows.specs.Naming.{LaterUnitNamed, FittingLengthNamed, 
 ghost use Rattle.promise_rows.specs.Stopping.{AnswerBeforeItsLine, TextDropped, TextSentTwice, TwoBlocksAhead};
 ghost use Rattle.promise_rows.specs.Strikes.{FailedByFewStrikes};
 ghost use Rattle.promise_rows.specs.Headers.{HeadersAreAsTheDriveHasThem};
-ghost use Rattle.promise_rows.specs.Others.{DoneWhereTheTextWasNotTaken, FaultThatPrints, HandedInPacksPlayed, PlayedAsRefusedByTheTool};
+ghost use Rattle.promise_rows.specs.Others.{DoneWhereTheTextWasNotTaken, FaultThatPrints, HandedInPacksPlayed, ListOfAnotherTable, PlayedAsRefusedByTheTool};
 ghost use Rattle.promise_rows.specs.Commands.{NumberBeforeItsCommand, TwoRefusalsOfOneStatus, HalfOfTheSource, HalfTheNumberPlayed, SeedFromTheGreatestByteOn};
 ghost use Rattle.promise_rows.specs.Texts.{UnitAndIdSwapped, ErrorWithoutDone, OkCountsReadsAlone, SumThatSaturates};
 
@@ -31,12 +31,13 @@ pub fn play_rows()
     ensures failed_by_few_strikes { FailedByFewStrikes }
 {}
 
-/// Of the tool and of `exercise`: status 0 says that the text was taken whole, status 6 that nothing was, and an exercise prints its
-/// own four lines.
+/// Of the tool and of `exercise`: status 0 says that the text was taken whole, status 6 that nothing was; what is printed of a table is of one,
+/// whatever the packs tell; and an exercise prints its own four lines.
 pub fn other_rows()
     ensures done_where_the_text_was_not_taken { DoneWhereTheTextWasNotTaken }
     ensures fault_that_prints { FaultThatPrints }
     ensures handed_in_packs_played { HandedInPacksPlayed }
+    ensures list_of_another_table { ListOfAnotherTable }
 {}
 
 /// Of `play` too: the unit that is named as too long is the first one, with a length that does not fit; the first event of a drain is told;

@@ -3,7 +3,7 @@
 
 ghost use Rattle.promise_rows.specs.Reads.{ReadOfAnotherUnit, NextBlockRead, FirstByteLeftOut, WholePieceKept, WindowKeptAfterFailedWrite};
 ghost use Rattle.promise_rows.specs.Tables.{EntryAfterTheEnd, ReplacementsLeftBehind, LastCopyTaken, MarkedCopyTaken, TooLongAtTheLastByte, WiderMask};
-ghost use Rattle.promise_rows.specs.Formats.{HeadsLeftWhereTheyAre, AnotherBlockTold, CopyLeftOut, ZerosLeftOut, FailedReadingPassedOver, AnotherUnitNamedTooLong, KindTakenForAnother};
+ghost use Rattle.promise_rows.specs.Formats.{HeadsLeftWhereTheyAre, AnotherBlockTold, CopyLeftOut, ZerosLeftOut, FailedReadingPassedOver, AnotherUnitNamedTooLong, KindTakenForAnother, FormatLengthensTheImage, DiffersAtALaterByte};
 
 /// Packs and streams may not be read and written so, and windows and texts may not be kept so.
 pub fn reads_law()
@@ -33,4 +33,6 @@ pub fn formats_law()
     ensures failed_reading_passed_over { FailedReadingPassedOver }
     ensures another_unit_named_too_long { AnotherUnitNamedTooLong }
     ensures kind_taken_for_another { KindTakenForAnother }
+    ensures format_lengthens_the_image { FormatLengthensTheImage }
+    ensures differs_at_a_later_byte { DiffersAtALaterByte }
 {}

@@ -1,7 +1,7 @@
 //! Wrong outcomes of requests that are waited for, of raw transfers and of the cache, each refused by what is promised of them. The
 //! functions here do nothing: each stands for a law.
 
-ghost use Rattle.promise_rows.specs.Raw.{DrainEndsEarly, ReadComesFromThePack, DriveIsOffline, WriteBeforeItsLines, DoneInBlocks, DumpAtTheFront, OutsideByOne, EdgeWithoutItsBytes};
+ghost use Rattle.promise_rows.specs.Raw.{DrainEndsEarly, ReadComesFromThePack, DriveIsOffline, WriteBeforeItsLines, DoneInBlocks, DumpAtTheFront, OutsideByOne, EdgeWithoutItsBytes, AnyTraceAtAStoppedTransfer, RawLengthensTheImage};
 ghost use Rattle.promise_rows.specs.Waited.{AnswerLeftUntaken, UnforwardedCountsTheBadBlock};
 ghost use Rattle.promise_rows.specs.Cache.{ChangedEntryDropped, AnotherBlockWrittenBack, RefusedInsertionNotCounted, RefusedRisesAtAStop, SyncStopsEarly, RefusedInsertionPromotes, AnotherBlockWritten, BlockAlwaysFound};
 ghost use Rattle.promise_rows.specs.Cached.{LastSyncForgotten, BlockOlderThanTheLastSync, CachedBytesBeyondTheDrive, CachedNotAsLongAsWritten, LaterLinesPlayedBehindASinkThatFailed, CacheOfAnotherSize, SyncThatWritesNothing, LastUnusableBlockOk, FaultCalledThatOfASink, WriteAnsweredBeforeItIsDone, UnitBehindASync};
@@ -17,13 +17,15 @@ pub fn asked_rows()
     ensures unforwarded_counts_the_bad_block { UnforwardedCountsTheBadBlock }
 {}
 
-/// Of a raw transfer: bytes are counted, a dump ends its partition, the last byte of a partition is inside, and a block that is written in
-/// part keeps its other bytes.
+/// Of a raw transfer: bytes are counted, a dump ends its partition, the last byte of a partition is inside, a block that is written in part keeps
+/// its other bytes, and an image is as long as what was written makes it; where the packs failed the trace has the lines of a legal session.
 pub fn raw_rows()
     ensures done_in_blocks { DoneInBlocks }
     ensures dump_at_the_front { DumpAtTheFront }
     ensures outside_by_one { OutsideByOne }
     ensures edge_without_its_bytes { EdgeWithoutItsBytes }
+    ensures any_trace_at_a_stopped_transfer { AnyTraceAtAStoppedTransfer }
+    ensures raw_lengthens_the_image { RawLengthensTheImage }
 {}
 
 /// Of the cache: what is cached stays when its entry goes, no other block changes, each refused insertion is counted, one in a call, and

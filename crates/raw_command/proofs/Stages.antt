@@ -11,20 +11,21 @@ use Rattle.driver_laws.specs.rules.Machine.{Blocks}
 use Rattle.driver_laws.specs.rules.Stands.{Setup as Seen, home_at, home_in}
 use Rattle.driver_laws.specs.rules.Cleans.{MovedClean}
 use Rattle.driver_laws.specs.rules.Rest.{HasTables}
-use Rattle.driver_laws.specs.rules.Sessions.{told_in}
+use Rattle.driver_laws.specs.declared.answers.outcome.Stop.{Stop}
+use Rattle.driver_laws.specs.rules.Sessions.{behind_all, told_in}
 use Rattle.driver_laws.specs.rules.Waited.{map_of, with_packs}
 use Rattle.driver_machine.specs.World.{World}
 use Rattle.driver_machine.specs.Sound.{IsTableFor}
-use Rattle.raw_io.specs.Passes.{setup_of, StandsQuiet, Stage, setup_at, Reaches, OthersStay, kind_at, map_at, left_map, IsUntouched}
+use Rattle.raw_io.specs.Passes.{IsCut, LeftAt, setup_of, StandsQuiet, Stage, setup_at, Reaches, OthersStay, kind_at, map_at, left_map, IsUntouched}
 use Rattle.driver_laws.specs.rules.Bytes.{range, ComesTo, with_range}
 use Rattle.driver_laws.specs.rules.Laid.{laid}
 use Rattle.driver_laws.proofs.rules.Ranges.{laid_short, length_range}
 use Rattle.raw_io.specs.Calls.{ReadsRange, StopsAt, WritesRange}
 use Rattle.raw_io.specs.Pieces.{GivesRange, PutsRange, start_of}
-use Rattle.raw_io.specs.Transfers.{Transfers}
+use Rattle.raw_io.specs.Transfers.{Breaks, Transfers}
 use Rattle.mba_autoconf.specs.Attach.{Fits}
 use Rattle.raw_command.specs.Units.{at_unit, unit_setup}
-use Rattle.raw_command.specs.Transfers.{blocks_in, first_in, start_at, StaysElse, Transferred, HasRead, HasWritten, LeavesAll, LeavesFront}
+use Rattle.raw_command.specs.Transfers.{blocks_in, first_in, start_at, StaysElse, Transferred, HasRead, HasWritten, Broke, LeavesAll, LeavesFront}
 use Rattle.command_parts.specs.declared.words.Target.{Target}
 use Rattle.raw_command.proofs.Setups.{at_self, one_world, setup_is, stands_quiet, has_tables, kind_is}
 
@@ -95,6 +96,7 @@ module _ (t : Target) (table : Option Table) (small : t.unit < 32) (good : (x : 
           waited = moves.waited;
           session = reach.session;
           over = record { over = reach.stands.rest.over; answered = reach.stands.rest.outstanding };
+          long = moves.goes.long told tables (start_at t table old.held) stands;
           left = λ block. sym (reach.stands.rest.sectors t.unit block);
           trace = moves.goes.trace;
         }
@@ -149,16 +151,30 @@ module _ (t : Target) (table : Option Table) (small : t.unit < 32) (good : (x : 
         }
 
     -- IT STOPPED
-    pub leaves_all : IsUntouched old new → LeavesAll t old.held new.held
-    leaves_all un = record {
+    broke : (reads : Bool) (stop : Stop) → Breaks reads t.unit t.part stop old new → Broke reads t stop table old.held new.held new.trace_tells old.taken new.taken
+    broke reads stop b =
+        let cut : IsCut stop b.parts old new (start_at t table old.held) = b.stops.cut told tables (start_at t table old.held) stands in
+        record {
+          parts = b.parts;
+          begun = b.begun;
+          session = cut.session;
+          packs = subst (λ (s : Seen). LeftAt stop s.drives old.held new.held (behind_all (start_at t table old.held) b.parts)) setup_old cut.packs;
+          trace = b.stops.trace;
+        }
+
+    pub leaves_all : (stop : Stop) → Breaks true t.unit t.part stop old new → IsUntouched old new → LeavesAll t stop old.held new.held new.trace_tells old.taken new.taken
+    leaves_all stop breaks un = record {
       table = table;
+      broke = broke true stop breaks;
       stays = stays_else is fits un.others;
       same = λ block. ap (λ (b : Blocks). b block) (sym left_new) ∙ un.map t.unit block ∙ ap (λ (b : Blocks). b block) map_old;
     }
 
-    pub leaves_front : (from : List ℕ) → StopsAt t.unit (start_of old t.unit t.part) t.at from old new → LeavesFront t from old.held new.held
-    leaves_front from stops = record {
+    pub leaves_front : (stop : Stop) → Breaks false t.unit t.part stop old new → (from : List ℕ) → StopsAt t.unit (start_of old t.unit t.part) t.at from old new
+        → LeavesFront t stop from old.held new.held new.trace_tells old.taken new.taken
+    leaves_front stop breaks from stops = record {
       table = table;
+      broke = broke false stop breaks;
       stays = stays_else is fits stops.others;
       done = stops.done;
       few = stops.few;

@@ -1,5 +1,5 @@
 -- WHAT A CALL OVER ONE UNIT has done, by what attaching and `raw_io` promise.
-use Rattle.std.proofs.Common.{◌≡◌, inl, inr, ℕ, ◌+◌, ◌*◌, ◌<◌, ◌≤◌, Bool, IsTrue, List, take, length, Option, Some, None, refl, sym, ap, subst, ◌∙◌, arith}
+use Rattle.std.proofs.Common.{◌≡◌, inl, inr, ℕ, ◌+◌, ◌*◌, ◌<◌, ◌≤◌, Bool, true, false, IsTrue, List, take, length, Option, Some, None, refl, sym, ap, subst, ◌∙◌, arith}
 use Rattle.std.specs.Prelude.{Result, Ok, Err, IsErrAnd, IfSome}
 use Rattle.std.proofs.lemmas.Option.{none-some, same_Some}
 use Rattle.outside_traits.proofs.GatherLaws.{rose_more}
@@ -16,6 +16,7 @@ use Rattle.partitions.specs.Partitions.{size_of}
 use Rattle.driver_laws.specs.rules.Bytes.{IsOutside}
 use Rattle.raw_io.specs.Calls.{StopsAt, done_by as raw_done, stop_of as raw_stop}
 use Rattle.raw_io.specs.Pieces.{GivesRange, PutsRange, start_of}
+use Rattle.raw_io.specs.Transfers.{Breaks}
 use Rattle.raw_io.specs.declared.fault.RawFault.{RawFault}
 use Rattle.raw_io.specs.declared.fault.RawFault.TheVariants as raw
 use Rattle.mba_autoconf.specs.Attach.{Fits}
@@ -93,14 +94,14 @@ module _ (Q O : Type 0) (holds : Q → Bool) (held : Q → ℕ → Pack) (packs_
   }
   keeps_none other is rose long = absurd is
 
-  left_read : (f : TransferFault) → IsOfAttaching f → IsTrue (holds mid) → LeftRead f t (held packs) (held mid)
-  left_read fault.Store is told = inl (same told)
+  left_read : (f : TransferFault) → IsOfAttaching f → IsTrue (holds mid) → LeftRead f t (held packs) (held mid) (tells trace) (taken trace) (taken trace)
+  left_read fault.Store is told = inl (same told, λ traced. refl)
   left_read fault.Memory is told = tt
   left_read (fault.TooLong n) is told = tt
   left_read other is told = absurd is
 
-  left_written : (from : List ℕ) (f : TransferFault) → IsOfAttaching f → IsTrue (holds mid) → LeftWritten f t from (held packs) (held mid)
-  left_written from fault.Store is told = inl (same told)
+  left_written : (from : List ℕ) (f : TransferFault) → IsOfAttaching f → IsTrue (holds mid) → LeftWritten f t from (held packs) (held mid) (tells trace) (taken trace) (taken trace)
+  left_written from fault.Store is told = inl (same told, λ traced. refl)
   left_written from fault.Memory is told = tt
   left_written from (fault.TooLong n) is told = tt
   left_written from other is told = absurd is
@@ -177,52 +178,55 @@ module _ (Q O : Type 0) (holds : Q → Bool) (held : Q → ℕ → Pack) (packs_
         subst (λ (h : ℕ → Pack). HasWritten t done from h (held packs') (tells trace') (taken trace) (taken trace')) (same told_mid)
         (has_written t a.table small a.good old new made told (is_mid told_mid) (fits_mid told_mid) done from puts)
 
-    all_so : IsTrue (holds mid) → IsTrue (holds packs') → (HasTables (setup_at old) → IsUntouched old new) → LeavesAll t (held packs) (held packs')
-    all_so told_mid told un =
-        subst (λ (h : ℕ → Pack). LeavesAll t h (held packs')) (same told_mid)
-        (leaves_all t a.table small a.good old new made told (is_mid told_mid) (fits_mid told_mid)
+    all_so : (stop : Stop) → Breaks true t.unit t.part stop old new → IsTrue (holds mid) → IsTrue (holds packs') → (HasTables (setup_at old) → IsUntouched old new)
+        → LeavesAll t stop (held packs) (held packs') (tells trace') (taken trace) (taken trace')
+    all_so stop breaks told_mid told un =
+        subst (λ (h : ℕ → Pack). LeavesAll t stop h (held packs') (tells trace') (taken trace) (taken trace')) (same told_mid)
+        (leaves_all t a.table small a.good old new made told (is_mid told_mid) (fits_mid told_mid) stop breaks
         (un (tables t a.table small a.good old new made told (is_mid told_mid) (fits_mid told_mid))))
 
-    front_so : (from : List ℕ) → IsTrue (holds mid) → IsTrue (holds packs') → (HasTables (setup_at old) → StopsAt t.unit (start_of old t.unit t.part) t.at from old new)
-        → LeavesFront t from (held packs) (held packs')
-    front_so from told_mid told stops =
-        subst (λ (h : ℕ → Pack). LeavesFront t from h (held packs')) (same told_mid)
-        (leaves_front t a.table small a.good old new made told (is_mid told_mid) (fits_mid told_mid) from
+    front_so : (stop : Stop) → Breaks false t.unit t.part stop old new → (from : List ℕ) → IsTrue (holds mid) → IsTrue (holds packs')
+        → (HasTables (setup_at old) → StopsAt t.unit (start_of old t.unit t.part) t.at from old new)
+        → LeavesFront t stop from (held packs) (held packs') (tells trace') (taken trace) (taken trace')
+    front_so stop breaks from told_mid told stops =
+        subst (λ (h : ℕ → Pack). LeavesFront t stop from h (held packs') (tells trace') (taken trace) (taken trace')) (same told_mid)
+        (leaves_front t a.table small a.good old new made told (is_mid told_mid) (fits_mid told_mid) stop breaks from
         (stops (tables t a.table small a.good old new made told (is_mid told_mid) (fits_mid told_mid))))
 
     pub reads_after : {A : Type 0} (r : Result A RawFault) → (r ≡ Err raw.Outside → ⊥) → (into into' : List ℕ)
         → ((done : ℕ) → raw_done (length into) r ≡ Some done → GivesRange t.unit t.part t.at done into into' old new)
         → ((done : ℕ) → r ≡ Err (raw.Unusable done) → done < length into)
         → ((stop : Stop) → raw_stop r ≡ Some stop → IsTrue (holds packs') → HasTables (setup_at old) → IsUntouched old new)
+        → ((stop : Stop) → raw_stop r ≡ Some stop → Breaks true t.unit t.part stop old new)
         → Keeps holds packs_faults tells faults s s' mid packs' trace trace' (raw_stop r)
         → ReadsUnit holds held packs_faults tells taken faults t into into' packs packs' trace trace' (raw_fault r)
-    reads_after (Ok value) inside into into' gives some stops k = record {
+    reads_after (Ok value) inside into into' gives some stops breaks k = record {
       few = λ done e. (gives done e).few;
       unusable = λ done e. absurd (none-some (fault.Unusable done) e);
       reads = λ done e told. read_so done into into' (k.never_again told) told (gives done e);
       stops = tt;
       keeps = keeps_on None None refl (λ b. b) tt tt k;
     }
-    reads_after (Err raw.Outside) inside into into' gives some stops k = absurd (inside refl)
-    reads_after (Err (raw.Unusable n)) inside into into' gives some stops k = record {
+    reads_after (Err raw.Outside) inside into into' gives some stops breaks k = absurd (inside refl)
+    reads_after (Err (raw.Unusable n)) inside into into' gives some stops breaks k = record {
       few = λ done e. (gives done e).few;
       unusable = λ done e. subst (λ (m : ℕ). m < length into) (same_count n done e) (some n refl);
       reads = λ done e told. read_so done into into' (k.never_again told) told (gives done e);
       stops = λ told. tt;
       keeps = keeps_on (Some (fault.Unusable n)) None refl (λ b. b) tt tt k;
     }
-    reads_after (Err raw.Store) inside into into' gives some stops k = record {
+    reads_after (Err raw.Store) inside into into' gives some stops breaks k = record {
       few = λ done e. absurd (none-some done e);
       unusable = λ done e. absurd (store_usable done e);
       reads = λ done e. absurd (none-some done e);
-      stops = λ told. inr (all_so (k.never_again told) told (stops Store refl told));
+      stops = λ told. inr (all_so Store (breaks Store refl) (k.never_again told) told (stops Store refl told));
       keeps = keeps_on (Some fault.Store) (Some Store) refl (λ b. b) tt tt k;
     }
-    reads_after (Err raw.Sink) inside into into' gives some stops k = record {
+    reads_after (Err raw.Sink) inside into into' gives some stops breaks k = record {
       few = λ done e. absurd (none-some done e);
       unusable = λ done e. absurd (sink_usable done e);
       reads = λ done e. absurd (none-some done e);
-      stops = λ told. all_so (k.never_again told) told (stops Sink refl told);
+      stops = λ told. all_so Sink (breaks Sink refl) (k.never_again told) told (stops Sink refl told);
       keeps = keeps_on (Some fault.Sink) (Some Sink) refl (λ b. b) tt tt k;
     }
 
@@ -230,31 +234,32 @@ module _ (Q O : Type 0) (holds : Q → Bool) (held : Q → ℕ → Pack) (packs_
         → ((done : ℕ) → raw_done (length from) r ≡ Some done → PutsRange t.unit t.part t.at done from old new)
         → ((done : ℕ) → r ≡ Err (raw.Unusable done) → done < length from)
         → ((stop : Stop) → raw_stop r ≡ Some stop → IsTrue (holds packs') → HasTables (setup_at old) → StopsAt t.unit (start_of old t.unit t.part) t.at from old new)
+        → ((stop : Stop) → raw_stop r ≡ Some stop → Breaks false t.unit t.part stop old new)
         → Keeps holds packs_faults tells faults s s' mid packs' trace trace' (raw_stop r)
         → WritesUnit holds held packs_faults tells taken faults t from packs packs' trace trace' (raw_fault r)
-    writes_after (Ok value) inside from puts some stops k = record {
+    writes_after (Ok value) inside from puts some stops breaks k = record {
       unusable = λ done e. absurd (none-some (fault.Unusable done) e);
       writes = λ done e told. written_so done from (k.never_again told) told (puts done e);
       stops = tt;
       keeps = keeps_on None None refl (λ b. b) tt tt k;
     }
-    writes_after (Err raw.Outside) inside from puts some stops k = absurd (inside refl)
-    writes_after (Err (raw.Unusable n)) inside from puts some stops k = record {
+    writes_after (Err raw.Outside) inside from puts some stops breaks k = absurd (inside refl)
+    writes_after (Err (raw.Unusable n)) inside from puts some stops breaks k = record {
       unusable = λ done e. subst (λ (m : ℕ). m < length from) (same_count n done e) (some n refl);
       writes = λ done e told. written_so done from (k.never_again told) told (puts done e);
       stops = λ told. tt;
       keeps = keeps_on (Some (fault.Unusable n)) None refl (λ b. b) tt tt k;
     }
-    writes_after (Err raw.Store) inside from puts some stops k = record {
+    writes_after (Err raw.Store) inside from puts some stops breaks k = record {
       unusable = λ done e. absurd (store_usable done e);
       writes = λ done e. absurd (none-some done e);
-      stops = λ told. inr (front_so from (k.never_again told) told (stops Store refl told));
+      stops = λ told. inr (front_so Store (breaks Store refl) from (k.never_again told) told (stops Store refl told));
       keeps = keeps_on (Some fault.Store) (Some Store) refl (λ b. b) tt tt k;
     }
-    writes_after (Err raw.Sink) inside from puts some stops k = record {
+    writes_after (Err raw.Sink) inside from puts some stops breaks k = record {
       unusable = λ done e. absurd (sink_usable done e);
       writes = λ done e. absurd (none-some done e);
-      stops = λ told. front_so from (k.never_again told) told (stops Sink refl told);
+      stops = λ told. front_so Sink (breaks Sink refl) from (k.never_again told) told (stops Sink refl told);
       keeps = keeps_on (Some fault.Sink) (Some Sink) refl (λ b. b) tt tt k;
     }
 
@@ -262,21 +267,23 @@ module _ (Q O : Type 0) (holds : Q → Bool) (held : Q → ℕ → Pack) (packs_
         → ((done : ℕ) → raw_done (length into) r ≡ Some done → GivesRange t.unit t.part t.at done into into' old new)
         → ((done : ℕ) → r ≡ Err (raw.Unusable done) → done < length into)
         → ((stop : Stop) → raw_stop r ≡ Some stop → IsTrue (holds packs') → HasTables (setup_at old) → IsUntouched old new)
+        → ((stop : Stop) → raw_stop r ≡ Some stop → Breaks true t.unit t.part stop old new)
         → Keeps holds packs_faults tells faults s s' mid packs' trace trace' (raw_stop r)
         → ReadsUnit holds held packs_faults tells taken faults t into into' packs packs' trace trace' why
-    reads_by r why e inside into into' gives some stops k =
+    reads_by r why e inside into into' gives some stops breaks k =
         subst (λ (w : Option TransferFault). ReadsUnit holds held packs_faults tells taken faults t into into' packs packs' trace trace' w) (sym e)
-        (reads_after r inside into into' gives some stops k)
+        (reads_after r inside into into' gives some stops breaks k)
 
     pub writes_by : {A : Type 0} (r : Result A RawFault) (why : Option TransferFault) → why ≡ raw_fault r → (r ≡ Err raw.Outside → ⊥) → (from : List ℕ)
         → ((done : ℕ) → raw_done (length from) r ≡ Some done → PutsRange t.unit t.part t.at done from old new)
         → ((done : ℕ) → r ≡ Err (raw.Unusable done) → done < length from)
         → ((stop : Stop) → raw_stop r ≡ Some stop → IsTrue (holds packs') → HasTables (setup_at old) → StopsAt t.unit (start_of old t.unit t.part) t.at from old new)
+        → ((stop : Stop) → raw_stop r ≡ Some stop → Breaks false t.unit t.part stop old new)
         → Keeps holds packs_faults tells faults s s' mid packs' trace trace' (raw_stop r)
         → WritesUnit holds held packs_faults tells taken faults t from packs packs' trace trace' why
-    writes_by r why e inside from puts some stops k =
+    writes_by r why e inside from puts some stops breaks k =
         subst (λ (w : Option TransferFault). WritesUnit holds held packs_faults tells taken faults t from packs packs' trace trace' w) (sym e)
-        (writes_after r inside from puts some stops k)
+        (writes_after r inside from puts some stops breaks k)
 
 -- a range that is inside
 pub not_outside : {tells : Bool} {pack : Pack} {unit : ℕ} {kind : DriveKind} {s : State} (part : Part) (at size : ℕ) → unit < 32 → IsAttached tells pack unit kind s

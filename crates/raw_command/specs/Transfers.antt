@@ -10,12 +10,15 @@ use Rattle.trace_replay.specs.Replay.{Replay, IsOver}
 use Rattle.trace_replay.specs.Text.{trace_text}
 use Rattle.driver_laws.specs.rules.Machine.{Blocks}
 use Rattle.driver_laws.specs.rules.Stands.{start_over}
-use Rattle.raw_io.specs.Passes.{Stay}
+use Rattle.driver_laws.specs.shown.Lengths.{AreAsLong}
+use Rattle.driver_laws.specs.declared.answers.outcome.Stop.{Stop}
+use Rattle.driver_laws.specs.declared.answers.outcome.Stop.TheVariants as stopped
+use Rattle.raw_io.specs.Passes.{LeftAt, Stay, Took, moments_in}
 use Rattle.driver_laws.specs.rules.Sessions.{Part, IsSession, behind_all, told_in}
 use Rattle.driver_laws.specs.rules.Cleans.{MovedClean}
 use Rattle.driver_laws.specs.rules.Bytes.{range, Touches, ComesTo, with_range}
 use Rattle.driver_laws.specs.rules.Pieces.{EndsBlock}
-use Rattle.raw_io.specs.Transfers.{AreWaited}
+use Rattle.raw_io.specs.Transfers.{AreBegun, AreWaited}
 use Rattle.mba_autoconf.specs.Attach.{Fits}
 use Rattle.raw_command.specs.Faults.{done_by}
 use Rattle.raw_command.specs.Units.{at_unit, unit_setup, KeepsUnit}
@@ -44,7 +47,8 @@ pub record StaysElse (t : Target) (table : Option Table) (held held' : ℕ → P
   pub stay : Stay (at_unit t.unit (Some t.kind)) held held'
 
 -- IT CAME TO AN END. The lines are those of requests of whole blocks of the partition, each waited for before the next one: a legal session
--- from the start over the packs, behind which all is answered, and the sectors are those of the replay behind it.
+-- from the start over the packs, behind which all is answered, and the sectors are those of the replay behind it; and each image is as long as the
+-- blocks that were written make it.
 pub record Transferred (reads : Bool) (t : Target) (held held' : ℕ → Pack) (trace_tells : Bool) (taken taken' : List ℕ) : Type 0 where
   pub table : Option Table
   pub stays : StaysElse t table held held'
@@ -52,6 +56,7 @@ pub record Transferred (reads : Bool) (t : Target) (held held' : ℕ → Pack) (
   pub waited : AreWaited reads t.unit t.part parts
   pub session : IsSession (start_at t table held) parts
   pub over : IsOver (behind_all (start_at t table held) parts)
+  pub long : AreAsLong (start_at t table held) (moments_in parts) held held'
   pub left : (block : ℕ) → block_at (held' t.unit).image block ≡ (behind_all (start_at t table held) parts).surface.sector t.unit block
   pub trace : IsTrue trace_tells → taken' ≡ taken ++ trace_text (told_in parts)
 
@@ -70,31 +75,47 @@ pub record HasWritten (t : Target) (done : ℕ) (from : List ℕ) (held held' : 
   pub comes : ComesTo (blocks_in t moved.table held) (first_in t) t.at (length from) done
   pub written : (block : ℕ) → blocks_in t moved.table held' block ≡ with_range (blocks_in t moved.table held) (first_in t) t.at (take done from) block
 
--- IT STOPPED. Of a read all contents stay;
-pub record LeavesAll (t : Target) (held held' : ℕ → Pack) : Type 0 where
+-- IT STOPPED. The lines are those of such requests, the last one with its lines so far: a legal session from the start over the packs. The trace
+-- took a front of them where it failed, and all of them where only the packs did; and the packs are left as the replay behind them has them, or,
+-- where they failed, with the next block of a write besides.
+pub record Broke (reads : Bool) (t : Target) (stop : Stop) (table : Option Table) (held held' : ℕ → Pack) (trace_tells : Bool) (taken taken' : List ℕ) : Type 0 where
+  pub parts : List Part
+  pub begun : AreBegun reads t.unit t.part parts
+  pub session : IsSession (start_at t table held) parts
+  pub packs : LeftAt stop (at_unit t.unit (Some t.kind)) held held' (behind_all (start_at t table held) parts)
+  pub trace : IsTrue trace_tells → Took stop taken taken' (trace_text (told_in parts))
+
+-- Of a read all contents stay;
+pub record LeavesAll (t : Target) (stop : Stop) (held held' : ℕ → Pack) (trace_tells : Bool) (taken taken' : List ℕ) : Type 0 where
   pub table : Option Table
+  pub broke : Broke true t stop table held held' trace_tells taken taken'
   pub stays : StaysElse t table held held'
   pub same : (block : ℕ) → blocks_in t table held' block ≡ blocks_in t table held block
 
 -- of a write a front of the bytes is there, up to the end of a block: each block is whole.
-pub record LeavesFront (t : Target) (from : List ℕ) (held held' : ℕ → Pack) : Type 0 where
+pub record LeavesFront (t : Target) (stop : Stop) (from : List ℕ) (held held' : ℕ → Pack) (trace_tells : Bool) (taken taken' : List ℕ) : Type 0 where
   pub table : Option Table
+  pub broke : Broke false t stop table held held' trace_tells taken taken'
   pub stays : StaysElse t table held held'
   pub done : ℕ
   pub few : done ≤ length from
   pub whole : EndsBlock t.at (length from) done
   pub written : (block : ℕ) → blocks_in t table held' block ≡ with_range (blocks_in t table held) (first_in t) t.at (take done from) block
 
--- WHAT IS LEFT where the packs or the trace failed; the packs may fail before anything is transferred.
-abbrev pub LeftRead : TransferFault → Target → (held held' : ℕ → Pack) → Type 0
-LeftRead fault.Store t held held' = (held' ≡ held) ⊎ LeavesAll t held held'
-LeftRead fault.Sink t held held' = LeavesAll t held held'
-LeftRead why t held held' = Unit {0}
+-- WHAT IS LEFT where the packs or the trace failed; the packs may fail before anything is transferred, and then no line is told.
+abbrev pub IsUnbegun : (held held' : ℕ → Pack) → (trace_tells : Bool) → (taken taken' : List ℕ) → Type 0
+IsUnbegun held held' trace_tells taken taken' = (held' ≡ held) × (IsTrue trace_tells → taken' ≡ taken)
 
-abbrev pub LeftWritten : TransferFault → Target → (from : List ℕ) → (held held' : ℕ → Pack) → Type 0
-LeftWritten fault.Store t from held held' = (held' ≡ held) ⊎ LeavesFront t from held held'
-LeftWritten fault.Sink t from held held' = LeavesFront t from held held'
-LeftWritten why t from held held' = Unit {0}
+abbrev pub LeftRead : TransferFault → Target → (held held' : ℕ → Pack) → (trace_tells : Bool) → (taken taken' : List ℕ) → Type 0
+LeftRead fault.Store t held held' trace_tells taken taken' = IsUnbegun held held' trace_tells taken taken' ⊎ LeavesAll t stopped.Store held held' trace_tells taken taken'
+LeftRead fault.Sink t held held' trace_tells taken taken' = LeavesAll t stopped.Sink held held' trace_tells taken taken'
+LeftRead why t held held' trace_tells taken taken' = Unit {0}
+
+abbrev pub LeftWritten : TransferFault → Target → (from : List ℕ) → (held held' : ℕ → Pack) → (trace_tells : Bool) → (taken taken' : List ℕ) → Type 0
+LeftWritten fault.Store t from held held' trace_tells taken taken' =
+    IsUnbegun held held' trace_tells taken taken' ⊎ LeavesFront t stopped.Store from held held' trace_tells taken taken'
+LeftWritten fault.Sink t from held held' trace_tells taken taken' = LeavesFront t stopped.Sink from held held' trace_tells taken taken'
+LeftWritten why t from held held' trace_tells taken taken' = Unit {0}
 
 -- WHAT A CALL OVER ONE UNIT has done, by the fault that it answered, if it did: a read into a buffer,
 pub record ReadsUnit {Q O : Type 0} (holds : Q → Bool) (held : Q → ℕ → Pack) (packs_faults : Q → ℕ) (tells : O → Bool) (taken : O → List ℕ) (faults : O → ℕ)
@@ -103,7 +124,7 @@ pub record ReadsUnit {Q O : Type 0} (holds : Q → Bool) (held : Q → ℕ → P
   pub unusable : (done : ℕ) → why ≡ Some (fault.Unusable done) → done < length into
   pub reads : (done : ℕ) → done_by (length into) why ≡ Some done → IsTrue (holds packs')
       → HasRead t (length into) done (take done into') (held packs) (held packs') (tells trace') (taken trace) (taken trace')
-  pub stops : IfSome why (λ f. IsTrue (holds packs') → LeftRead f t (held packs) (held packs'))
+  pub stops : IfSome why (λ f. IsTrue (holds packs') → LeftRead f t (held packs) (held packs') (tells trace') (taken trace) (taken trace'))
   pub keeps : KeepsUnit holds held packs_faults tells faults t.unit t.kind packs packs' trace trace' why
 
 -- and a write of bytes.
@@ -112,5 +133,5 @@ pub record WritesUnit {Q O : Type 0} (holds : Q → Bool) (held : Q → ℕ → 
   pub unusable : (done : ℕ) → why ≡ Some (fault.Unusable done) → done < length from
   pub writes : (done : ℕ) → done_by (length from) why ≡ Some done → IsTrue (holds packs')
       → HasWritten t done from (held packs) (held packs') (tells trace') (taken trace) (taken trace')
-  pub stops : IfSome why (λ f. IsTrue (holds packs') → LeftWritten f t from (held packs) (held packs'))
+  pub stops : IfSome why (λ f. IsTrue (holds packs') → LeftWritten f t from (held packs) (held packs') (tells trace') (taken trace) (taken trace'))
   pub keeps : KeepsUnit holds held packs_faults tells faults t.unit t.kind packs packs' trace trace' why

@@ -12,7 +12,8 @@ use Rattle.driver_laws.specs.rules.Waited.{with_packs}
 use Rattle.blocking_io.specs.FrontsPasses.{Stage, setup_at, StillTell, SessionsJoin}
 use Rattle.blocking_io.specs.Fronts.{OthersStay}
 use Rattle.blocking_io.proofs.Sites.{homes_same, others_none, others_over}
-use Rattle.raw_io.specs.Transfers.{AreWaited, Transfers}
+use Rattle.trace_replay.specs.requests.Requests.{Request}
+use Rattle.raw_io.specs.Transfers.{AreWaited, IsAsk, Transfers}
 
 -- ---- requests
 pub waited_more : (reads : Bool) (unit : ℕ) (part : Part) (xs ys : List SessionPart) → AreWaited reads unit part xs → AreWaited reads unit part ys → AreWaited reads unit part (xs ++ ys)
@@ -53,30 +54,28 @@ transfers_join law reads unit part old mid new first next still = record {
 }
 
 -- reads are transfers too
+pub ask_wider : (unit : ℕ) (part : Part) (r : Request) → IsAsk true unit part r → IsAsk false unit part r
+ask_wider unit part r ask = record {
+  id = ask.id;
+  unit_is = ask.unit_is;
+  part_is = ask.part_is;
+  some = ask.some;
+  few = ask.few;
+  last = ask.last;
+  offset = ask.offset;
+  only = λ e. absurd (no e);
+}
+  where
+    no : false ≡ true → ⊥
+    no e = grind (arith, e)
+
 asks_wider : (unit : ℕ) (part : Part) (xs : List SessionPart) → AreWaited true unit part xs → AreWaited false unit part xs
 asks_wider unit part [] are = tt
 asks_wider unit part (one ∷ []) are = are
 asks_wider unit part (one ∷ two ∷ xs) are = (
-  record {
-    request = are.0.request;
-    ask = record {
-      id = are.0.ask.id;
-      unit_is = are.0.ask.unit_is;
-      part_is = are.0.ask.part_is;
-      some = are.0.ask.some;
-      few = are.0.ask.few;
-      last = are.0.ask.last;
-      offset = are.0.ask.offset;
-      only = λ e. absurd (no e);
-    };
-    submitted_is = are.0.submitted_is;
-    drained_is = are.0.drained_is;
-  },
+  record { request = are.0.request; ask = ask_wider unit part are.0.request are.0.ask; submitted_is = are.0.submitted_is; drained_is = are.0.drained_is },
   asks_wider unit part xs are.1,
 )
-  where
-    no : false ≡ true → ⊥
-    no e = grind (arith, e)
 
 pub transfers_wider : (unit : ℕ) (part : Part) (old new : Stage) → Transfers true unit part old new → Transfers false unit part old new
 transfers_wider unit part old new t = record { parts = t.parts; waited = asks_wider unit part t.parts t.waited; goes = t.goes; others = t.others }

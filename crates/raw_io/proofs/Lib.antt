@@ -1,5 +1,6 @@
 mod Answered
 mod Joins
+mod Breaks
 mod Exits
 mod Loops
 mod ReadPieces

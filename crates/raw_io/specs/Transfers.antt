@@ -4,7 +4,9 @@ use Rattle.partitions.specs.declared.Part.{Part}
 use Rattle.trace_replay.specs.requests.Requests.{Request}
 use Rattle.trace_replay.specs.Script.{Submit, Drain}
 use Rattle.trace_replay.specs.Moments.{Moment}
+use Rattle.driver_laws.specs.declared.answers.outcome.Stop.{Stop}
 use Rattle.blocking_io.specs.FrontsPasses.{Stage, setup_at, GoesOn}
+use Rattle.blocking_io.specs.Stopping.{StopsIn}
 use Rattle.driver_laws.specs.rules.Sessions.{Part as SessionPart}
 use Rattle.driver_laws.specs.rules.Rest.{HasTables}
 use Rattle.driver_laws.specs.rules.Cleans.{MovedClean}
@@ -32,6 +34,24 @@ abbrev pub AreWaited : Bool → ℕ → Part → List SessionPart → Type 0
 AreWaited reads unit part [] = Unit {0}
 AreWaited reads unit part (one ∷ []) = ⊥
 AreWaited reads unit part (submitted ∷ drained ∷ parts) = IsWaited reads unit part submitted drained × AreWaited reads unit part parts
+
+-- the last one may have come no further than its submission
+pub record IsSubmitted (reads : Bool) (unit : ℕ) (part : Part) (submitted : SessionPart) : Type 0 where
+  pub request : Request
+  pub ask : IsAsk reads unit part request
+  pub is : submitted ≡ record { line = 1; input = Submit request; told = submitted.told }
+
+abbrev pub AreBegun : Bool → ℕ → Part → List SessionPart → Type 0
+AreBegun reads unit part [] = Unit {0}
+AreBegun reads unit part (one ∷ []) = IsSubmitted reads unit part one
+AreBegun reads unit part (submitted ∷ drained ∷ parts) = IsWaited reads unit part submitted drained × AreBegun reads unit part parts
+
+-- WHERE IT STOPPED the last one is the one that did, with its lines so far; of all lines the trace took a front, and where only the packs failed
+-- all of them.
+pub record Breaks (reads : Bool) (unit : ℕ) (part : Part) (stop : Stop) (old new : Stage) : Type 0 where
+  pub parts : List SessionPart
+  pub begun : AreBegun reads unit part parts
+  pub stops : StopsIn stop parts old new
 
 -- WHERE NOTHING STOPS IT they follow one another, from each replay that stands for the driver before; and what is no home of a data block
 -- stays.

@@ -1,8 +1,9 @@
 // Whole blocks of a partition, by requests that are waited for.
-ghost use Rattle.std.specs.Prelude.{◌≡◌, ◌*◌, [], true, false, IsTrue, IfOk, OnErr, length};
+ghost use Rattle.std.specs.Prelude.{◌≡◌, ◌*◌, [], true, false, IsTrue, IfOk, IfErr, OnErr, length};
 ghost use Rattle.driver_laws.specs.answers.Outcome.{stop_in};
 ghost use Rattle.blocking_io.specs.FrontsPasses.{asked, setup_at};
 ghost use Rattle.driver_laws.specs.rules.Rest.{HasTables};
+ghost use Rattle.raw_io.specs.Transfers.{Breaks};
 ghost use Rattle.blocking_io.specs.Sites.{site, Keeps, MayTransfer, kind_at, IsUntouched};
 ghost use Rattle.blocking_io.specs.Blocks.{AreBlocks, blocks_reached, PutsFront};
 ghost use Rattle.raw_io.specs.Blocks.{Reads, Gives, Puts};
@@ -41,6 +42,9 @@ fn read_once<P: Packs, T: Sink>(
         → IsUntouched
         (site P.tells P.held T.tells T.taken subsystem.old.world packs.old trace.old)
         (site P.tells P.held T.tells T.taken subsystem.new.world packs.new trace.new)) }
+    ensures breaks { IfErr result (λ stop. Breaks true request.unit request.part stop
+        (site P.tells P.held T.tells T.taken subsystem.old.world packs.old trace.old)
+        (site P.tells P.held T.tells T.taken subsystem.new.world packs.new trace.new)) }
     ensures keeps { Keeps P.tells P.faults T.tells T.faults subsystem.old subsystem.new packs.old packs.new trace.old trace.new (stop_in result) }
 {
     sessions_law();
@@ -68,6 +72,9 @@ pub(crate) fn get_blocks<P: Packs, T: Sink>(
         (site P.tells P.held T.tells T.taken subsystem.new.world packs.new trace.new)) }
     ensures stops { OnErr result (IsTrue (P.tells packs.new) → HasTables (setup_at (site P.tells P.held T.tells T.taken subsystem.old.world packs.old trace.old))
         → IsUntouched
+        (site P.tells P.held T.tells T.taken subsystem.old.world packs.old trace.old)
+        (site P.tells P.held T.tells T.taken subsystem.new.world packs.new trace.new)) }
+    ensures breaks { IfErr result (λ stop. Breaks true request.unit request.part stop
         (site P.tells P.held T.tells T.taken subsystem.old.world packs.old trace.old)
         (site P.tells P.held T.tells T.taken subsystem.new.world packs.new trace.new)) }
     ensures keeps { Keeps P.tells P.faults T.tells T.faults subsystem.old subsystem.new packs.old packs.new trace.old trace.new (stop_in result) }
@@ -102,6 +109,9 @@ pub(crate) fn put_blocks<P: Packs, T: Sink>(
         (site P.tells P.held T.tells T.taken subsystem.new.world packs.new trace.new)) }
     ensures stops { OnErr result (IsTrue (P.tells packs.new) → HasTables (setup_at (site P.tells P.held T.tells T.taken subsystem.old.world packs.old trace.old))
         → PutsFront (asked request from.now)
+        (site P.tells P.held T.tells T.taken subsystem.old.world packs.old trace.old)
+        (site P.tells P.held T.tells T.taken subsystem.new.world packs.new trace.new)) }
+    ensures breaks { IfErr result (λ stop. Breaks false request.unit request.part stop
         (site P.tells P.held T.tells T.taken subsystem.old.world packs.old trace.old)
         (site P.tells P.held T.tells T.taken subsystem.new.world packs.new trace.new)) }
     ensures keeps { Keeps P.tells P.faults T.tells T.faults subsystem.old subsystem.new packs.old packs.new trace.old trace.new (stop_in result) }

@@ -1,10 +1,11 @@
 // Memory is dumped to the end of the partition for swapping.
-ghost use Rattle.std.specs.Prelude.{◌≡◌, ◌+◌, ◌-◌, ◌*◌, ◌<◌, ◌≤◌, ◌++◌, ◌↔◌, ℕ, IsTrue, IfOk, OnErr, length, take, drop, replicate, Some, Err};
+ghost use Rattle.std.specs.Prelude.{◌≡◌, ◌+◌, ◌-◌, ◌*◌, ◌<◌, ◌≤◌, ◌++◌, ◌↔◌, ℕ, false, IsTrue, IfOk, IfErr, OnErr, length, take, drop, replicate, Some, Err};
 ghost use Rattle.partitions.specs.declared.Part.TheVariants.{B};
 ghost use Rattle.partitions.specs.Partitions.{size_of};
 ghost use Rattle.driver_laws.specs.declared.answers.outcome.Stop.{Stop};
 ghost use Rattle.driver_laws.specs.answers.Outcome.{stop_in};
 ghost use Rattle.driver_laws.specs.rules.Rest.{HasTables};
+ghost use Rattle.raw_io.specs.Transfers.{Breaks};
 ghost use Rattle.blocking_io.specs.FrontsPasses.{setup_at};
 ghost use Rattle.raw_io.specs.declared.fault.RawFault.TheVariants.{Outside, Unusable};
 ghost use Rattle.driver_laws.specs.rules.Bytes.{blocks_for, dumped, dump_place};
@@ -74,6 +75,9 @@ fn dump_piece<P: Packs, T: Sink>(
         → StopsPiece piece (take piece.size (drop start (dumped memory.now)))
         (site P.tells P.held T.tells T.taken subsystem.old.world packs.old trace.old)
         (site P.tells P.held T.tells T.taken subsystem.new.world packs.new trace.new)) }
+    ensures breaks { IfErr result (λ stop. Breaks false piece.request.unit piece.request.part stop
+        (site P.tells P.held T.tells T.taken subsystem.old.world packs.old trace.old)
+        (site P.tells P.held T.tells T.taken subsystem.new.world packs.new trace.new)) }
     ensures keeps { Keeps P.tells P.faults T.tells T.faults subsystem.old subsystem.new packs.old packs.new trace.old trace.new (stop_in result) }
 {
     let part = &mut blocks[..piece.size];
@@ -99,6 +103,9 @@ fn dump_range<P: Packs, T: Sink>(
         (site P.tells P.held T.tells T.taken subsystem.new.world packs.new trace.new)) }
     ensures stops { OnErr result (IsTrue (P.tells packs.new) → HasTables (setup_at (site P.tells P.held T.tells T.taken subsystem.old.world packs.old trace.old))
         → StopsAt unit (start_of (site P.tells P.held T.tells T.taken subsystem.old.world packs.old trace.old) unit B) place (dumped memory.now)
+        (site P.tells P.held T.tells T.taken subsystem.old.world packs.old trace.old)
+        (site P.tells P.held T.tells T.taken subsystem.new.world packs.new trace.new)) }
+    ensures breaks { IfErr result (λ stop. Breaks false unit B stop
         (site P.tells P.held T.tells T.taken subsystem.old.world packs.old trace.old)
         (site P.tells P.held T.tells T.taken subsystem.new.world packs.new trace.new)) }
     ensures keeps { Keeps P.tells P.faults T.tells T.faults subsystem.old subsystem.new packs.old packs.new trace.old trace.new (stop_in result) }
@@ -143,6 +150,9 @@ pub fn dump<P: Packs, T: Sink>(
         → IsTrue (P.tells packs.new) → HasTables (setup_at (site P.tells P.held T.tells T.taken subsystem.old.world packs.old trace.old))
         → StopsAt unit (start_of (site P.tells P.held T.tells T.taken subsystem.old.world packs.old trace.old) unit B)
         (dump_place (kind_at subsystem.old.world unit) (length memory.now)) (dumped memory.now)
+        (site P.tells P.held T.tells T.taken subsystem.old.world packs.old trace.old)
+        (site P.tells P.held T.tells T.taken subsystem.new.world packs.new trace.new) }
+    ensures breaks { (stop : Stop) → stop_of result ≡ Some stop → Breaks false unit B stop
         (site P.tells P.held T.tells T.taken subsystem.old.world packs.old trace.old)
         (site P.tells P.held T.tells T.taken subsystem.new.world packs.new trace.new) }
     ensures keeps { Keeps P.tells P.faults T.tells T.faults subsystem.old subsystem.new packs.old packs.new trace.old trace.new (stop_of result) }

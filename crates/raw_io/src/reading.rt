@@ -1,10 +1,11 @@
 // A range of a partition is read.
-ghost use Rattle.std.specs.Prelude.{◌≡◌, ◌+◌, ◌*◌, ◌^◌, ◌<◌, ◌≤◌, ◌↔◌, ℕ, [], false, IsTrue, IfOk, OnErr, length, Some, Err};
+ghost use Rattle.std.specs.Prelude.{◌≡◌, ◌+◌, ◌*◌, ◌^◌, ◌<◌, ◌≤◌, ◌↔◌, ℕ, [], false, true, IsTrue, IfOk, IfErr, OnErr, length, Some, Err};
 ghost use Rattle.partitions.specs.Partitions.{size_of};
 ghost use Rattle.driver_laws.specs.declared.answers.outcome.Stop.{Stop};
 ghost use Rattle.driver_laws.specs.answers.Outcome.{stop_in};
 ghost use Rattle.blocking_io.specs.FrontsPasses.{asked, setup_at};
 ghost use Rattle.driver_laws.specs.rules.Rest.{HasTables};
+ghost use Rattle.raw_io.specs.Transfers.{Breaks};
 ghost use Rattle.raw_io.specs.declared.fault.RawFault.TheVariants.{Outside, Unusable};
 ghost use Rattle.driver_laws.specs.rules.Bytes.{IsOutside};
 ghost use Rattle.blocking_io.specs.Sites.{site, Keeps, MayTransfer, kind_at, IsUntouched};
@@ -41,6 +42,9 @@ fn read_piece<P: Packs, T: Sink>(
         → IsUntouched
         (site P.tells P.held T.tells T.taken subsystem.old.world packs.old trace.old)
         (site P.tells P.held T.tells T.taken subsystem.new.world packs.new trace.new)) }
+    ensures breaks { IfErr result (λ stop. Breaks true piece.request.unit piece.request.part stop
+        (site P.tells P.held T.tells T.taken subsystem.old.world packs.old trace.old)
+        (site P.tells P.held T.tells T.taken subsystem.new.world packs.new trace.new)) }
     ensures keeps { Keeps P.tells P.faults T.tells T.faults subsystem.old subsystem.new packs.old packs.new trace.old trace.new (stop_in result) }
 {
     let read = get_blocks(subsystem, piece.request, blocks, packs, trace)?;
@@ -67,6 +71,9 @@ fn read_range<P: Packs, T: Sink>(
         (site P.tells P.held T.tells T.taken subsystem.new.world packs.new trace.new)) }
     ensures stops { OnErr result (IsTrue (P.tells packs.new) → HasTables (setup_at (site P.tells P.held T.tells T.taken subsystem.old.world packs.old trace.old))
         → IsUntouched
+        (site P.tells P.held T.tells T.taken subsystem.old.world packs.old trace.old)
+        (site P.tells P.held T.tells T.taken subsystem.new.world packs.new trace.new)) }
+    ensures breaks { IfErr result (λ stop. Breaks true unit part stop
         (site P.tells P.held T.tells T.taken subsystem.old.world packs.old trace.old)
         (site P.tells P.held T.tells T.taken subsystem.new.world packs.new trace.new)) }
     ensures keeps { Keeps P.tells P.faults T.tells T.faults subsystem.old subsystem.new packs.old packs.new trace.old trace.new (stop_in result) }
@@ -112,6 +119,9 @@ pub fn raw_read<P: Packs, T: Sink>(
     ensures unusable { (done : ℕ) → result ≡ Err (Unusable done) → done < length into.old }
     ensures stops { (stop : Stop) → stop_of result ≡ Some stop → IsTrue (P.tells packs.new) → HasTables (setup_at (site P.tells P.held T.tells T.taken subsystem.old.world packs.old trace.old))
         → IsUntouched
+        (site P.tells P.held T.tells T.taken subsystem.old.world packs.old trace.old)
+        (site P.tells P.held T.tells T.taken subsystem.new.world packs.new trace.new) }
+    ensures breaks { (stop : Stop) → stop_of result ≡ Some stop → Breaks true unit part stop
         (site P.tells P.held T.tells T.taken subsystem.old.world packs.old trace.old)
         (site P.tells P.held T.tells T.taken subsystem.new.world packs.new trace.new) }
     ensures keeps { Keeps P.tells P.faults T.tells T.faults subsystem.old subsystem.new packs.old packs.new trace.old trace.new (stop_of result) }

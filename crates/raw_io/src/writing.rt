@@ -1,9 +1,10 @@
 // A range of a partition is written, and memory dumped.
-ghost use Rattle.std.specs.Prelude.{◌≡◌, ◌+◌, ◌*◌, ◌^◌, ◌<◌, ◌≤◌, ◌↔◌, ℕ, IsTrue, IfOk, OnErr, length, Some, Err};
+ghost use Rattle.std.specs.Prelude.{◌≡◌, ◌+◌, ◌*◌, ◌^◌, ◌<◌, ◌≤◌, ◌↔◌, ℕ, false, IsTrue, IfOk, IfErr, OnErr, length, Some, Err};
 ghost use Rattle.partitions.specs.Partitions.{size_of};
 ghost use Rattle.driver_laws.specs.declared.answers.outcome.Stop.{Stop};
 ghost use Rattle.driver_laws.specs.answers.Outcome.{stop_in};
 ghost use Rattle.driver_laws.specs.rules.Rest.{HasTables};
+ghost use Rattle.raw_io.specs.Transfers.{Breaks};
 ghost use Rattle.driver_laws.specs.rules.Laid.{laid_at};
 ghost use Rattle.blocking_io.specs.FrontsPasses.{setup_at};
 ghost use Rattle.raw_io.specs.declared.fault.RawFault.TheVariants.{Outside, Unusable};
@@ -45,6 +46,9 @@ fn write_edge<P: Packs, T: Sink>(
         → StopsPiece piece from.now
         (site P.tells P.held T.tells T.taken subsystem.old.world packs.old trace.old)
         (site P.tells P.held T.tells T.taken subsystem.new.world packs.new trace.new)) }
+    ensures breaks { IfErr result (λ stop. Breaks false piece.request.unit piece.request.part stop
+        (site P.tells P.held T.tells T.taken subsystem.old.world packs.old trace.old)
+        (site P.tells P.held T.tells T.taken subsystem.new.world packs.new trace.new)) }
     ensures keeps { Keeps P.tells P.faults T.tells T.faults subsystem.old subsystem.new packs.old packs.new trace.old trace.new (stop_in result) }
 {
     sessions_law();
@@ -79,6 +83,9 @@ pub(crate) fn write_piece<P: Packs, T: Sink>(
         → StopsPiece piece from.now
         (site P.tells P.held T.tells T.taken subsystem.old.world packs.old trace.old)
         (site P.tells P.held T.tells T.taken subsystem.new.world packs.new trace.new)) }
+    ensures breaks { IfErr result (λ stop. Breaks false piece.request.unit piece.request.part stop
+        (site P.tells P.held T.tells T.taken subsystem.old.world packs.old trace.old)
+        (site P.tells P.held T.tells T.taken subsystem.new.world packs.new trace.new)) }
     ensures keeps { Keeps P.tells P.faults T.tells T.faults subsystem.old subsystem.new packs.old packs.new trace.old trace.new (stop_in result) }
 {
     if piece.skip > 0 || piece.size < 512 {
@@ -106,6 +113,9 @@ fn write_range<P: Packs, T: Sink>(
         (site P.tells P.held T.tells T.taken subsystem.new.world packs.new trace.new)) }
     ensures stops { OnErr result (IsTrue (P.tells packs.new) → HasTables (setup_at (site P.tells P.held T.tells T.taken subsystem.old.world packs.old trace.old))
         → StopsAt unit (start_of (site P.tells P.held T.tells T.taken subsystem.old.world packs.old trace.old) unit part) at from.now
+        (site P.tells P.held T.tells T.taken subsystem.old.world packs.old trace.old)
+        (site P.tells P.held T.tells T.taken subsystem.new.world packs.new trace.new)) }
+    ensures breaks { IfErr result (λ stop. Breaks false unit part stop
         (site P.tells P.held T.tells T.taken subsystem.old.world packs.old trace.old)
         (site P.tells P.held T.tells T.taken subsystem.new.world packs.new trace.new)) }
     ensures keeps { Keeps P.tells P.faults T.tells T.faults subsystem.old subsystem.new packs.old packs.new trace.old trace.new (stop_in result) }
@@ -155,6 +165,9 @@ pub fn raw_write<P: Packs, T: Sink>(
     ensures unusable { (done : ℕ) → result ≡ Err (Unusable done) → done < length from.now }
     ensures stops { (stop : Stop) → stop_of result ≡ Some stop → IsTrue (P.tells packs.new) → HasTables (setup_at (site P.tells P.held T.tells T.taken subsystem.old.world packs.old trace.old))
         → StopsAt unit (start_of (site P.tells P.held T.tells T.taken subsystem.old.world packs.old trace.old) unit part) at from.now
+        (site P.tells P.held T.tells T.taken subsystem.old.world packs.old trace.old)
+        (site P.tells P.held T.tells T.taken subsystem.new.world packs.new trace.new) }
+    ensures breaks { (stop : Stop) → stop_of result ≡ Some stop → Breaks false unit part stop
         (site P.tells P.held T.tells T.taken subsystem.old.world packs.old trace.old)
         (site P.tells P.held T.tells T.taken subsystem.new.world packs.new trace.new) }
     ensures keeps { Keeps P.tells P.faults T.tells T.faults subsystem.old subsystem.new packs.old packs.new trace.old trace.new (stop_of result) }

@@ -1,11 +1,13 @@
 -- Stages of formatting: one block written, one stage behind another, and where a stage stops.
 use Rattle.std.proofs.Common.{◌≡◌, ◌≢◌, ◌⊎◌, inl, inr, ℕ, ◌+◌, ◌<◌, ◌≤◌, ◌==◌, ◌&&◌, ◌||◌, not, Bool, true, false, IsTrue, if◌then◌else◌, List, length, Result, Ok, Err, refl, sym, ap, ◌∙◌, subst, arith}
 use Rattle.std.specs.Prelude.{OnErr, OnOk, slice_index}
+use Rattle.std.proofs.lemmas.Bool.{cases_lt}
 use Rattle.std.proofs.lemmas.Bool.Decides.{Decides-eqb, nat_tests}
 use Rattle.pack_geometry.specs.Pack.{Pack, block_at, is_marked, with_pack, with_written, written}
 use Rattle.pack_geometry.proofs.PackLaws.{block_at-with_block_same, block_at-with_block_other}
+use Rattle.pack_format.proofs.testing.LongLaws.{long_as, long_at, long_block, long_same, long_then}
 use Rattle.pack_format.specs.testing.Polls.{IsOldOrNew, Polls, Sides, answer_for}
-use Rattle.pack_format.specs.testing.Stages.{Fills, Reaches, Stops, between, if_done, one, ranged}
+use Rattle.pack_format.specs.testing.Stages.{Fills, IsAsLong, IsBelow, Reaches, Stops, between, if_done, one, ranged}
 use Rattle.pack_format.specs.declared.testing.station.Polled.{Polled}
 use Rattle.pack_format.specs.declared.testing.station.Polled.TheVariants.{Clean, Marked}
 
@@ -69,10 +71,22 @@ sector_written unit block bytes old new long unmarked is sector =
     ∙ block_at-with_block_other (old unit).image bytes block sector long (λ same. false_true (sym e ∙ eq_same sector block same))
     ∙ sym (ap (λ (b : Bool). if_done b bytes (block_at (old unit).image sector)) (one_there (old unit) block sector e)))
 
+-- and how long the image is
+one_is : (pack : Pack) (block sector : ℕ) → one pack block sector ≡ true → sector ≡ block
+one_is pack block sector is = at (sector == block) (λ e. (Decides-eqb sector block).0 e) (λ e. absurd (false_true (sym (one_there pack block sector e) ∙ is)))
+
+long_written : (unit block : ℕ) (bytes : List ℕ) (old new : ℕ → Pack) → length bytes ≡ 512 → is_marked (old unit) block ≡ false → new ≡ with_written old unit block bytes
+    → IsAsLong (λ sector. one (old unit) block sector ≡ true) (length (old unit).image) (length (new unit).image)
+long_written unit block bytes old new whole unmarked is =
+    long_at (length (written (old unit) block bytes).image)
+    (ap (λ (h : ℕ → Pack). length (h unit).image) is ∙ ap (λ (p : Pack). length p.image) (here old unit (written (old unit) block bytes)))
+    (long_block (λ sector. one (old unit) block sector ≡ true) (old unit).image bytes block whole (one_here (old unit) block unmarked) (one_is (old unit) block))
+
 pub fills_written : (unit block : ℕ) (bytes : List ℕ) (old new : ℕ → Pack) → length bytes ≡ 512 → is_marked (old unit) block ≡ false
     → new ≡ with_written old unit block bytes → Fills unit (one (old unit) block) bytes old new
 fills_written unit block bytes old new long unmarked is = record {
   sectors = sector_written unit block bytes old new long unmarked is;
+  long = long_written unit block bytes old new long unmarked is;
   marks = ap (λ (h : ℕ → Pack). (h unit).marks) is ∙ ap (λ (p : Pack). p.marks) (here old unit (written (old unit) block bytes));
   others = λ other ne. ap (λ (h : ℕ → Pack). h other) is ∙ there old unit other (written (old unit) block bytes) ne;
 }
@@ -80,6 +94,7 @@ fills_written unit block bytes old new long unmarked is = record {
 pub fills_none : (unit : ℕ) (done : ℕ → Bool) (bytes : List ℕ) (old new : ℕ → Pack) → ((sector : ℕ) → done sector ≡ false) → new ≡ old → Fills unit done bytes old new
 fills_none unit done bytes old new none is = record {
   sectors = λ sector. ap (λ (h : ℕ → Pack). block_at (h unit).image sector) is ∙ sym (ap (λ (b : Bool). if_done b bytes (block_at (old unit).image sector)) (none sector));
+  long = long_same (ap (λ (h : ℕ → Pack). length (h unit).image) is) (λ sector on. false_true (sym (none sector) ∙ on));
   marks = ap (λ (h : ℕ → Pack). (h unit).marks) is;
   others = λ other ne. ap (λ (h : ℕ → Pack). h other) is;
 }
@@ -91,6 +106,7 @@ fills_marked unit block bytes old new marked is =
 pub stops_same : (unit : ℕ) (done : ℕ → Bool) (Such : List ℕ → Type 0) (old new : ℕ → Pack) → new ≡ old → Stops unit done Such old new
 stops_same unit done Such old new is = record {
   sectors = λ sector. inl (ap (λ (h : ℕ → Pack). block_at (h unit).image sector) is);
+  long = inl (ap (λ (h : ℕ → Pack). length (h unit).image) is);
   marks = ap (λ (h : ℕ → Pack). (h unit).marks) is;
   others = λ other ne. ap (λ (h : ℕ → Pack). h other) is;
 }
@@ -100,6 +116,7 @@ pub stops_done : (unit : ℕ) (done : ℕ → Bool) (Such : List ℕ → Type 0)
     → Stops unit done Such old new
 stops_done unit done Such bytes old new such fills = record {
   sectors = λ sector. by (block_at (new unit).image sector) (block_at (old unit).image sector) (done sector) (fills.sectors sector);
+  long = inr fills.long;
   marks = fills.marks;
   others = fills.others;
 }
@@ -230,6 +247,24 @@ both false true false z x y w e f = e
 both false false true z x y w e f = e ∙ f
 both false false false z x y w e f = e ∙ f
 
+-- a block more in a set, and the unmarked ones of both
+one_in : (a b u : Bool) → (a && not u) ≡ true → ((a || b) && not u) ≡ true
+one_in true b u is = is
+one_in false b u is = absurd (false_true is)
+
+two_in : (a b u : Bool) → (b && not u) ≡ true → ((a || b) && not u) ≡ true
+two_in true true u is = is
+two_in true false u is = absurd (false_true is)
+two_in false b u is = is
+
+which_in : (a b u : Bool) → ((a || b) && not u) ≡ true → ((a && not u) ≡ true) ⊎ ((b && not u) ≡ true)
+which_in true b u is = inl is
+which_in false b u is = inr is
+
+-- the same block of packs with the same marks
+one_of : (p q : Pack) (block sector : ℕ) → p.marks ≡ q.marks → one p block sector ≡ one q block sector
+one_of p q block sector marks = ap (λ (m : Bool). (sector == block) && not m) (same_marks p q sector marks)
+
 -- one block more
 pub fills_next : (unit block : ℕ) (bytes : List ℕ) (f g : ℕ → Bool) (old mid new : ℕ → Pack) → ((sector : ℕ) → g sector ≡ (f sector || (sector == block)))
     → Fills unit (unmarked_of (old unit) f) bytes old mid → Fills unit (one (mid unit) block) bytes mid new → Fills unit (unmarked_of (old unit) g) bytes old new
@@ -241,11 +276,30 @@ fills_next unit block bytes f g old mid new more first then_ = record {
       ∙ ap (λ (m : Bool). if_done ((sector == block) && not m) bytes (block_at (mid unit).image sector)) (same_marks (mid unit) (old unit) sector first.marks))
       (first.sectors sector)
       ∙ ap (λ (b : Bool). if_done (b && not (is_marked (old unit) sector)) bytes (block_at (old unit).image sector)) (sym (more sector));
+  long = long_then (λ sector. unmarked_of (old unit) f sector ≡ true) (λ sector. one (mid unit) block sector ≡ true) (λ sector. unmarked_of (old unit) g sector ≡ true) first.long then_.long
+      (λ sector is. next sector ∙ one_in (f sector) (sector == block) (is_marked (old unit) sector) is)
+      (λ sector is. next sector ∙ two_in (f sector) (sector == block) (is_marked (old unit) sector) (sym (one_of (mid unit) (old unit) block sector first.marks) ∙ is))
+      (λ sector is. elim (which_in (f sector) (sector == block) (is_marked (old unit) sector) (sym (next sector) ∙ is)) [
+        | inl one ↦ inl one
+        | inr two ↦ inr (one_of (mid unit) (old unit) block sector first.marks ∙ two)
+      ]);
   marks = then_.marks ∙ first.marks;
   others = λ other ne. then_.others other ne ∙ first.others other ne;
 }
+  where
+    next : (sector : ℕ) → unmarked_of (old unit) g sector ≡ ((f sector || (sector == block)) && not (is_marked (old unit) sector))
+    next sector = ap (λ (b : Bool). b && not (is_marked (old unit) sector)) (more sector)
 
--- the same block again, with other bytes
+-- the same block again: how long the image is,
+long_over : (unit block : ℕ) (old mid new : ℕ → Pack) → (mid unit).marks ≡ (old unit).marks
+    → IsAsLong (λ sector. one (old unit) block sector ≡ true) (length (old unit).image) (length (mid unit).image)
+    → IsAsLong (λ sector. one (mid unit) block sector ≡ true) (length (mid unit).image) (length (new unit).image)
+    → IsAsLong (λ sector. one (old unit) block sector ≡ true) (length (old unit).image) (length (new unit).image)
+long_over unit block old mid new marks first second =
+    long_then (λ sector. one (old unit) block sector ≡ true) (λ sector. one (mid unit) block sector ≡ true) (λ sector. one (old unit) block sector ≡ true) first second
+    (λ sector is. is) (λ sector is. sym (one_of (mid unit) (old unit) block sector marks) ∙ is) (λ sector is. inl is)
+
+-- with other bytes,
 pub fills_over : (unit block : ℕ) (before bytes : List ℕ) (old mid new : ℕ → Pack) → Fills unit (one (old unit) block) before old mid
     → Fills unit (one (mid unit) block) bytes mid new → Fills unit (one (old unit) block) bytes old new
 fills_over unit block before bytes old mid new first then_ = record {
@@ -255,6 +309,7 @@ fills_over unit block before bytes old mid new first then_ = record {
       (then_.sectors sector
       ∙ ap (λ (m : Bool). if_done ((sector == block) && not m) bytes (block_at (mid unit).image sector)) (same_marks (mid unit) (old unit) sector first.marks))
       (first.sectors sector);
+  long = long_over unit block old mid new first.marks first.long then_.long;
   marks = then_.marks ∙ first.marks;
   others = λ other ne. then_.others other ne ∙ first.others other ne;
 }
@@ -272,6 +327,10 @@ stops_over unit block Such One before old mid new such also first stop = record 
       over (one (old unit) block sector) (block_at (old unit).image sector) (block_at (mid unit).image sector) (block_at (new unit).image sector) (first.sectors sector)
       (subst (λ (m : Bool). (block_at (new unit).image sector ≡ block_at (mid unit).image sector)
       ⊎ ((((sector == block) && not m) ≡ true) × One (block_at (new unit).image sector))) (same_marks (mid unit) (old unit) sector first.marks) (stop.sectors sector));
+  long = elim stop.long [
+    | inl same ↦ inr (long_at (length (mid unit).image) same first.long)
+    | inr long ↦ inr (long_over unit block old mid new first.marks first.long long)
+  ];
   marks = stop.marks ∙ first.marks;
   others = λ other ne. stop.others other ne ∙ first.others other ne;
 }
@@ -283,7 +342,7 @@ stops_over unit block Such One before old mid new such also first stop = record 
     over false x y w e (inr struck) = absurd (false_true struck.0)
 
 -- what a stage gave a sector, or left it
-on : (d m : Bool) → d ≡ true → m ≡ false → (d && not m) ≡ true
+pub on : (d m : Bool) → d ≡ true → m ≡ false → (d && not m) ≡ true
 on d m one two = rw (one, two) refl
 
 none : (d m : Bool) → (d ≡ false) ⊎ (m ≡ true) → (d && not m) ≡ false
@@ -291,7 +350,7 @@ none d m (inl e) = ap (λ (b : Bool). b && not m) e
 none true m (inr e) = ap not e
 none false m (inr e) = refl
 
-off : (d m : Bool) → (d && not m) ≡ true → m ≡ false
+pub off : (d m : Bool) → (d && not m) ≡ true → m ≡ false
 off true true e = absurd (false_true e)
 off true false e = refl
 off false m e = absurd (false_true e)
@@ -332,10 +391,46 @@ reaches unit block set done bytes Such old mid new has to from first stop = reco
               absurd (false_true (sym (off (sector == block) (is_marked (mid unit) sector) struck.0) ∙ same_marks (mid unit) (old unit) sector first.marks ∙ marked))
         ]
   ];
+  begun = lasts.0;
+  begun_is = lasts.1;
+  long = lasts.2;
   marks = stop.marks ∙ first.marks;
   others = λ other ne. stop.others other ne ∙ first.others other ne;
 }
   where
+    set_of : (d m : Bool) → (d && not m) ≡ true → d ≡ true
+    set_of true m is = refl
+    set_of false m is = absurd (false_true is)
+
+    before_it : IsAsLong (IsBelow (old unit) set block) (length (old unit).image) (length (mid unit).image)
+    before_it =
+        long_as (IsBelow (old unit) set block) first.long
+        (λ sector is. let among = from sector (set_of (done sector) (is_marked (old unit) sector) is) in (among.1, among.0, off (done sector) (is_marked (old unit) sector) is))
+        (λ sector is. on (done sector) (is_marked (old unit) sector) (to sector is.0 is.1) is.2)
+
+    lasts : (begun : ℕ) × ((begun ≡ block) ⊎ (begun ≡ block + 1)) × IsAsLong (IsBelow (old unit) set begun) (length (old unit).image) (length (new unit).image)
+    lasts =
+        elim stop.long [
+          | inl same ↦ (block, inl refl, long_at (length (mid unit).image) same before_it)
+          | inr long ↦ (
+            block + 1,
+            inr refl,
+            long_then (IsBelow (old unit) set block) (λ sector. one (mid unit) block sector ≡ true) (IsBelow (old unit) set (block + 1)) before_it long
+                (λ sector is. (omega (arith, is.0), is.1, is.2))
+                (λ sector is. let here = one_is (mid unit) block sector is in (
+                  omega (arith, here),
+                  ap set here ∙ has,
+                  sym (same_marks (mid unit) (old unit) sector first.marks) ∙ off (sector == block) (is_marked (mid unit) sector) is,
+                ))
+                (λ sector is. elim (cases_lt sector block) [
+                  | inl less ↦ inl (less, is.1, is.2)
+                  | inr le ↦
+                      let here : sector ≡ block = omega (arith, le, is.0) in
+                      inr (on (sector == block) (is_marked (mid unit) sector) (eq_same sector block here) (same_marks (mid unit) (old unit) sector first.marks ∙ is.2))
+                ]),
+          )
+        ]
+
     stayed : (sector : ℕ) → (sector ≡ block → ⊥) → block_at (new unit).image sector ≡ block_at (mid unit).image sector
     stayed sector ne =
         elim (stop.sectors sector) [
@@ -350,6 +445,7 @@ pub stops_weaken : (unit : ℕ) (Such One : List ℕ → Type 0) (done : ℕ →
     → Stops unit done Such old new
 stops_weaken unit Such One done old new also stop = record {
   sectors = λ sector. elim (stop.sectors sector) [ inl same ↦ inl same | inr struck ↦ inr (struck.0, also (block_at (new unit).image sector) struck.1) ];
+  long = stop.long;
   marks = stop.marks;
   others = stop.others;
 }

@@ -1,5 +1,5 @@
 -- What the tests of blocks have done with a unit.
-use Rattle.std.specs.Prelude.{◌≡◌, ◌≢◌, ◌⊎◌, ◌==◌, ◌&&◌, ◌||◌, nat_le, nat_lt, not, ℕ, zero, suc, ◌<◌, Bool, true, false, List, replicate}
+use Rattle.std.specs.Prelude.{◌≡◌, ◌≢◌, ◌⊎◌, ◌==◌, ◌&&◌, ◌||◌, nat_le, nat_lt, not, ℕ, zero, suc, ◌+◌, ◌*◌, ◌<◌, ◌≤◌, Bool, true, false, List, length, replicate}
 use Rattle.pack_geometry.specs.declared.DriveKind.{DriveKind}
 use Rattle.pack_geometry.specs.Geometry.{copy_at}
 use Rattle.pack_geometry.specs.Pack.{Pack, block_at, is_marked}
@@ -27,9 +27,18 @@ abbrev pub if_done : Bool → List ℕ → List ℕ → List ℕ
 if_done true bytes had = bytes
 if_done false bytes had = had
 
--- A STAGE. The sectors of a set have these bytes, and every other sector what it had; marks stay, and so does each other unit.
+-- HOW LONG AN IMAGE GETS by sectors that are written: it is no shorter than it was, reaches to the end of each of them, and ends where it did or
+-- where one of them does.
+pub record IsAsLong (written : ℕ → Type 0) (old new : ℕ) : Type 0 where
+  pub kept : old ≤ new
+  pub covers : (sector : ℕ) → written sector → 512 * (sector + 1) ≤ new
+  pub most : (new ≡ old) ⊎ ((sector : ℕ) × written sector × (new ≡ 512 * (sector + 1)))
+
+-- A STAGE. The sectors of a set have these bytes, and every other sector what it had; the image is as long as they make it; marks stay, and so
+-- does each other unit.
 pub record Fills (unit : ℕ) (done : ℕ → Bool) (bytes : List ℕ) (old new : ℕ → Pack) : Type 0 where
   pub sectors : (sector : ℕ) → block_at (new unit).image sector ≡ if_done (done sector) bytes (block_at (old unit).image sector)
+  pub long : IsAsLong (λ sector. done sector ≡ true) (length (old unit).image) (length (new unit).image)
   pub marks : (new unit).marks ≡ (old unit).marks
   pub others : (other : ℕ) → other ≢ unit → new other ≡ old other
 
@@ -37,11 +46,17 @@ pub record Fills (unit : ℕ) (done : ℕ → Bool) (bytes : List ℕ) (old new 
 pub record Stops (unit : ℕ) (done : ℕ → Bool) (Such : List ℕ → Type 0) (old new : ℕ → Pack) : Type 0 where
   pub sectors : (sector : ℕ) → (block_at (new unit).image sector ≡ block_at (old unit).image sector)
       ⊎ ((done sector ≡ true) × Such (block_at (new unit).image sector))
+  pub long : (length (new unit).image ≡ length (old unit).image) ⊎ IsAsLong (λ sector. done sector ≡ true) (length (old unit).image) (length (new unit).image)
   pub marks : (new unit).marks ≡ (old unit).marks
   pub others : (other : ℕ) → other ≢ unit → new other ≡ old other
 
+-- the unmarked sectors of a set, below one
+abbrev pub IsBelow : Pack → (set : ℕ → Bool) → (above sector : ℕ) → Type 0
+IsBelow pack set above sector = (sector < above) × (set sector ≡ true) × (is_marked pack sector ≡ false)
+
 -- A STAGE THAT STOPPED, at one block of its set: the unmarked ones before that are done, and none behind it was begun. It has itself
--- what it had, or such bytes where it is unmarked. Every sector that is marked, or is none of the set, has what it had.
+-- what it had, or such bytes where it is unmarked. Every sector that is marked, or is none of the set, has what it had. The image is as long as the
+-- blocks before it make it, or as it makes it besides.
 pub record Reaches (unit : ℕ) (set : ℕ → Bool) (bytes : List ℕ) (Such : List ℕ → Type 0) (old new : ℕ → Pack) : Type 0 where
   pub reached : ℕ
   pub among : set reached ≡ true
@@ -50,6 +65,9 @@ pub record Reaches (unit : ℕ) (set : ℕ → Bool) (bytes : List ℕ) (Such : 
       ⊎ ((is_marked (old unit) reached ≡ false) × Such (block_at (new unit).image reached))
   pub behind : (sector : ℕ) → reached < sector → block_at (new unit).image sector ≡ block_at (old unit).image sector
   pub kept : (sector : ℕ) → (set sector ≡ false) ⊎ (is_marked (old unit) sector ≡ true) → block_at (new unit).image sector ≡ block_at (old unit).image sector
+  pub begun : ℕ
+  pub begun_is : (begun ≡ reached) ⊎ (begun ≡ reached + 1)
+  pub long : IsAsLong (IsBelow (old unit) set begun) (length (old unit).image) (length (new unit).image)
   pub marks : (new unit).marks ≡ (old unit).marks
   pub others : (other : ℕ) → other ≢ unit → new other ≡ old other
 

@@ -4,7 +4,7 @@ use thiserror::Error;
 /// Why a test of blocks stopped.
 #[derive(Clone, Copy, Debug, Drop, Error)]
 pub enum TestFault {
-    /// A byte of a block came back otherwise than it was written; `at` is its place in the block.
+    /// A block came back otherwise than it was written; `at` is the place of its first byte that did.
     #[error("byte {at} of block {block} was written as {wrote} and read as {read}")]
     Differs {
         block: u32,

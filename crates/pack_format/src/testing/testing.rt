@@ -12,7 +12,8 @@ use crate::testing::{Polled, Station};
 use outside_traits::traits::Packs;
 use pack_geometry::{DriveKind, copy_block};
 
-/// Reads a block that was written. Differs where a byte came back otherwise; where nothing came back, the first one did.
+/// Reads a block that was written, into a buffer that differs from it. Differs names the first byte that came back otherwise; where
+/// the block is found marked nothing comes back, and the buffer differs at its first byte.
 fn read_back<P: Packs>(
     station: &mut Station,
     packs: &mut P,

@@ -24,6 +24,7 @@ returns-in_err-on g c = record {
       (place_then c.args.kind c.args.table.now c.requires.kind c.entries-i-end.ensures.valid c.loop-i.i c.entry.result c.entry.ensures
       c.loop-i.invariant.does c.in_err-on.ensures.does));
   counted = no_value _ _ c.from_residual.ensures.0;
+  few = no_value _ _ c.from_residual.ensures.0;
 }
 
 pub loop-i-preserved : goal.loop-i-preserved
@@ -49,4 +50,5 @@ returns g c =
     let whole = all_taken c.args.table.now.places c.loop-i.i c.entries-i-end.result c.entries-i-end.ensures.count c.loop-i-test.false in record {
       does = does_same (λ _. ap (λ (ps : List Place). markings c.args.kind pack ps) whole) so_far.does;
       counted = λ t. so_far.counted t ∙ ap (λ (ps : List Place). length (to_mark c.args.kind pack ps)) whole;
+      few = omega (arith, so_far.small, c.entries-i-end.ensures.count, c.entries-i-end.ensures.valid.room);
     }

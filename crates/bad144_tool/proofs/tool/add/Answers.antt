@@ -1,3 +1,4 @@
+use Rattle.std.proofs.Common.{arith}
 use Rattle.bad144_tool.proofs.AddLaws.{adds, at_error, within}
 use Rattle.bad144_tool.proofs.ExitLaws.{counted_failed, counted_ok, counted_on, counted_then, leaves_same, no_value}
 use Rattle.bad144_tool.proofs.tool.add.Goals as goal
@@ -8,6 +9,7 @@ returns-in_err-plan g c =
     let plan = c.in_err-plan.ensures in record {
       never_again = plan.never_again;
       added = no_value _ _ c.from_residual.ensures.0;
+      index = no_value _ _ c.from_residual.ensures.0;
       faults = at_error _ _ error plan.faults;
       why = at_error _ _ error plan.why;
       left = at_error _ _ error (λ t. leaves_same c.args.kind c.args.unit c.args.block c.args.way _ _ _ (plan.same t));
@@ -21,6 +23,7 @@ returns-in_err-write_edit g c =
     let edit = c.in_err-write_edit.ensures in record {
       never_again = λ t. plan.never_again (edit.never_again t);
       added = no_value _ _ c.from_residual-in_err-write_edit.ensures.0;
+      index = no_value _ _ c.from_residual-in_err-write_edit.ensures.0;
       faults = at_error _ _ error tt;
       why = at_error _ _ error (λ _. tt);
       left = at_error _ _ error (λ t.
@@ -39,6 +42,7 @@ returns g c =
           let told = edit.never_again t in
           let may = plan.may told in
           adds c.args.kind c.args.unit c.args.block _ c.args.way _ _ _ may.0 _ may.1 (plan.same told) (edit.done t);
+      index = omega (arith, plan.index, plan.room);
       faults = tt;
       why = tt;
       left = tt;

@@ -1,6 +1,5 @@
-use Rattle.std.proofs.Common.{ℕ, refl, subst, ◌∙◌}
-use Rattle.pack_geometry.specs.Pack.{Pack}
-use Rattle.pack_geometry.specs.PackTable.{IsTableOf}
+use Rattle.std.proofs.Common.{refl, ◌∙◌}
+use Rattle.bad144_tool.proofs.ListLaws.{listed}
 use Rattle.bad144_tool.proofs.AddLaws.{at_error}
 use Rattle.bad144_tool.proofs.ExitLaws.{counted_failed, counted_ok, counted_on, counted_other, counted_same, counted_then, fresh_is_list_fault, fresh_is_not_sink, not_done, not_this, ok_is_no_error, sink_is_not_store, store_is_not_sink}
 use Rattle.bad144_tool.proofs.tool.list.Goals as goal
@@ -16,7 +15,7 @@ returns-in_err-check_length g c =
       listed = not_done _ _ c.from_residual.ensures.0;
       faults = at_error _ _ error (fresh_is_list_fault c.args.kind _ check.faults);
       why = at_error _ _ error check.why;
-      front = λ is _. absurd (not_this _ error not_sink is);
+      front = λ is. absurd (not_this _ error not_sink is);
       silent = at_error _ _ error (λ _. refl);
       store = counted_on _ error check.store;
       sink = counted_same _ error not_sink;
@@ -33,7 +32,7 @@ returns-in_err-table g c =
       listed = not_done _ _ c.from_residual-in_err-table.ensures.0;
       faults = at_error _ _ error tt;
       why = at_error _ _ error (λ _. tt);
-      front = λ is _. absurd (not_this _ error store_is_not_sink is);
+      front = λ is. absurd (not_this _ error store_is_not_sink is);
       silent = at_error _ _ error (λ _. refl);
       store = counted_then check.store.later (counted_failed table.cause);
       sink = counted_same _ error store_is_not_sink;
@@ -46,20 +45,19 @@ returns-in_err-write_list g c =
     let table = c.in_ok-table.ensures in
     let list = c.in_err-write_list.ensures in record {
       never_again = λ t. check.never_again (table.never_again t);
-      out_never_again = list.never_again;
+      out_never_again = list.puts.never_again;
       same = λ t. table.same t ∙ check.same (table.never_again t);
       listed = not_done _ _ c.from_residual-in_err-write_list.ensures.0;
       faults = at_error _ _ error tt;
       why = at_error _ _ error (λ _. tt);
-      front = λ _ t. record {
-        fits = check.fits (table.never_again t);
+      front = λ _. record {
         table = c.in_ok-table.table;
-        table_is = subst (λ (packs : ℕ → Pack). IsTableOf c.args.kind (packs c.args.unit) c.in_ok-table.table) (check.same (table.never_again t)) (table.table t);
-        told = list.front;
+        is = listed c.args.kind c.args.unit _ _ _ c.in_ok-table.table table.drive list.valid (λ t. check.fits (table.never_again t)) (λ t. check.same (table.never_again t)) table.table;
+        told = list.puts.front;
       };
       silent = at_error _ _ error (λ other. absurd (other refl));
       store = counted_then check.store.later (counted_other _ error sink_is_not_store table.cause.later);
-      sink = counted_failed list.cause;
+      sink = counted_failed list.puts.cause;
     }
 
 pub returns : goal.returns
@@ -68,18 +66,17 @@ returns g c =
     let table = c.in_ok-table.ensures in
     let list = c.in_ok-write_list.ensures in record {
       never_again = λ t. check.never_again (table.never_again t);
-      out_never_again = list.never_again;
+      out_never_again = list.puts.never_again;
       same = λ t. table.same t ∙ check.same (table.never_again t);
-      listed = λ t. record {
-        fits = check.fits (table.never_again t);
+      listed = record {
         table = c.in_ok-table.table;
-        table_is = subst (λ (packs : ℕ → Pack). IsTableOf c.args.kind (packs c.args.unit) c.in_ok-table.table) (check.same (table.never_again t)) (table.table t);
-        told = list.bytes;
+        is = listed c.args.kind c.args.unit _ _ _ c.in_ok-table.table table.drive list.valid (λ t. check.fits (table.never_again t)) (λ t. check.same (table.never_again t)) table.table;
+        told = list.puts.bytes;
       };
       faults = tt;
       why = tt;
-      front = λ is _. absurd (ok_is_no_error is);
+      front = λ is. absurd (ok_is_no_error is);
       silent = tt;
       store = counted_then check.store.later (counted_ok _ table.cause.later);
-      sink = counted_ok _ list.cause.later;
+      sink = counted_ok _ list.puts.cause.later;
     }

@@ -11,8 +11,8 @@ returns-in-Ok g c =
       never_again = c.add.ensures.never_again;
       runs = by_end (λ (code : ℕ). RunsAdd c.args.kind c.args.unit c.args.block c.args.way code (g.P.Packs.tells c.add.new.packs) (g.P.Packs.held c.args.packs.now) (g.P.Packs.held c.add.new.packs)
           (g.O.Sink.tells c.tell.new.out) (g.O.Sink.taken c.args.out.now) (g.O.Sink.taken c.tell.new.out) (g.O.Sink.faults c.args.out.now) (g.O.Sink.faults c.tell.new.out)) _ told.ends
-          (λ is. add_done c.in-Ok.i c.in-Ok.ensures.added (λ t. subst (λ (text : List ℕ). g.O.Sink.taken c.tell.new.out ≡ g.O.Sink.taken c.args.out.now ++ text) c.entry_line.ensures (told.done is t)))
-          (λ is. add_cut c.in-Ok.i c.in-Ok.ensures.added (told.rose is) (λ t. subst (λ (text : List ℕ). TakesFront (g.O.Sink.taken c.args.out.now) (g.O.Sink.taken c.tell.new.out) text) c.entry_line.ensures (told.cut is t)));
+          (λ is. add_done c.in-Ok.i c.in-Ok.ensures.index c.in-Ok.ensures.added (λ t. subst (λ (text : List ℕ). g.O.Sink.taken c.tell.new.out ≡ g.O.Sink.taken c.args.out.now ++ text) c.entry_line.ensures (told.done is t)))
+          (λ is. add_cut c.in-Ok.i c.in-Ok.ensures.index c.in-Ok.ensures.added (told.rose is) (λ t. subst (λ (text : List ℕ). TakesFront (g.O.Sink.taken c.args.out.now) (g.O.Sink.taken c.tell.new.out) text) c.entry_line.ensures (told.cut is t)));
       sink = told.rose;
       store = λ is. absurd (never_failed _ told.ends is);
     }

@@ -11,8 +11,8 @@ returns-in-Ok g c =
       never_again = c.mark.ensures.never_again;
       runs = by_end (λ (code : ℕ). RunsMark c.args.kind c.args.unit code (g.P.Packs.tells c.mark.new.packs) (g.P.Packs.held c.args.packs.now) (g.P.Packs.held c.mark.new.packs)
           (g.O.Sink.tells c.tell.new.out) (g.O.Sink.taken c.args.out.now) (g.O.Sink.taken c.tell.new.out) (g.O.Sink.faults c.args.out.now) (g.O.Sink.faults c.tell.new.out)) _ told.ends
-          (λ is. mark_done c.in-Ok.count c.in-Ok.ensures.marked (λ t. subst (λ (text : List ℕ). g.O.Sink.taken c.tell.new.out ≡ g.O.Sink.taken c.args.out.now ++ text) c.marked_line.ensures (told.done is t)))
-          (λ is. mark_cut c.in-Ok.count c.in-Ok.ensures.marked (told.rose is) (λ t. subst (λ (text : List ℕ). TakesFront (g.O.Sink.taken c.args.out.now) (g.O.Sink.taken c.tell.new.out) text) c.marked_line.ensures (told.cut is t)));
+          (λ is. mark_done c.in-Ok.count c.in-Ok.ensures.few c.in-Ok.ensures.marked (λ t. subst (λ (text : List ℕ). g.O.Sink.taken c.tell.new.out ≡ g.O.Sink.taken c.args.out.now ++ text) c.marked_line.ensures (told.done is t)))
+          (λ is. mark_cut c.in-Ok.count c.in-Ok.ensures.few c.in-Ok.ensures.marked (told.rose is) (λ t. subst (λ (text : List ℕ). TakesFront (g.O.Sink.taken c.args.out.now) (g.O.Sink.taken c.tell.new.out) text) c.marked_line.ensures (told.cut is t)));
       sink = told.rose;
       store = λ is. absurd (never_failed _ told.ends is);
     }

@@ -16,7 +16,8 @@ returns-in_err-check_length g c =
       why = at_error _ _ error check.why;
       left = at_error _ _ error
           (λ t. left_alone c.args.kind c.args.serial c.args.unit (g.P.Packs.held c.args.packs.now) _ _ c.in_err-check_length.field-0.0 (check.why t) (check.same t));
-      fault = at_error _ _ error check.fault;
+      few = no_value _ _ c.from_residual.ensures.0;
+      fault = at_error _ _ error (check.fault c.args.serial);
       never_again = check.never_again;
       cause = caused_on _ error check.cause;
     }
@@ -29,6 +30,7 @@ returns-in_err-station g c =
       elsewhere = λ other ne t. ap (λ (h : ℕ → Pack). h other) (check.same t);
       why = at_error _ _ error check.fits;
       left = at_error _ _ error check.same;
+      few = no_value _ _ c.from_residual-in_err-station.ensures.0;
       fault = at_error _ _ error tt;
       never_again = check.never_again;
       cause = caused_other _ error memory_is_not_store check.cause.later;
@@ -50,6 +52,7 @@ returns g c =
           _ same through.why;
       left = leaves_behind c.args.kind c.args.serial c.args.unit (g.P.Packs.held c.args.packs.now) (g.P.Packs.held c.check_length.new.packs) (g.P.Packs.held c.format_through.new.packs)
           (IsTrue (g.P.Packs.tells c.format_through.new.packs)) _ same through.left;
+      few = through.few;
       fault = through.fault;
       never_again = λ t. check.never_again (through.never_again t);
       cause = caused_then check.cause.later through.cause;

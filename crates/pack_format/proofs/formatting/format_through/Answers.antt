@@ -1,4 +1,4 @@
-use Rattle.std.proofs.Common.{ℕ, ap, subst, sym, ◌∙◌}
+use Rattle.std.proofs.Common.{ℕ, ap, arith, subst, sym, ◌∙◌}
 use Rattle.pack_geometry.specs.Pack.{Pack}
 use Rattle.pack_geometry.specs.TableSpelling.{Table}
 use Rattle.pack_format.proofs.testing.ExitLaws.{no_value}
@@ -17,6 +17,7 @@ returns-in_err-table g c =
       why = at_error _ _ error table.why;
       left = at_error _ _ error
           (λ t. left_alone c.args.kind c.args.serial c.args.unit (g.P.Packs.held c.args.packs.now) _ _ c.in_err-table.field-0.0 (table.why t) (table.same t));
+      few = no_value _ _ c.from_residual.ensures.0;
       fault = at_error _ _ error table.fault;
       never_again = table.never_again;
       cause = caused_on _ error table.cause;
@@ -38,12 +39,13 @@ returns-in_err-write_blocks g c =
     let stop = c.in_err-write_blocks.field-0.0 in record {
       formatted = no_value _ _ c.from_residual-in_err-write_blocks.ensures.0;
       elsewhere = λ other ne t. blocks.elsewhere other ne t ∙ ap (λ (h : ℕ → Pack). h other) (table.same (blocks.never_again t));
-      why = at_error _ _ error (λ t. why_of c.args.kind _ _ stop blocks.stop t);
+      why = at_error _ _ error (λ t. why_of c.args.kind _ _ _ stop blocks.stop t);
       left = at_error _ _ error (λ t.
           let told = blocks.never_again t in
           left_behind c.args.kind c.args.serial c.in_ok-table.table.serial c.args.unit (g.P.Packs.held c.args.packs.now) (g.P.Packs.held c.first_reading.new.packs) (g.P.Packs.held c.write_blocks.new.packs)
           _ stop blocks.stop t (ap (λ (x : Table). x.serial) (table.table told)) (table.same told) (blocks.partly t));
-      fault = at_error _ _ error (fault_of c.args.kind _ stop blocks.stop);
+      few = no_value _ _ c.from_residual-in_err-write_blocks.ensures.0;
+      fault = at_error _ _ error (fault_of c.args.kind c.args.serial _ _ stop table.drive.1 blocks.stop);
       never_again = λ t. table.never_again (blocks.never_again t);
       cause = caused_then table.cause.later (caused_test _ error blocks.cause);
     }
@@ -61,6 +63,7 @@ returns g c =
       elsewhere = λ other ne t. blocks.elsewhere other ne t ∙ ap (λ (h : ℕ → Pack). h other) (table.same (blocks.never_again t));
       why = tt;
       left = tt;
+      few = omega (arith, c.entries.ensures.count, c.entries.ensures.valid.room);
       fault = tt;
       never_again = λ t. table.never_again (blocks.never_again t);
       cause = caused_then table.cause.later (caused_ok _ blocks.cause.later);

@@ -34,15 +34,15 @@ returns-in_err-test_blocks-2-clause-partly g c =
 pub returns-in_err-test_blocks-clause-stop : goal.returns-in_err-test_blocks-clause-stop
 returns-in_err-test_blocks-clause-stop g c =
     at_error _ _ c.from_residual.ensures.1
-    (stop_below c.args.kind _ _ _ c.in_err-test_blocks.field-0.0 (omega (arith, c.data_limit-limit.ensures, above_data c.args.kind 0)) c.in_err-test_blocks.ensures.stop)
+    (stop_below c.args.kind c.args.table.now.serial _ _ _ c.in_err-test_blocks.field-0.0 (omega (arith, c.data_limit-limit.ensures, above_data c.args.kind 0)) c.in_err-test_blocks.ensures.stop)
 
 pub returns-in_err-test_blocks-2-clause-stop : goal.returns-in_err-test_blocks-2-clause-stop
 returns-in_err-test_blocks-2-clause-stop g c =
     at_error _ _ c.from_residual-in_err-test_blocks-2.ensures.1
-    (stop_below c.args.kind _ _ _ c.in_err-test_blocks-2.field-0.0 (omega (arith, c.copy_block-track.ensures)) c.in_err-test_blocks-2.ensures.stop)
+    (stop_below c.args.kind c.args.table.now.serial _ _ _ c.in_err-test_blocks-2.field-0.0 (omega (arith, c.copy_block-track.ensures)) c.in_err-test_blocks-2.ensures.stop)
 
 pub returns-clause-stop : goal.returns-clause-stop
-returns-clause-stop g c = ends_copy c.args.kind (g.P.Packs.tells c.write_copies.new.packs) _ c.write_copies.result c.write_copies.ensures.stop
+returns-clause-stop g c = ends_copy c.args.kind c.args.table.now (g.P.Packs.tells c.write_copies.new.packs) _ c.write_copies.result c.requires.drive c.write_table.ensures c.write_copies.ensures.stop
 
 pub returns-clause-formatted : goal.returns-clause-formatted
 returns-clause-formatted g c =

@@ -10,6 +10,7 @@ returns-in_err-survey g c =
     let error = c.from_residual.ensures.1 in
     let survey = c.in_err-survey.ensures in record {
       table = no_value _ _ is;
+      drive = no_value _ _ is;
       can = not_done _ _ is;
       why = at_error _ _ error (λ _. tt);
       fault = at_error _ _ error tt;
@@ -26,6 +27,7 @@ returns-in_err-spare g c =
     let survey = c.in_ok-survey.ensures in
     let spare = c.in_err-spare.ensures in record {
       table = no_value _ _ is;
+      drive = no_value _ _ is;
       can = not_done _ _ is;
       why = at_error _ _ error (λ _. tt);
       fault = at_error _ _ error tt;
@@ -43,6 +45,7 @@ returns-in_err-no_copy g c =
     let spare = c.in_ok-spare.ensures in
     let copies = c.in_err-no_copy.ensures in record {
       table = no_value _ _ is;
+      drive = no_value _ _ is;
       can = not_done _ _ is;
       why = at_error _ _ error (λ _. tt);
       fault = at_error _ _ error tt;
@@ -61,6 +64,7 @@ returns-in_err-judge g c =
     let copies = c.in_ok-no_copy.ensures in
     let refused = c.in_err-judge.ensures in record {
       table = no_value _ _ is;
+      drive = no_value _ _ is;
       can = not_done _ _ is;
       why = at_error _ _ error (λ t.
           let second = copies.never_again t in
@@ -68,7 +72,7 @@ returns-in_err-judge g c =
           refused.why c.args.kind _
           (judged c.args.kind c.args.serial c.args.unit _ _ _ c.in_ok-survey.survey.table _ _ _ (survey.same first) (spare.same second ∙ survey.same first)
           (c.requires.fits (survey.never_again first)) (survey.survey first) (spare.first second) (copies.all t)));
-      fault = at_error _ _ error (refusal_is_fault c.args.kind _ refused.refusal);
+      fault = at_error _ _ error (refusal_is_fault c.args.kind c.args.serial _ refused.refusal);
       rest = not_done _ _ is;
       same = λ t. let second = copies.never_again t in copies.same t ∙ spare.same second ∙ survey.same (spare.never_again second);
       never_again = λ t. survey.never_again (spare.never_again (copies.never_again t));
@@ -87,6 +91,7 @@ returns g c =
     (judged c.args.kind c.args.serial c.args.unit _ _ _ c.in_ok-survey.survey.table _ _ _ (survey.same first) (spare.same second ∙ survey.same first)
     (c.requires.fits (survey.never_again first)) (survey.survey first) (spare.first second) (copies.all t)) in record {
       table = λ t. table_listed c.args.kind c.args.serial _ c.in_ok-survey.survey.table _ (survey.survey (spare.never_again (copies.never_again t))) (found t);
+      drive = survey.drive;
       can = found;
       why = tt;
       fault = tt;

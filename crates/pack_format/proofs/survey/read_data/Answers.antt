@@ -1,5 +1,6 @@
 use Rattle.std.proofs.Common.{ℕ, rules, ap, ◌∙◌}
 use Rattle.pack_geometry.specs.Pack.{Pack, is_marked}
+use Rattle.pack_geometry.specs.TableSpelling.{Table}
 use Rattle.pack_format.proofs.SurveyLaws.{survey_none}
 use Rattle.pack_format.proofs.testing.ExitLaws.{cause_on, no_value, not_done}
 use Rattle.pack_format.proofs.ExitLaws.{cause_then, le_then}
@@ -11,6 +12,7 @@ loop-block-init g c = record {
   survey = λ t. survey_none c.args.kind c.args.serial (g.P.Packs.held c.args.packs.now c.args.unit) c.empty_table.result c.empty_table.ensures;
   counted = search rules;
   kind = search rules;
+  serial = ap (λ (t : Table). t.serial) c.empty_table.ensures;
   same = search rules;
   never_again = search rules;
   later = search rules;
@@ -26,6 +28,7 @@ loop-block-preserved g c = record {
       (c.in_ok-marked.ensures.answer t ∙ ap (λ (h : ℕ → Pack). is_marked (h c.args.unit) c.loop-block.block) (c.loop-block.invariant.same told));
   counted = c.take.ensures.counted;
   kind = c.take.ensures.kind;
+  serial = c.take.ensures.serial ∙ c.loop-block.invariant.serial;
   same = λ t. c.in_ok-marked.ensures.same t ∙ c.loop-block.invariant.same (c.in_ok-marked.ensures.never_again t);
   never_again = λ t. c.loop-block.invariant.never_again (c.in_ok-marked.ensures.never_again t);
   later = le_then c.loop-block.invariant.later c.in_ok-marked.ensures.cause.later;
@@ -37,6 +40,7 @@ returns-in_err-marked g c =
     let so_far = c.loop-block.invariant in
     let mark = c.in_err-marked.ensures in record {
       survey = no_value _ _ is;
+      drive = no_value _ _ is;
       rest = not_done _ _ is;
       same = λ t. mark.same t ∙ so_far.same (mark.never_again t);
       never_again = λ t. so_far.never_again (mark.never_again t);

@@ -9,6 +9,7 @@ invariant-loop-block g l = record {
   survey : IsTrue (g.P.Packs.tells l.packs) → IsSurvey l.kind l.serial (g.P.Packs.held l.fn.packs l.unit) l.block l.survey.found l.survey.table;
   counted : l.survey.found ≤ l.block;
   kind : l.survey.table.kind ≡ l.kind;
+  serial : l.survey.table.serial ≡ l.serial;
   same : IsTrue (g.P.Packs.tells l.packs) → g.P.Packs.held l.packs ≡ g.P.Packs.held l.fn.packs;
   never_again : IsTrue (g.P.Packs.tells l.packs) → IsTrue (g.P.Packs.tells l.fn.packs);
   later : g.P.Packs.faults l.fn.packs ≤ g.P.Packs.faults l.packs;

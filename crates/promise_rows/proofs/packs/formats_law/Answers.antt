@@ -5,8 +5,10 @@ use Rattle.std.proofs.lemmas.Fmt.{decimal_digit, decimal_step}
 use Rattle.std.proofs.Math.ListN.{replicate}
 use Rattle.pack_geometry.specs.declared.DriveKind.{DriveKind}
 use Rattle.pack_geometry.specs.declared.DriveKind.TheVariants.{Rp06, Rm03, Rm05}
-use Rattle.pack_geometry.specs.Geometry.{block_count, copy_at}
-use Rattle.pack_geometry.specs.Pack.{block_at, is_marked}
+use Rattle.pack_geometry.specs.Geometry.{block_count, copy_at, limit_of, replacement_at}
+use Rattle.pack_geometry.specs.Pack.{Pack, block_at, is_marked}
+use Rattle.pack_format.specs.Formatted.{Copy, Data, IsWritten, Replacement}
+use Rattle.pack_format.specs.testing.Stages.{IsAsLong}
 use Rattle.pack_format.specs.testing.Stages.{if_done, is_copy}
 use Rattle.command_parts.specs.Lines.{Told, too_long_text}
 use Rattle.command_parts.specs.Statuses.{status_code}
@@ -14,7 +16,7 @@ use Rattle.pack_commands.specs.Formats.{format_status, format_text}
 use Rattle.pack_format.specs.declared.fault.FormatFault.{FormatFault}
 use Rattle.pack_format.specs.declared.fault.FormatFault.TheVariants.{Memory, TooLong, TooMany, Spare, NoCopy, Differs, Store}
 use Rattle.pack_format.proofs.SurveyLaws.{count_more}
-use Rattle.promise_rows.specs.Formats.{HeadsLeftWhereTheyAre, AnotherBlockTold, CopyLeftOut, ZerosLeftOut, FailedReadingPassedOver, AnotherUnitNamedTooLong, KindTakenForAnother}
+use Rattle.promise_rows.specs.Formats.{HeadsLeftWhereTheyAre, AnotherBlockTold, CopyLeftOut, ZerosLeftOut, FailedReadingPassedOver, AnotherUnitNamedTooLong, KindTakenForAnother, FormatLengthensTheImage, DiffersAtALaterByte}
 use Rattle.promise_rows.proofs.packs.formats_law.Goals as goal
 
 heads_left : HeadsLeftWhereTheyAre
@@ -24,7 +26,7 @@ heads_left kind block drive below aimed = less drive.cc _ aimed.heads below
     less a b same below = omega (arith, same, below)
 
 block_told : AnotherBlockTold
-block_told told block at wrote read bytes some stop = false≢true (sym (ne_eqb 0 block (λ none. omega (arith, none, some))) ∙ stop.2.0)
+block_told told block at wrote read bytes some stop = false≢true (sym (ne_eqb 0 block (λ none. omega (arith, none, some))) ∙ stop.1.written.0)
 
 -- what a sector has that was done
 both : (a b : Bool) → a ≡ true → b ≡ false → a && not b ≡ true
@@ -86,6 +88,57 @@ kind_taken unit serial faults faults_after old new taken after long runs = above
   where
     above : (most size : ℕ) → size ≤ most → most < size → ⊥
     above most size fits long = omega (arith, fits, long)
+
+-- a sector that is written lies on the drive,
+on_data : (kind : DriveKind) (sector : ℕ) → sector < limit_of kind → sector < block_count kind
+on_data Rp06 sector lt = omega (arith, lt)
+on_data other sector lt = omega (arith, lt)
+
+on_spare : (kind : DriveKind) (i : ℕ) → replacement_at kind i < block_count kind
+on_spare Rp06 i = omega arith
+on_spare other i = omega arith
+
+on_copy : (kind : DriveKind) (k : ℕ) → k < 5 → copy_at kind k < block_count kind
+on_copy Rp06 k lt = omega (arith, lt)
+on_copy other k lt = omega (arith, lt)
+
+on_drive : (kind : DriveKind) (pack : Pack) (sector : ℕ) → IsWritten kind pack sector → sector < block_count kind
+on_drive kind pack sector (Data below unmarked) = on_data kind sector below
+on_drive kind pack sector (Replacement i less is unmarked) = omega (arith, is, on_spare kind i)
+on_drive kind pack sector (Copy k less is unmarked) = omega (arith, is, on_copy kind k less)
+
+-- so the image ends there
+ends_there : (written : ℕ → Type 0) (count old new : ℕ) → IsAsLong written old new → ((sector : ℕ) → written sector → sector < count) → old ≤ 512 * count → 512 * count < new → ⊥
+ends_there written count old new long within fits above =
+    elim long.most [
+      | inl same ↦ omega (arith, same, fits, above)
+      | inr last ↦ let below = within last.0 last.1 in let ends = last.2 in omega (arith, below, ends, above)
+    ]
+
+lengthens : FormatLengthensTheImage
+lengthens kind unit serial faults faults_after old new out_tells taken after fits above = (
+  λ run.
+      let formatted = ((run.formatted (inl refl)).done refl).0 in
+      ends_there (IsWritten kind (old unit)) (block_count kind) (length (old unit).image) (length (new unit).image) formatted.long (on_drive kind (old unit)) fits above,
+  λ run. elim (run.stopped refl refl) [
+    | inl same ↦ stays (length (old unit).image) (length (new unit).image) (512 * block_count kind) (ap (λ (h : ℕ → Pack). length (h unit).image) same) fits above
+    | inr partly ↦
+        ends_there (λ sector. (sector < partly.begun) × IsWritten kind (old unit) sector) (block_count kind) (length (old unit).image) (length (new unit).image) partly.long
+        (λ sector is. on_drive kind (old unit) sector is.1) fits above
+  ],
+)
+  where
+    stays : (old new most : ℕ) → new ≡ old → old ≤ most → most < new → ⊥
+    stays old new most same fits above = omega (arith, same, fits, above)
+
+later_byte : DiffersAtALaterByte
+later_byte kind serial block at wrote read k differs less other = other (differs.before k less)
+
+pub returns-clause-format_lengthens_the_image : goal.returns-clause-format_lengthens_the_image
+returns-clause-format_lengthens_the_image c = lengthens
+
+pub returns-clause-differs_at_a_later_byte : goal.returns-clause-differs_at_a_later_byte
+returns-clause-differs_at_a_later_byte c = later_byte
 
 pub returns-clause-heads_left_where_they_are : goal.returns-clause-heads_left_where_they_are
 returns-clause-heads_left_where_they_are c = heads_left

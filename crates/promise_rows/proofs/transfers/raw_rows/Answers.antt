@@ -1,4 +1,4 @@
-use Rattle.promise_rows.proofs.Raw.{done_in_blocks, dump_at_the_front, outside_by_one, edge_without_its_bytes}
+use Rattle.promise_rows.proofs.Raw.{done_in_blocks, dump_at_the_front, outside_by_one, edge_without_its_bytes, any_trace_at_a_stopped_transfer, raw_lengthens_the_image}
 use Rattle.promise_rows.proofs.transfers.raw_rows.Goals as goal
 
 pub returns-clause-done_in_blocks : goal.returns-clause-done_in_blocks
@@ -12,3 +12,9 @@ returns-clause-outside_by_one c = outside_by_one
 
 pub returns-clause-edge_without_its_bytes : goal.returns-clause-edge_without_its_bytes
 returns-clause-edge_without_its_bytes c = edge_without_its_bytes
+
+pub returns-clause-any_trace_at_a_stopped_transfer : goal.returns-clause-any_trace_at_a_stopped_transfer
+returns-clause-any_trace_at_a_stopped_transfer c = any_trace_at_a_stopped_transfer
+
+pub returns-clause-raw_lengthens_the_image : goal.returns-clause-raw_lengthens_the_image
+returns-clause-raw_lengthens_the_image c = raw_lengthens_the_image

@@ -33,4 +33,4 @@ returns g c =
     (k.puts done (subst (λ (n : ℕ). done_by n c.dump-answer.result ≡ Some done) long e)))
     (λ done e. subst (λ (n : ℕ). done < n) (sym long) (k.unusable done e))
     (λ stop e told tables. subst (λ (kind : DriveKind). StopsAt c.args.unit (start_of old c.args.unit B) (dump_place kind (length memory)) (dumped memory) old new) (kind_made c.requires.unit h.attached)
-    (k.stops stop e told tables)) k.keeps
+    (k.stops stop e told tables)) k.breaks k.keeps

@@ -1,9 +1,11 @@
-use Rattle.std.proofs.Common.{None, Some, ◌≢◌, inl, inr, ℕ, ◌<◌, ◌≤◌, ◌+◌, [], refl, sym, subst, arith}
+use Rattle.std.proofs.Common.{None, Some, ◌≢◌, inl, inr, ℕ, ◌<◌, ◌≤◌, ◌+◌, [], refl, sym, subst, arith, true}
 use Rattle.partitions.specs.Partitions.{size_of}
 use Rattle.blocking_io.specs.FrontsPasses.{asked, Stage}
 use Rattle.blocking_io.specs.Sites.{site}
 use Rattle.blocking_io.proofs.Sites.{on_err, kind_stays, keeps_err, keeps_join}
 use Rattle.raw_io.proofs.ReadPieces.{gives_first, gives_again, untouched_again}
+use Rattle.raw_io.specs.Transfers.{Breaks}
+use Rattle.raw_io.proofs.Breaks.{breaks_join, if_err}
 use Rattle.raw_io.proofs.blocks.get_blocks.Goals as goal
 use Rattle.raw_io.proofs.blocks.get_blocks.Goals.{then-first-request-via-then-first-request, then-first-request-via-else-first-request+then-first-eq0}
 
@@ -91,3 +93,19 @@ pub returns-clause-keeps : goal.returns-clause-keeps
 returns-clause-keeps g c =
     keeps_join g.P.Packs.tells g.P.Packs.faults g.T.Sink.tells g.T.Sink.faults c.args.subsystem.now c.read_once.new.subsystem c.read_once-2.new.subsystem c.args.packs.now c.read_once.new.packs
     c.read_once-2.new.packs c.args.trace.now c.read_once.new.trace c.read_once-2.new.trace None c.in_ok-first.ensures.keeps c.in_ok-read_once.ensures.keeps
+
+pub returns-in_err-first-clause-breaks : goal.returns-in_err-first-clause-breaks
+returns-in_err-first-clause-breaks g c =
+    let old : Stage = site g.P.Packs.tells g.P.Packs.held g.T.Sink.tells g.T.Sink.taken c.args.subsystem.now.world c.args.packs.now c.args.trace.now in
+    let new : Stage = site g.P.Packs.tells g.P.Packs.held g.T.Sink.tells g.T.Sink.taken c.read_once.new.subsystem.world c.read_once.new.packs c.read_once.new.trace in
+    if_err c.from_residual.result c.in_err-first.field-0.0 (λ stop. Breaks true c.args.request.unit c.args.request.part stop old new) c.from_residual.ensures.1
+    c.in_err-first.ensures.breaks
+
+pub returns-in_err-read_once-clause-breaks : goal.returns-in_err-read_once-clause-breaks
+returns-in_err-read_once-clause-breaks g c =
+    let old : Stage = site g.P.Packs.tells g.P.Packs.held g.T.Sink.tells g.T.Sink.taken c.args.subsystem.now.world c.args.packs.now c.args.trace.now in
+    let mid : Stage = site g.P.Packs.tells g.P.Packs.held g.T.Sink.tells g.T.Sink.taken c.read_once.new.subsystem.world c.read_once.new.packs c.read_once.new.trace in
+    let new : Stage = site g.P.Packs.tells g.P.Packs.held g.T.Sink.tells g.T.Sink.taken c.read_once-2.new.subsystem.world c.read_once-2.new.packs c.read_once-2.new.trace in
+    if_err c.from_residual-in_err-read_once.result c.in_err-read_once.field-0.0 (λ stop. Breaks true c.args.request.unit c.args.request.part stop old new) c.from_residual-in_err-read_once.ensures.1
+    (breaks_join c.sessions_law.ensures.stops true c.args.request.unit c.args.request.part c.in_err-read_once.field-0.0 old mid new c.in_ok-first.ensures.reads.transfers c.in_err-read_once.ensures.breaks
+    (record { packs = c.in_err-read_once.ensures.keeps.never_again; trace = c.in_err-read_once.ensures.keeps.never_again_trace }))

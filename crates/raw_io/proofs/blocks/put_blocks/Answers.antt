@@ -1,4 +1,4 @@
-use Rattle.std.proofs.Common.{◌≡◌, Bool, true, false, [], ap}
+use Rattle.std.proofs.Common.{◌≡◌, Bool, true, false, [], refl, ap}
 use Rattle.std.specs.Prelude.{if◌then◌else◌, Some, None}
 use Rattle.trace_replay.specs.requests.Requests as told
 use Rattle.blocking_io.specs.declared.reached.Reached.TheVariants.{Before}
@@ -7,6 +7,10 @@ use Rattle.blocking_io.specs.Sites.{kind_at}
 use Rattle.blocking_io.proofs.FrontsBlocks.{is_request, all_written, write_stops_of}
 use Rattle.raw_io.proofs.Exits.{wrote_of}
 use Rattle.blocking_io.proofs.Sites.{on_err, keeps_err}
+use Rattle.blocking_io.proofs.FrontsBlocks.{plain}
+use Rattle.raw_io.specs.Transfers.{Breaks}
+use Rattle.raw_io.proofs.Breaks.{breaks_of, if_err}
+use Rattle.raw_io.proofs.Exits.{is_ask}
 use Rattle.raw_io.proofs.blocks.put_blocks.Goals as goal
 
 both : {b : Bool} → b ≡ true → b ≡ false → ⊥
@@ -53,3 +57,11 @@ returns-clause-keeps g c = record {
   never_again_trace = c.in_ok-reached.ensures.never_again_trace;
   causes = c.in_ok-reached.ensures.causes;
 }
+
+pub returns-in_err-reached-clause-breaks : goal.returns-in_err-reached-clause-breaks
+returns-in_err-reached-clause-breaks g c =
+    let r : told.Request = asked c.args.request c.args.from.now in
+    let old : Stage = stage g.P.Packs.tells g.P.Packs.held g.T.Sink.tells g.T.Sink.taken c.args.subsystem.now.world c.args.packs.now c.args.trace.now (Before 0) [] in
+    let new : Stage = stage g.P.Packs.tells g.P.Packs.held g.T.Sink.tells g.T.Sink.taken c.ask_write.new.subsystem.world c.ask_write.new.packs c.ask_write.new.trace (Before 0) [] in
+    if_err c.from_residual.result c.in_err-reached.field-0.0 (λ stop. Breaks false r.unit r.part stop (plain old) (plain new)) c.from_residual.ensures.1
+    (breaks_of false c.in_err-reached.field-0.0 r old new (is_ask false (kind_at c.args.subsystem.now.world c.args.request.unit) r c.requires.blocks (λ never. absurd (both never refl))) c.in_err-reached.ensures.stops)

@@ -1,4 +1,4 @@
-use Rattle.std.proofs.Common.{◌≡◌, ◌*◌, ◌-◌, ◌<◌, length, ◌∙◌, ap, subst, arith}
+use Rattle.std.proofs.Common.{◌≡◌, ◌*◌, ◌-◌, ◌<◌, length, ◌∙◌, ap, subst, arith, false}
 use Rattle.std.proofs.lemmas.Option.{none-some, same_Some}
 use Rattle.partitions.specs.declared.Part.TheVariants.{B}
 use Rattle.partitions.specs.Partitions.{size_of}
@@ -10,6 +10,8 @@ use Rattle.raw_io.specs.Pieces.{PutsRange, start_of}
 use Rattle.raw_io.proofs.Dumps.{dumped_long}
 use Rattle.raw_io.proofs.Answered.{no_fault, not_outside, not_unusable, same_unusable, never_done, never_outside, never_unusable}
 use Rattle.blocking_io.proofs.Sites.{keeps_none}
+use Rattle.raw_io.specs.Transfers.{Breaks}
+use Rattle.raw_io.proofs.Breaks.{at_fault}
 use Rattle.raw_io.proofs.dumping.dump.Goals as goal
 
 pub returns-then-memory-gt-MEMORY-clause-puts : goal.returns-then-memory-gt-MEMORY-clause-puts
@@ -98,3 +100,21 @@ returns-clause-puts g c =
     let long = dumped_long c.args.memory.now in
     let all : c.in_ok-done.done ≡ 512 * blocks_for (length c.args.memory.now) = omega (arith, few, long, whole) in
     λ done e. subst (λ n. PutsRange c.args.unit B (dump_place (kind_at c.args.subsystem.now.world c.args.unit) (length c.args.memory.now)) n (dumped c.args.memory.now) old new) (all ∙ same_Some (512 * blocks_for (length c.args.memory.now)) done e) puts
+
+pub returns-then-memory-gt-MEMORY-clause-breaks : goal.returns-then-memory-gt-MEMORY-clause-breaks
+returns-then-memory-gt-MEMORY-clause-breaks g c =
+    λ stop e. absurd (none-some stop e)
+
+pub returns-then-done-count-clause-breaks : goal.returns-then-done-count-clause-breaks
+returns-then-done-count-clause-breaks g c =
+    λ stop e. absurd (none-some stop e)
+
+pub returns-clause-breaks : goal.returns-clause-breaks
+returns-clause-breaks g c =
+    λ stop e. absurd (none-some stop e)
+
+pub returns-in_err-done-clause-breaks : goal.returns-in_err-done-clause-breaks
+returns-in_err-done-clause-breaks g c =
+    let old : Stage = site g.P.Packs.tells g.P.Packs.held g.T.Sink.tells g.T.Sink.taken c.args.subsystem.now.world c.args.packs.now c.args.trace.now in
+    let new : Stage = site g.P.Packs.tells g.P.Packs.held g.T.Sink.tells g.T.Sink.taken c.dump_range.new.subsystem.world c.dump_range.new.packs c.dump_range.new.trace in
+    at_fault c.from_residual.result c.in_err-done.field-0.0 (λ stop. Breaks false c.args.unit B stop old new) c.from_residual.ensures.1 c.in_err-done.ensures.breaks

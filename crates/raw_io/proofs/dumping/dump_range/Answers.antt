@@ -1,4 +1,4 @@
-use Rattle.std.proofs.Common.{◌≤◌, ◌+◌, ◌-◌, ◌*◌, ◌∙◌, take, drop, true, None, refl, sym, subst, arith, rules, Some}
+use Rattle.std.proofs.Common.{◌≤◌, ◌+◌, ◌-◌, ◌*◌, ◌∙◌, take, drop, true, None, refl, sym, subst, arith, rules, Some, false}
 use Rattle.partitions.specs.declared.Part.TheVariants.{B}
 use Rattle.partitions.specs.Partitions.{size_of}
 use Rattle.driver_laws.specs.rules.Bytes.{dumped}
@@ -8,6 +8,8 @@ use Rattle.raw_io.specs.Pieces.{IsPiece}
 use Rattle.blocking_io.proofs.Sites.{on_err, keeps_none, keeps_err, keeps_join}
 use Rattle.raw_io.proofs.Dumps.{dumped_long}
 use Rattle.raw_io.proofs.WriteRanges.{written_none, written_whole, turn_written, write_more, write_ends, write_stops}
+use Rattle.raw_io.specs.Transfers.{Breaks}
+use Rattle.raw_io.proofs.Breaks.{breaks_for, breaks_join, if_err}
 use Rattle.raw_io.proofs.dumping.dump_range.Goals as goal
 
 pub loop-done-init : goal.loop-done-init
@@ -100,3 +102,13 @@ returns-then-written-piece-clause-keeps g c =
 pub returns-clause-keeps : goal.returns-clause-keeps
 returns-clause-keeps g c =
     c.loop-done.invariant.keeps
+
+pub returns-in_err-written-clause-breaks : goal.returns-in_err-written-clause-breaks
+returns-in_err-written-clause-breaks g c =
+    let old : Stage = site g.P.Packs.tells g.P.Packs.held g.T.Sink.tells g.T.Sink.taken c.args.subsystem.now.world c.args.packs.now c.args.trace.now in
+    let mid : Stage = site g.P.Packs.tells g.P.Packs.held g.T.Sink.tells g.T.Sink.taken c.loop-done.subsystem.world c.loop-done.packs c.loop-done.trace in
+    let new : Stage = site g.P.Packs.tells g.P.Packs.held g.T.Sink.tells g.T.Sink.taken c.dump_piece.new.subsystem.world c.dump_piece.new.packs c.dump_piece.new.trace in
+    if_err c.from_residual.result c.in_err-written.field-0.0 (λ stop. Breaks false c.args.unit B stop old new) c.from_residual.ensures.1
+    (breaks_join c.sessions_law.ensures.stops false c.args.unit B c.in_err-written.field-0.0 old mid new c.loop-done.invariant.so.transfers
+    (breaks_for false c.piece_to_write-piece.result.request.unit c.args.unit c.piece_to_write-piece.result.request.part B c.in_err-written.field-0.0 mid new c.piece_to_write-piece.ensures.piece.unit_is c.piece_to_write-piece.ensures.piece.part_is c.in_err-written.ensures.breaks)
+    (record { packs = c.in_err-written.ensures.keeps.never_again; trace = c.in_err-written.ensures.keeps.never_again_trace }))

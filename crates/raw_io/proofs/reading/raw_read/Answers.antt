@@ -1,10 +1,12 @@
-use Rattle.std.proofs.Common.{◌≡◌, ◌<◌, length, ◌∙◌, subst, arith}
+use Rattle.std.proofs.Common.{◌≡◌, ◌<◌, length, ◌∙◌, subst, arith, true}
 use Rattle.std.proofs.lemmas.Option.{none-some, same_Some}
 use Rattle.blocking_io.specs.FrontsPasses.{Stage}
 use Rattle.blocking_io.specs.Sites.{site}
 use Rattle.raw_io.specs.Pieces.{GivesRange}
 use Rattle.raw_io.proofs.Answered.{no_fault, not_outside, not_unusable, same_unusable, never_done, never_outside, never_unusable}
 use Rattle.blocking_io.proofs.Sites.{keeps_none}
+use Rattle.raw_io.specs.Transfers.{Breaks}
+use Rattle.raw_io.proofs.Breaks.{at_fault}
 use Rattle.raw_io.proofs.reading.raw_read.Goals as goal
 
 pub returns-clause-gives : goal.returns-clause-gives
@@ -88,3 +90,21 @@ returns-then-done-into-clause-gives g c =
     let old : Stage = site g.P.Packs.tells g.P.Packs.held g.T.Sink.tells g.T.Sink.taken c.args.subsystem.now.world c.args.packs.now c.args.trace.now in
     let new : Stage = site g.P.Packs.tells g.P.Packs.held g.T.Sink.tells g.T.Sink.taken c.read_range.new.subsystem.world c.read_range.new.packs c.read_range.new.trace in
     λ done e. subst (λ n. GivesRange c.args.unit c.args.part c.args.at n c.args.into.now c.read_range.new.into old new) (same_Some c.in_ok-done.done done e) c.in_ok-done.ensures.gives
+
+pub returns-then-is_outside-clause-breaks : goal.returns-then-is_outside-clause-breaks
+returns-then-is_outside-clause-breaks g c =
+    λ stop e. absurd (none-some stop e)
+
+pub returns-then-done-into-clause-breaks : goal.returns-then-done-into-clause-breaks
+returns-then-done-into-clause-breaks g c =
+    λ stop e. absurd (none-some stop e)
+
+pub returns-clause-breaks : goal.returns-clause-breaks
+returns-clause-breaks g c =
+    λ stop e. absurd (none-some stop e)
+
+pub returns-in_err-done-clause-breaks : goal.returns-in_err-done-clause-breaks
+returns-in_err-done-clause-breaks g c =
+    let old : Stage = site g.P.Packs.tells g.P.Packs.held g.T.Sink.tells g.T.Sink.taken c.args.subsystem.now.world c.args.packs.now c.args.trace.now in
+    let new : Stage = site g.P.Packs.tells g.P.Packs.held g.T.Sink.tells g.T.Sink.taken c.read_range.new.subsystem.world c.read_range.new.packs c.read_range.new.trace in
+    at_fault c.from_residual.result c.in_err-done.field-0.0 (λ stop. Breaks true c.args.unit c.args.part stop old new) c.from_residual.ensures.1 c.in_err-done.ensures.breaks

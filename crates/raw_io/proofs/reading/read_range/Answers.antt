@@ -1,10 +1,12 @@
-use Rattle.std.proofs.Common.{◌+◌, ◌-◌, [], ◌++◌, None, false, length, refl, ap, subst, arith, rules, Some}
+use Rattle.std.proofs.Common.{◌+◌, ◌-◌, [], ◌++◌, None, false, length, refl, ap, subst, arith, rules, Some, true}
 use Rattle.blocking_io.specs.FrontsPasses.{Stage}
 use Rattle.blocking_io.specs.Sites.{site}
 use Rattle.raw_io.specs.Pieces.{IsPiece, GivesPiece}
 use Rattle.blocking_io.proofs.Sites.{on_err, keeps_none, keeps_err, keeps_join}
 use Rattle.raw_io.proofs.Loops.{turn_blocks}
 use Rattle.raw_io.proofs.ReadRanges.{read_none, read_whole, read_more, read_ends, read_stops}
+use Rattle.raw_io.specs.Transfers.{Breaks}
+use Rattle.raw_io.proofs.Breaks.{breaks_for, breaks_join, if_err}
 use Rattle.raw_io.proofs.reading.read_range.Goals as goal
 
 pub loop-done-init : goal.loop-done-init
@@ -95,3 +97,13 @@ returns-then-size-piece-clause-keeps g c =
 pub returns-clause-keeps : goal.returns-clause-keeps
 returns-clause-keeps g c =
     c.loop-done.invariant.keeps
+
+pub returns-in_err-size-clause-breaks : goal.returns-in_err-size-clause-breaks
+returns-in_err-size-clause-breaks g c =
+    let old : Stage = site g.P.Packs.tells g.P.Packs.held g.T.Sink.tells g.T.Sink.taken c.args.subsystem.now.world c.args.packs.now c.args.trace.now in
+    let mid : Stage = site g.P.Packs.tells g.P.Packs.held g.T.Sink.tells g.T.Sink.taken c.loop-done.subsystem.world c.loop-done.packs c.loop-done.trace in
+    let new : Stage = site g.P.Packs.tells g.P.Packs.held g.T.Sink.tells g.T.Sink.taken c.read_piece.new.subsystem.world c.read_piece.new.packs c.read_piece.new.trace in
+    if_err c.from_residual.result c.in_err-size.field-0.0 (λ stop. Breaks true c.args.unit c.args.part stop old new) c.from_residual.ensures.1
+    (breaks_join c.sessions_law.ensures.stops true c.args.unit c.args.part c.in_err-size.field-0.0 old mid new c.loop-done.invariant.so.transfers
+    (breaks_for true c.piece_to_read-piece.result.request.unit c.args.unit c.piece_to_read-piece.result.request.part c.args.part c.in_err-size.field-0.0 mid new c.piece_to_read-piece.ensures.unit_is c.piece_to_read-piece.ensures.part_is c.in_err-size.ensures.breaks)
+    (record { packs = c.in_err-size.ensures.keeps.never_again; trace = c.in_err-size.ensures.keeps.never_again_trace }))

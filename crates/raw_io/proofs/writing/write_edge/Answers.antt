@@ -1,9 +1,12 @@
-use Rattle.std.proofs.Common.{◌*◌, ◌≤◌, None, Some, refl, sym, ap, ◌∙◌, subst, arith}
+use Rattle.std.proofs.Common.{◌*◌, ◌≤◌, None, Some, refl, sym, ap, ◌∙◌, subst, arith, false}
 use Rattle.blocking_io.specs.FrontsPasses.{Stage}
 use Rattle.blocking_io.specs.Sites.{site, kind_at}
 use Rattle.raw_io.specs.Pieces.{PutsPiece}
 use Rattle.blocking_io.proofs.Sites.{on_err, kind_stays, keeps_err, keeps_join}
 use Rattle.raw_io.proofs.WritePieces.{stops_read, puts_none, one_read, other_bytes, puts_edge, stops_edge}
+use Rattle.raw_io.specs.Transfers.{Breaks}
+use Rattle.raw_io.proofs.Breaks.{breaks_join, breaks_wider, if_err}
+use Rattle.raw_io.proofs.Joins.{transfers_wider}
 use Rattle.raw_io.proofs.writing.write_edge.Goals as goal
 
 pub returns-in_err-get_blocks-clause-stops : goal.returns-in_err-get_blocks-clause-stops
@@ -103,3 +106,19 @@ pub returns-clause-keeps : goal.returns-clause-keeps
 returns-clause-keeps g c =
     keeps_join g.P.Packs.tells g.P.Packs.faults g.T.Sink.tells g.T.Sink.faults c.args.subsystem.now c.get_blocks.new.subsystem c.put_blocks.new.subsystem c.args.packs.now c.get_blocks.new.packs
     c.put_blocks.new.packs c.args.trace.now c.get_blocks.new.trace c.put_blocks.new.trace None c.in_ok-get_blocks.ensures.keeps c.in_ok-written.ensures.keeps
+
+pub returns-in_err-get_blocks-clause-breaks : goal.returns-in_err-get_blocks-clause-breaks
+returns-in_err-get_blocks-clause-breaks g c =
+    let old : Stage = site g.P.Packs.tells g.P.Packs.held g.T.Sink.tells g.T.Sink.taken c.args.subsystem.now.world c.args.packs.now c.args.trace.now in
+    let new : Stage = site g.P.Packs.tells g.P.Packs.held g.T.Sink.tells g.T.Sink.taken c.get_blocks.new.subsystem.world c.get_blocks.new.packs c.get_blocks.new.trace in
+    if_err c.from_residual.result c.in_err-get_blocks.field-0.0 (λ stop. Breaks false c.args.piece.request.unit c.args.piece.request.part stop old new) c.from_residual.ensures.1
+    (breaks_wider c.args.piece.request.unit c.args.piece.request.part c.in_err-get_blocks.field-0.0 old new c.in_err-get_blocks.ensures.breaks)
+
+pub returns-in_err-written-clause-breaks : goal.returns-in_err-written-clause-breaks
+returns-in_err-written-clause-breaks g c =
+    let old : Stage = site g.P.Packs.tells g.P.Packs.held g.T.Sink.tells g.T.Sink.taken c.args.subsystem.now.world c.args.packs.now c.args.trace.now in
+    let mid : Stage = site g.P.Packs.tells g.P.Packs.held g.T.Sink.tells g.T.Sink.taken c.get_blocks.new.subsystem.world c.get_blocks.new.packs c.get_blocks.new.trace in
+    let new : Stage = site g.P.Packs.tells g.P.Packs.held g.T.Sink.tells g.T.Sink.taken c.put_blocks.new.subsystem.world c.put_blocks.new.packs c.put_blocks.new.trace in
+    if_err c.from_residual-in_err-written.result c.in_err-written.field-0.0 (λ stop. Breaks false c.args.piece.request.unit c.args.piece.request.part stop old new) c.from_residual-in_err-written.ensures.1
+    (breaks_join c.sessions_law.ensures.stops false c.args.piece.request.unit c.args.piece.request.part c.in_err-written.field-0.0 old mid new (transfers_wider c.args.piece.request.unit c.args.piece.request.part old mid c.in_ok-get_blocks.ensures.gives.transfers) c.in_err-written.ensures.breaks
+    (record { packs = c.in_err-written.ensures.keeps.never_again; trace = c.in_err-written.ensures.keeps.never_again_trace }))

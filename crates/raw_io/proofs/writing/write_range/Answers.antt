@@ -1,8 +1,10 @@
-use Rattle.std.proofs.Common.{◌+◌, ◌-◌, take, drop, refl, arith, None, Some}
+use Rattle.std.proofs.Common.{◌+◌, ◌-◌, take, drop, refl, arith, None, Some, false}
 use Rattle.blocking_io.specs.FrontsPasses.{Stage}
 use Rattle.blocking_io.specs.Sites.{site}
 use Rattle.blocking_io.proofs.Sites.{on_err, keeps_none, keeps_err, keeps_join}
 use Rattle.raw_io.proofs.WriteRanges.{written_none, written_whole, piece_of, turn_written, write_more, write_ends, write_stops}
+use Rattle.raw_io.specs.Transfers.{Breaks}
+use Rattle.raw_io.proofs.Breaks.{breaks_for, breaks_join, if_err}
 use Rattle.raw_io.proofs.writing.write_range.Goals as goal
 
 pub loop-done-init : goal.loop-done-init
@@ -83,3 +85,13 @@ returns-then-size-piece-clause-keeps g c =
 pub returns-clause-keeps : goal.returns-clause-keeps
 returns-clause-keeps g c =
     c.loop-done.invariant.keeps
+
+pub returns-in_err-size-clause-breaks : goal.returns-in_err-size-clause-breaks
+returns-in_err-size-clause-breaks g c =
+    let old : Stage = site g.P.Packs.tells g.P.Packs.held g.T.Sink.tells g.T.Sink.taken c.args.subsystem.now.world c.args.packs.now c.args.trace.now in
+    let mid : Stage = site g.P.Packs.tells g.P.Packs.held g.T.Sink.tells g.T.Sink.taken c.loop-done.subsystem.world c.loop-done.packs c.loop-done.trace in
+    let new : Stage = site g.P.Packs.tells g.P.Packs.held g.T.Sink.tells g.T.Sink.taken c.write_piece.new.subsystem.world c.write_piece.new.packs c.write_piece.new.trace in
+    if_err c.from_residual.result c.in_err-size.field-0.0 (λ stop. Breaks false c.args.unit c.args.part stop old new) c.from_residual.ensures.1
+    (breaks_join c.sessions_law.ensures.stops false c.args.unit c.args.part c.in_err-size.field-0.0 old mid new c.loop-done.invariant.so.transfers
+    (breaks_for false c.piece_to_write-piece.result.request.unit c.args.unit c.piece_to_write-piece.result.request.part c.args.part c.in_err-size.field-0.0 mid new c.piece_to_write-piece.ensures.piece.unit_is c.piece_to_write-piece.ensures.piece.part_is c.in_err-size.ensures.breaks)
+    (record { packs = c.in_err-size.ensures.keeps.never_again; trace = c.in_err-size.ensures.keeps.never_again_trace }))

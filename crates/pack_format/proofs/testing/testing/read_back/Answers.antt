@@ -39,9 +39,17 @@ returns-in-Some g c =
         λ t. let told = read.never_again t in
             differ.1 (ap (λ (xs : List ℕ). slice_index xs c.in-Some.at)
             (sym (c.requires.written told) ∙ sym (read_back c.args.unit c.args.block _ polled _ _ _ _ read.polls t (c.requires.unmarked told)))),
-        differ.0,
-        (eq_same c.args.block c.args.block refl, wrote),
-        λ same. differ.1 (sym wrote ∙ same ∙ came),
+        record {
+          bytes = c.args.bytes.now;
+          written = (eq_same c.args.block c.args.block refl, refl);
+          back = c.poll_read.new.into;
+          size = c.poll_read.array_long;
+          within = differ.0;
+          before = λ k lt. sym (c.in-Some.ensures.first k lt);
+          wrote_is = wrote;
+          read_is = came;
+          other = λ same. differ.1 (sym wrote ∙ sym same ∙ came);
+        },
       );
       never_again = read.never_again;
       cause = caused_differs read.cause.later;

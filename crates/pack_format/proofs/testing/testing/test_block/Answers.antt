@@ -1,4 +1,4 @@
-use Rattle.std.proofs.Common.{◌≡◌, ℕ, inl, inr, IsTrue, List, refl, replicate, subst, ◌∙◌}
+use Rattle.std.proofs.Common.{◌≡◌, ℕ, inl, inr, IsTrue, List, replicate, subst, ◌∙◌}
 use Rattle.pack_format.specs.testing.Stages.{Fills, IsTested, Stops, one}
 use Rattle.pack_format.proofs.testing.ExitLaws.{caused_on, caused_then, not_done}
 use Rattle.pack_format.proofs.testing.PollLaws.{on_err}
@@ -16,7 +16,7 @@ returns-in_err-write_and_read g c =
           stops_weaken c.args.unit IsTested (λ (x : List ℕ). x ≡ c.all-pattern.result) _ _ _ (λ x e. inl (e ∙ c.all-pattern.ensures)) (first.stops t));
       rest = not_done _ _ is;
       stop = at_error _ _ error
-          (stop_pattern _ c.args.block 165 c.all-pattern.result c.in_err-write_and_read.field-0.0 c.all-pattern.ensures (inl refl) first.stop);
+          (stop_pattern _ c.args.block c.all-pattern.result c.in_err-write_and_read.field-0.0 (inl c.all-pattern.ensures) first.stop);
       never_again = first.never_again;
       cause = caused_on _ error first.cause;
     }
@@ -37,7 +37,7 @@ returns g c =
           stops_over c.args.unit c.args.block IsTested (λ (x : List ℕ). x ≡ c.all-zeros.result) c.all-pattern.result _ _ _ (inl c.all-pattern.ensures)
           (λ x e. inr (e ∙ c.all-zeros.ensures)) (first.fills (second.never_again t)) (stops t));
       rest = second.rest;
-      stop = ends_pattern (g.P.Packs.tells c.write_and_read-2.new.packs) c.args.block 0 c.all-zeros.result c.write_and_read-2.result c.all-zeros.ensures (inr refl) second.stop;
+      stop = ends_pattern (g.P.Packs.tells c.write_and_read-2.new.packs) c.args.block c.all-zeros.result c.write_and_read-2.result (inr c.all-zeros.ensures) second.stop;
       never_again = λ t. first.never_again (second.never_again t);
       cause = caused_then first.cause.later second.cause;
     }
