@@ -9,7 +9,7 @@ use Rattle.trace_replay.specs.Moments.{Moment, Played, Answered, played, answers
 use Rattle.trace_replay.specs.Script as script
 use Rattle.trace_replay.specs.Script.{Input}
 use Rattle.trace_replay.specs.Text.{trace_text, moment_text}
-use Rattle.trace_replay.specs.Replay.{Replay, after_moment, after_moments}
+use Rattle.trace_replay.specs.Replay.{Replay, after_moments}
 use Rattle.driver_laws.specs.rules.Stands.{Setup}
 use Rattle.driver_machine.specs.World.{World, unit_at}
 use Rattle.driver_machine.specs.Acts.{Act, Taken, after, after_all}
