@@ -1,7 +1,9 @@
 -- What wrong bodies would leave out of a plan, or show of another run, refused by the words of rows, bars and captions.
-use Rattle.std.specs.Prelude.{◌≡◌, ℕ, true, List, [], ◌∷◌}
+use Rattle.std.specs.Prelude.{◌≡◌, ℕ, ◌<◌, ◌≤◌, true, List, [], ◌∷◌}
+use Rattle.drive_pictures.specs.declared.letters.Letter.{Letter}
 use Rattle.drive_pictures.specs.declared.requests.Request.{Request}
 use Rattle.run_picture.specs.declared.columns.Column.{Column}
+use Rattle.run_picture.specs.declared.columns.Window.{Window}
 use Rattle.picture_sheet.specs.declared.sheet.Sheet.{Sheet}
 use Rattle.picture_sheet.specs.Requests.{is_shown}
 use Rattle.picture_sheet.specs.Units.{units_shown}
@@ -10,7 +12,8 @@ use Rattle.run_view.specs.Captions.{caption_of}
 use Rattle.run_plan.specs.declared.lanes.Lane.{Lane}
 use Rattle.run_plan.specs.declared.plan.Plan.{Plan}
 use Rattle.run_plan.specs.Lanes.{letter_at}
-use Rattle.run_plan.specs.Plans.{Plans}
+use Rattle.run_plan.specs.Plans.{edge_of, Plans}
+use Rattle.run_plan.specs.Words.{letter_word}
 use Rattle.hpview_run.specs.declared.words.Form.{Form}
 use Rattle.hpview_run.specs.Drawing.{IsDrawn}
 
@@ -33,3 +36,11 @@ SliceOfAnotherUnit = (sheet : Sheet) (plan : Plan) (lane : Lane) (column : Colum
 abbrev pub CaptionOfAnotherRun : Type 0
 CaptionOfAnotherRun = (form : Form) (text other picture : List ℕ) (view : View) → (d : IsDrawn form (caption_of text) view picture) → ¬ (other ≡ caption_of text)
     → ¬ (d.sheet.caption.now ≡ other)
+
+-- a later column begins at an earlier event
+abbrev pub ScaleTurnedRound : Type 0
+ScaleTurnedRound = (window : Window) (column later : ℕ) → column ≤ later → ¬ (edge_of window later < edge_of window column)
+
+-- what one letter says is what another says
+abbrev pub LegendWithoutALetter : Type 0
+LegendWithoutALetter = (letter other : Letter) → ¬ (letter ≡ other) → ¬ (letter_word letter ≡ letter_word other)
