@@ -1,5 +1,5 @@
 -- The words of the command line, and the texts of refusals.
-use Rattle.std.specs.Prelude.{ℕ, ◌++◌, ◌-◌, ◌^◌, ◌<◌, nat_le, ◌==◌, if◌then◌else◌, Bool, true, false, not, ◌&&◌, List, [], ◌∷◌, slice_index, map, Option, Some, None, codes, decimal, String}
+use Rattle.std.specs.Prelude.{ℕ, ◌++◌, ◌-◌, ◌^◌, nat_le, ◌==◌, if◌then◌else◌, Bool, true, false, not, ◌&&◌, List, [], ◌∷◌, slice_index, map, Option, Some, None, codes, decimal, String}
 use Rattle.std.specs.declared.alloc.Global.{Global}
 use Rattle.std.specs.Result.{result_ok}
 use Rattle.std.specs.Str.{bytes_eq}
