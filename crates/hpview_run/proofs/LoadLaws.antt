@@ -1,5 +1,5 @@
 -- What was read of a source, and what its bytes spell.
-use Rattle.std.proofs.Common.{◌≡◌, ◌⊎◌, inl, inr, ℕ, ◌+◌, ◌<◌, ◌≤◌, List, [], ◌∷◌, ◌++◌, length, Result, Ok, Err, IfErr, refl, sym, ap, ◌∙◌, subst, append-nil, arith, length-append}
+use Rattle.std.proofs.Common.{◌≡◌, ◌⊎◌, inl, inr, ℕ, ◌<◌, ◌≤◌, List, [], ◌++◌, length, Result, Ok, Err, IfErr, sym, ap, ◌∙◌, subst, append-nil, arith, length-append}
 use Rattle.script_lines.specs.declared.kinds.ScriptKind.{ScriptKind}
 use Rattle.script_reader.specs.Grammar as scripts
 use Rattle.script_reader.specs.Stored.{Stored}
@@ -17,7 +17,7 @@ use Rattle.hpview_run.specs.declared.load.ViewFault.{ViewFault}
 use Rattle.hpview_run.specs.declared.load.ViewFault.TheVariants as faults
 use Rattle.hpview_run.specs.declared.words.Command.{Command}
 use Rattle.hpview_run.specs.Drawing.{Draws}
-use Rattle.hpview_run.specs.Loading.{IsRead, Loads, from_read, from_trace, RefusesScript, RefusesTrace, RefusesBeside}
+use Rattle.hpview_run.specs.Loading.{IsRead, Loads, from_read, from_trace, RefusesScript, RefusesTrace}
 
 whole_by : (n : ℕ) (source bytes rest : List ℕ) → source ≡ bytes ++ rest → (rest ≡ []) ⊎ (n < length bytes) → length bytes ≤ n → source ≡ bytes
 whole_by n source bytes rest front (inl none) short = front ∙ ap (λ (r : List ℕ). bytes ++ r) none ∙ append-nil bytes

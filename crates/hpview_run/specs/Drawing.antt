@@ -5,6 +5,12 @@ use Rattle.outside_traits.specs.Puts.{TakesFront}
 use Rattle.picture_chart.specs.Pages.{IsChartOf}
 use Rattle.picture_sheet.specs.declared.sheet.Sheet.{Sheet}
 use Rattle.picture_svg.specs.Pictures.{IsPicture}
+use Rattle.run_plan.specs.declared.plan.Plan.{Plan}
+use Rattle.run_plan.specs.Events.{events_of}
+use Rattle.run_plan.specs.Figures.{IsSummary}
+use Rattle.run_plan.specs.Plans.{Plans}
+use Rattle.run_plan.specs.Rows.{requests_of}
+use Rattle.run_view.specs.Captions.{caption_of}
 use Rattle.run_view.specs.declared.view.View.{View}
 use Rattle.run_view.specs.Views.{Views}
 use Rattle.script_lines.specs.declared.kinds.ScriptKind.{ScriptKind}
@@ -17,31 +23,49 @@ use Rattle.hpview_run.specs.declared.load.ViewFault.{ViewFault}
 use Rattle.hpview_run.specs.declared.load.ViewFault.TheVariants as faults
 use Rattle.hpview_run.specs.declared.words.Command.{Command}
 use Rattle.hpview_run.specs.declared.words.Form.{Form}
-use Rattle.hpview_run.specs.declared.words.Form.TheVariants.{Svg, Chart}
+use Rattle.hpview_run.specs.declared.words.Form.TheVariants.{Svg, Chart, Requests, Summary, Events}
 use Rattle.hpview_run.specs.Loading.{Loads, RefusesBeside}
 use Rattle.hpview_run.specs.Words.{trace_refusal}
 
--- the picture of a sheet, in a form: for a browser such a picture, for a terminal its chart
+-- a text is told from the plan of a sheet
+pub record IsTold (Tells : Plan → List ℕ → Type 0) (sheet : Sheet) (text : List ℕ) : Type 0 where
+  pub plan : Plan
+  pub plans : Plans sheet plan
+  pub tells : Tells plan text
+
+abbrev pub TellsRequests : Plan → List ℕ → Type 0
+TellsRequests plan text = text ≡ requests_of plan.rows.items
+
+abbrev pub TellsEvents : Plan → List ℕ → Type 0
+TellsEvents plan text = text ≡ events_of plan
+
+-- what is shown of a sheet, in a form: for a browser a picture, for a terminal a chart; of its plan the lines of the requests, the
+-- lines of the drives, and the trace events
 abbrev pub IsDrawnAs : Form → Sheet → List ℕ → Type 0
 IsDrawnAs Svg sheet text = IsPicture sheet text
 IsDrawnAs Chart sheet text = IsChartOf sheet text
+IsDrawnAs Requests sheet text = IsTold TellsRequests sheet text
+IsDrawnAs Summary sheet text = IsTold IsSummary sheet text
+IsDrawnAs Events sheet text = IsTold TellsEvents sheet text
 
--- DRAWN IN A FORM: a text is the picture of a sheet with what is shown
-pub record IsDrawn (form : Form) (view : View) (text : List ℕ) : Type 0 where
+-- DRAWN IN A FORM: a text is the picture of a sheet with what is shown, under a caption
+pub record IsDrawn (form : Form) (caption : List ℕ) (view : View) (text : List ℕ) : Type 0 where
   pub sheet : Sheet
+  pub caption_is : sheet.caption.now ≡ caption
   pub run : sheet.run.now ≡ view.run
   pub window : sheet.window ≡ view.window
   pub texts : sheet.texts.now ≡ view.texts.items
   pub notes : sheet.notes.now ≡ view.notes.items
   pub picture : IsDrawnAs form sheet text
 
--- THE PICTURE is of what is shown of the run that script and trace tell of: of the events that the command names
+-- THE PICTURE is of what is shown of the run that script and trace tell of: of the events that the command names, under the
+-- script's own caption
 pub record Draws (command : Command) (text trace picture : List ℕ) : Type 0 where
   pub stored : Stored
   pub loads : Loads text stored
   pub view : View
   pub views : Views stored trace (command.from - 1) command.to view
-  pub drawn : IsDrawn command.form view picture
+  pub drawn : IsDrawn command.form (caption_of text) view picture
 
 -- A text was taken whole; or the sink failed, and took a front of it.
 abbrev pub Told : List ℕ → List ℕ → List ℕ → ℕ → ℕ → Type 0

@@ -75,9 +75,10 @@ fn run_command<S: Source, T: Source, O: Sink>(
     }
 }
 
-/// Runs the command that the words name, and answers the code of its `Status`: `svg` or `text` draws all events of a run, and
-/// with two numbers those from one to another, counted from 1. The run is that of a script, whose text one source gives, and of
-/// its trace, which another gives. The picture goes to `out`.
+/// Runs the command that the words name, and answers the code of its `Status`. `svg` and `text` draw a run, `tsv` prints a line for
+/// each request, and `json` prints trace events for a viewer: of all events of the run, or with two numbers of those from one to
+/// another, counted from 1. `summary` prints a line for each drive and one for all, of the whole run. The run is that of a script,
+/// whose text one source gives, and of its trace, which another gives. What is drawn or printed goes to `out`.
 ///
 /// | code | status | comes | printed on `out` |
 /// |---|---|---|---|

@@ -2,28 +2,57 @@
 ghost use Rattle.std.specs.Prelude.{◌≡◌, ◌-◌, ◌≢◌, ℕ, List, IfOk, IfErr};
 ghost use Rattle.hpview_run.specs.Drawing.{Draws, IsDrawn, IsDrawnAs};
 ghost use Rattle.hpview_run.specs.Loading.{Loads, RefusesScript, RefusesTrace};
+ghost use Rattle.run_view.specs.Captions.{caption_of as caption_in};
 
 use crate::load::{Loaded, ViewFault};
 use crate::words::{Command, Form};
 use picture_chart::chart;
 use picture_sheet::Sheet;
 use picture_svg::svg;
+use run_plan::{events_text, plan_of, requests_text, summary_text};
 use run_view::{View, caption_of, script_law, view_run};
 use std::alloc::{AllocError, Global};
 
-/// The picture of a sheet in a form.
+/// The requests that a sheet shows, a line each.
+fn requests(alloc: Global, sheet: &Sheet<'_>) -> Result<Vec<u8>, AllocError>
+    ensures { IfOk result (λ text. IsDrawnAs Form.Requests sheet.now text.items) }
+{
+    let plan = plan_of(alloc, sheet)?;
+    requests_text(alloc, &plan)
+}
+
+/// What the requests of a sheet come to, a line for each drive.
+fn summary(alloc: Global, sheet: &Sheet<'_>) -> Result<Vec<u8>, AllocError>
+    ensures { IfOk result (λ text. IsDrawnAs Form.Summary sheet.now text.items) }
+{
+    let plan = plan_of(alloc, sheet)?;
+    summary_text(alloc, &plan)
+}
+
+/// The trace events of a sheet.
+fn events(alloc: Global, sheet: &Sheet<'_>) -> Result<Vec<u8>, AllocError>
+    ensures { IfOk result (λ text. IsDrawnAs Form.Events sheet.now text.items) }
+{
+    let plan = plan_of(alloc, sheet)?;
+    events_text(alloc, &plan)
+}
+
+/// What is shown of a sheet, in a form.
 fn draw_sheet(alloc: Global, form: Form, sheet: &Sheet<'_>) -> Result<Vec<u8>, AllocError>
     ensures { IfOk result (λ picture. IsDrawnAs form sheet.now picture.items) }
 {
     match form {
         Form::Svg => svg(alloc, sheet),
         Form::Chart => chart(alloc, sheet),
+        Form::Requests => requests(alloc, sheet),
+        Form::Summary => summary(alloc, sheet),
+        Form::Events => events(alloc, sheet),
     }
 }
 
 /// The picture of what is shown of a run, in a form, under the caption of its script.
 fn draw(alloc: Global, form: Form, text: &[u8], view: &View<'_>) -> Result<Vec<u8>, ViewFault>
-    ensures ok { IfOk result (λ picture. IsDrawn form view.now picture.items) }
+    ensures ok { IfOk result (λ picture. IsDrawn form (caption_in text.now) view.now picture.items) }
     ensures memory { IfErr result (λ fault. fault ≡ ViewFault.Memory) }
 {
     let sheet = Sheet {

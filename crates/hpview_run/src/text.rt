@@ -49,6 +49,8 @@ pub(crate) fn usage() -> LineBuf
     ensures { result ≡ usage_text }
 {
     let mut text = LineBuf::new();
-    text.put("usage: hpview svg or text [FROM TO] < SCRIPT, with the trace in hp.trace\n");
+    text.put(
+        "usage: hpview summary, or svg, text, tsv or json [FROM TO] < SCRIPT, with the trace in hp.trace\n",
+    );
     text
 }

@@ -1,16 +1,22 @@
 ghost use Rattle.std.specs.Prelude.{◌≡◌, ◌-◌, ◌^◌, ◌<◌, ◌≤◌, map, IfSome, Some, None};
 ghost use Rattle.std.specs.String.{string_bytes};
-ghost use Rattle.hpview_run.specs.Words.{form_named, event_named, span_of, command_by, command_named};
+ghost use Rattle.hpview_run.specs.Words.{form_named, is_whole, is_span, event_named, span_of, command_by, command_named};
 
 use mass_text::{Radix, number};
 
-/// How a run is drawn.
+/// How a run is shown.
 #[derive(Clone, Copy, PartialEq, Eq)]
 pub enum Form {
-    /// For a browser.
+    /// A picture for a browser.
     Svg,
-    /// For a terminal.
+    /// A chart for a terminal.
     Chart,
+    /// A line for each request.
+    Requests,
+    /// A line for each drive, and one for all.
+    Summary,
+    /// Trace events for a viewer.
+    Events,
 }
 
 /// What the words of the command line ask for: a form, and the events from one to another, counted from 1.
@@ -24,7 +30,8 @@ pub struct Command {
 /// The largest number of an event.
 const LAST: u64 = 4_294_967_295;
 
-/// `svg` or `text`.
+/// The word of a form.
+#[tactic(auto, unfolding(crate::specs::Words::form_named))]
 fn form_in(word: &str) -> Option<Form>
     ensures { result ≡ form_named word.now }
 {
@@ -32,9 +39,32 @@ fn form_in(word: &str) -> Option<Form>
         Some(Form::Svg)
     } else if word == "text" {
         Some(Form::Chart)
+    } else if word == "tsv" {
+        Some(Form::Requests)
+    } else if word == "summary" {
+        Some(Form::Summary)
+    } else if word == "json" {
+        Some(Form::Events)
     } else {
         None
     }
+}
+
+/// A form is of the whole run.
+fn is_whole(form: Form) -> bool
+    ensures { result ≡ is_whole form }
+{
+    match form {
+        Form::Summary => true,
+        Form::Svg | Form::Chart | Form::Requests | Form::Events => false,
+    }
+}
+
+/// A form is shown of the events from one to another.
+fn is_span(form: Form, from: u64, to: u64) -> bool
+    ensures { result ≡ is_span form from to }
+{
+    from <= to && !is_whole(form)
 }
 
 /// An event's number.
@@ -57,7 +87,7 @@ fn span_in(form: Form, from: &str, to: &str) -> Option<Command>
 {
     let from = event_in(from)?;
     let to = event_in(to)?;
-    if from <= to {
+    if is_span(form, from, to) {
         Some(Command { form, from, to })
     } else {
         None

@@ -1,2 +1,3 @@
 mod Outcomes
 mod Rows
+mod Planned

@@ -2,3 +2,4 @@ pub mod Outcomes
 pub mod Nested
 pub mod Shown
 pub mod Runs
+pub mod Planned

@@ -1,4 +1,4 @@
-// Charts, refusals, and what fails.
+// Charts, tables, trace events, refusals, and what fails.
 use crate::views::{status_of, view_of};
 use mass_outside::mem_streams::{MemSink, MemSource};
 use std::alloc::{AllocError, Global};
@@ -13,8 +13,8 @@ struct End {
     text: &'static [u8],
 }
 
-/// Charts of whole runs and of a part of one, of a run of nothing, and refusals.
-static ENDS: [End; 13] = [
+/// Charts of whole runs and of a part of one, of a run of nothing, tables, trace events, and refusals.
+static ENDS: [End; 19] = [
     End {
         line: "text 3 6",
         script: b"# Two flipped bits that lie close together are repaired in memory.\nunit 0 rp06\nwrite 1 0 c 5 1 fill 5a\ndrain\nnoise 0 5 1 4 12\nturn 0 0\nread 2 0 c 5 1\n",
@@ -35,6 +35,48 @@ static ENDS: [End; 13] = [
         trace: b"",
         status: 0,
         text: b"A run of hpsim\nRequests: 0; ok: 0; served out of the order asked: 0.\nEvents: 0; to a column: 1.\nDrives positioning at once: at most 0, first at line 0.\nSectors moved after 0 events; after 0 of them another drive was positioning.\n\n   request op    unit cylinder   asked answered answer       done queued on way  ready  trans  turn\n\ndrive  S arm moves  s turns to its sector  C recalibrates  O sets an offset  ! arrived, attention up\n       : ready, adapter busy  # sectors move  T tries again  R at a replacement  ^ interrupt up\nmarks  q asked for  ' attention up  a taken  i interrupt taken  o sector  v ok  B burst, repaired\n       E not repairable  F fault  M marked  x offline  t try failed  X stopped  + - offset\n       n noise  f fault armed  @ turned  d offline  u online  l locked  k unlocked  P acknowledged\narm    0 to 9, from cylinder 0 to the highest         queue  requests not answered, + above 9\n",
+    },
+    End {
+        line: "tsv",
+        script: b"unit 0 rp06\nread 1 0 c 0 1\n",
+        trace: b"cmd 2 0 1 search 0 19\narrive 3 0 1\nattn 3 0 1\ncmd 3 0 1 rcom 0 1\nsector 3 0 1 0 clean\nintr 3 0 1\nend 3 0 1\n",
+        status: 0,
+        text: b"id\tunit\top\tcylinder\tline\tanswer\tqueued\tway\tready\ttransfer\n1\t0\tread\t0\t2\tok\t0\t2\t0\t2\n",
+    },
+    End {
+        line: "tsv",
+        script: b"",
+        trace: b"",
+        status: 0,
+        text: b"id\tunit\top\tcylinder\tline\tanswer\tqueued\tway\tready\ttransfer\n",
+    },
+    End {
+        line: "tsv 6 9",
+        script: b"unit 0 rp06\nread 1 0 c 0 1\n",
+        trace: b"cmd 2 0 1 search 0 19\narrive 3 0 1\nattn 3 0 1\ncmd 3 0 1 rcom 0 1\nsector 3 0 1 0 clean\nintr 3 0 1\nend 3 0 1\n",
+        status: 0,
+        text: b"id\tunit\top\tcylinder\tline\tanswer\tqueued\tway\tready\ttransfer\n",
+    },
+    End {
+        line: "summary",
+        script: b"unit 0 rp06\nread 1 0 c 0 1\n",
+        trace: b"cmd 2 0 1 search 0 19\narrive 3 0 1\nattn 3 0 1\ncmd 3 0 1 rcom 0 1\nsector 3 0 1 0 clean\nintr 3 0 1\nend 3 0 1\n",
+        status: 0,
+        text: b"unit\trequests\tok\tout of order\tmean wait\tmedian wait\tgreatest wait\tcylinders moved\tin the order asked\n0\t1\t1\t0\t0.00\t0.00\t0\t0\t0\nall\t1\t1\t0\t0.00\t0.00\t0\t0\t0\n",
+    },
+    End {
+        line: "json",
+        script: b"unit 0 rp06\nread 1 0 c 0 1\n",
+        trace: b"cmd 2 0 1 search 0 19\narrive 3 0 1\nattn 3 0 1\ncmd 3 0 1 rcom 0 1\nsector 3 0 1 0 clean\nintr 3 0 1\nend 3 0 1\n",
+        status: 0,
+        text: b"{\"traceEvents\":[\n{\"ph\":\"M\",\"pid\":0,\"tid\":0,\"ts\":0,\"name\":\"process_name\",\"args\":{\"name\":\"hpview\"}},\n{\"ph\":\"M\",\"pid\":1,\"tid\":1,\"ts\":0,\"name\":\"process_name\",\"args\":{\"name\":\"mba adapter 0\"}},\n{\"ph\":\"M\",\"pid\":1,\"tid\":1,\"ts\":0,\"name\":\"thread_name\",\"args\":{\"name\":\"rp06 unit 0\"}},\n{\"ph\":\"X\",\"pid\":1,\"tid\":1,\"ts\":0,\"dur\":1,\"name\":\"turns to its sector\"},\n{\"ph\":\"X\",\"pid\":1,\"tid\":1,\"ts\":1,\"dur\":1,\"name\":\"arrived, attention up\"},\n{\"ph\":\"X\",\"pid\":1,\"tid\":1,\"ts\":2,\"dur\":1,\"name\":\"sectors move\"},\n{\"ph\":\"X\",\"pid\":1,\"tid\":1,\"ts\":3,\"dur\":1,\"name\":\"interrupt up\"},\n{\"ph\":\"C\",\"pid\":1,\"tid\":1,\"ts\":0,\"name\":\"cylinder of unit 0\",\"args\":{\"cylinder\":0}},\n{\"ph\":\"C\",\"pid\":1,\"tid\":1,\"ts\":0,\"name\":\"queue of unit 0\",\"args\":{\"queue\":1}},\n{\"ph\":\"C\",\"pid\":1,\"tid\":1,\"ts\":1,\"name\":\"cylinder of unit 0\",\"args\":{\"cylinder\":0}},\n{\"ph\":\"C\",\"pid\":1,\"tid\":1,\"ts\":1,\"name\":\"queue of unit 0\",\"args\":{\"queue\":1}},\n{\"ph\":\"C\",\"pid\":1,\"tid\":1,\"ts\":2,\"name\":\"cylinder of unit 0\",\"args\":{\"cylinder\":0}},\n{\"ph\":\"C\",\"pid\":1,\"tid\":1,\"ts\":2,\"name\":\"queue of unit 0\",\"args\":{\"queue\":1}},\n{\"ph\":\"C\",\"pid\":1,\"tid\":1,\"ts\":3,\"name\":\"cylinder of unit 0\",\"args\":{\"cylinder\":0}},\n{\"ph\":\"C\",\"pid\":1,\"tid\":1,\"ts\":3,\"name\":\"queue of unit 0\",\"args\":{\"queue\":1}},\n{\"ph\":\"C\",\"pid\":1,\"tid\":1,\"ts\":4,\"name\":\"cylinder of unit 0\",\"args\":{\"cylinder\":0}},\n{\"ph\":\"C\",\"pid\":1,\"tid\":1,\"ts\":4,\"name\":\"queue of unit 0\",\"args\":{\"queue\":0}},\n{\"ph\":\"b\",\"pid\":1,\"tid\":1,\"ts\":0,\"cat\":\"request\",\"id\":1,\"name\":\"read 1\",\"args\":{\"line\":2,\"answer\":\"ok\",\"queued\":0,\"way\":2,\"ready\":0,\"transfer\":2}},\n{\"ph\":\"e\",\"pid\":1,\"tid\":1,\"ts\":4,\"cat\":\"request\",\"id\":1,\"name\":\"read 1\"}\n]}\n",
+    },
+    End {
+        line: "summary 1 2",
+        script: b"unit 0 rp06\nread 1 0 c 0 1\n",
+        trace: b"cmd 2 0 1 search 0 19\narrive 3 0 1\nattn 3 0 1\ncmd 3 0 1 rcom 0 1\nsector 3 0 1 0 clean\nintr 3 0 1\nend 3 0 1\n",
+        status: 2,
+        text: b"usage: hpview summary, or svg, text, tsv or json [FROM TO] < SCRIPT, with the trace in hp.trace\n",
     },
     End {
         line: "svg",
@@ -83,28 +125,28 @@ static ENDS: [End; 13] = [
         script: b"unit 0 rp06\nread 1 0 c 0 1\n",
         trace: b"cmd 2 0 1 search 0 19\narrive 3 0 1\nattn 3 0 1\ncmd 3 0 1 rcom 0 1\nsector 3 0 1 0 clean\nintr 3 0 1\nend 3 0 1\n",
         status: 2,
-        text: b"usage: hpview svg or text [FROM TO] < SCRIPT, with the trace in hp.trace\n",
+        text: b"usage: hpview summary, or svg, text, tsv or json [FROM TO] < SCRIPT, with the trace in hp.trace\n",
     },
     End {
         line: "svg 0 3",
         script: b"unit 0 rp06\nread 1 0 c 0 1\n",
         trace: b"cmd 2 0 1 search 0 19\narrive 3 0 1\nattn 3 0 1\ncmd 3 0 1 rcom 0 1\nsector 3 0 1 0 clean\nintr 3 0 1\nend 3 0 1\n",
         status: 2,
-        text: b"usage: hpview svg or text [FROM TO] < SCRIPT, with the trace in hp.trace\n",
+        text: b"usage: hpview summary, or svg, text, tsv or json [FROM TO] < SCRIPT, with the trace in hp.trace\n",
     },
     End {
         line: "text 3",
         script: b"unit 0 rp06\nread 1 0 c 0 1\n",
         trace: b"cmd 2 0 1 search 0 19\narrive 3 0 1\nattn 3 0 1\ncmd 3 0 1 rcom 0 1\nsector 3 0 1 0 clean\nintr 3 0 1\nend 3 0 1\n",
         status: 2,
-        text: b"usage: hpview svg or text [FROM TO] < SCRIPT, with the trace in hp.trace\n",
+        text: b"usage: hpview summary, or svg, text, tsv or json [FROM TO] < SCRIPT, with the trace in hp.trace\n",
     },
     End {
         line: "draw",
         script: b"unit 0 rp06\nread 1 0 c 0 1\n",
         trace: b"cmd 2 0 1 search 0 19\narrive 3 0 1\nattn 3 0 1\ncmd 3 0 1 rcom 0 1\nsector 3 0 1 0 clean\nintr 3 0 1\nend 3 0 1\n",
         status: 2,
-        text: b"usage: hpview svg or text [FROM TO] < SCRIPT, with the trace in hp.trace\n",
+        text: b"usage: hpview summary, or svg, text, tsv or json [FROM TO] < SCRIPT, with the trace in hp.trace\n",
     },
 ];
 

@@ -7,6 +7,7 @@ ghost use Rattle.picture_rows.specs.Outcomes.{ColumnDropsAnEvent, IdleEventLeftO
 ghost use Rattle.picture_rows.specs.Nested.{GroupLeftOpen, LettersLeftOpen, ScriptLineLeftOpen, MarksOfAnotherUnit, LinesDropped, DriveDrawnTwice};
 ghost use Rattle.picture_rows.specs.Shown.{PositioningAtAnotherAdapter, ArmOfAnotherUnit, EventsFromZero, BarOfAnotherUnit, PanelDropsAColumn, RowOfAnotherUnit};
 ghost use Rattle.picture_rows.specs.Runs.{LastPlayNotSeen, PlayedBehindItsLines, LineInAColumnLate, TryCountedTwice, WindowOneEventEarly, NoMemoryTakenForUsage, SecondFaultRefused};
+ghost use Rattle.picture_rows.specs.Planned.{RequestLeftOut, ColumnLeftOut, SliceOfAnotherUnit, CaptionOfAnotherRun, ScaleTurnedRound, LegendWithoutALetter};
 
 #[cfg(test)]
 mod ends;
@@ -64,4 +65,14 @@ pub fn runs_law()
     ensures window_one_event_early { WindowOneEventEarly }
     ensures no_memory_taken_for_usage { NoMemoryTakenForUsage }
     ensures second_fault_refused { SecondFaultRefused }
+{}
+
+/// A plan may not leave out so, and a picture not be headed so.
+pub fn plan_law()
+    ensures request_left_out { RequestLeftOut }
+    ensures column_left_out { ColumnLeftOut }
+    ensures slice_of_another_unit { SliceOfAnotherUnit }
+    ensures caption_of_another_run { CaptionOfAnotherRun }
+    ensures scale_turned_round { ScaleTurnedRound }
+    ensures legend_without_a_letter { LegendWithoutALetter }
 {}

@@ -1,6 +1,6 @@
 use Rattle.std.proofs.Common.{List, ℕ, ◌++◌, ap, ◌∙◌, subst}
 use Rattle.outside_traits.specs.Puts.{TakesFront}
-use Rattle.hpview_run.proofs.CommandLaws.{drawn_status, fault_status, no_done, no_sink, failed_by, silent_by, refusal_told}
+use Rattle.hpview_run.proofs.CommandLaws.{drawn_status, fault_status, no_done, no_sink, silent_by, refusal_told}
 use Rattle.hpview_run.proofs.command.run_command.Goals as goal
 
 pub returns-in-Ok-clause-statuses : goal.returns-in-Ok-clause-statuses

@@ -1,4 +1,3 @@
-use Rattle.std.proofs.Common.{sym, subst, ◌∙◌}
 use Rattle.hpview_run.specs.declared.status.Status.TheVariants.{Done, Refused, SourceFailed, SinkFailed}
 use Rattle.hpview_run.proofs.CommandLaws.{coded, decoded, drawn_for, is_no_usage, is_silent, one_command, stopped_for}
 use Rattle.hpview_run.proofs.command.view.Goals as goal

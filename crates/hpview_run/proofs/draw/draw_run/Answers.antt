@@ -1,6 +1,8 @@
-use Rattle.std.proofs.Common.{ℕ, inl, subst}
+use Rattle.std.proofs.Common.{List, ℕ, inl, subst}
 use Rattle.std.proofs.lemmas.Result.{IfErr-weaker, IfOk-weaker}
+use Rattle.run_view.specs.Captions.{caption_of}
 use Rattle.run_view.specs.Views.{Views}
+use Rattle.hpview_run.specs.Drawing.{IsDrawn}
 use Rattle.hpview_run.proofs.LoadLaws.{memory_inside, refuses_none, script_none, trace_is_inside, trace_is_no_script, trace_refuses}
 use Rattle.hpview_run.proofs.draw.draw_run.Goals as goal
 
@@ -10,7 +12,7 @@ returns-in-Ok-clause-ok c = IfOk-weaker c.draw.result _ _ (λ picture is. record
   loads = c.requires;
   view = c.in-Ok.view;
   views = subst (λ (n : ℕ). Views c.args.loaded.now.script c.args.bytes.now n c.args.command.to c.in-Ok.view) c.saturating_sub-first.ensures c.in-Ok.ensures.ok;
-  drawn = is;
+  drawn = subst (λ (text : List ℕ). IsDrawn c.args.command.form (caption_of text) c.in-Ok.view picture.items) c.as_slice-text.ensures.value is;
 }) c.draw.ensures.ok
 
 pub returns-in-Ok-clause-trace_refused : goal.returns-in-Ok-clause-trace_refused

@@ -1,0 +1,24 @@
+//! The plan of a run: what a picture or a table shows of it, as data, and the tables and the trace events that are written of it.
+//!
+//! What is proved: `plan_of`: a request is a row exactly where it meets the events that are shown, with the answer that the run gave
+//! it; a drive is a lane exactly where it has requests; the bars of a lane are, column for column, what that drive did, none twice
+//! and none left out; and its points are where its arm was and how many requests waited. `requests_text` and `summary_text`: which
+//! fields stand on each line. `events_text`: which event is written for each bar, point and request. No call fails but for want of
+//! memory.
+#![tactic(auto)]
+
+mod bars;
+mod events;
+mod fields;
+mod figures;
+mod lanes;
+mod plan;
+mod rows;
+mod words;
+
+pub use bars::Bar;
+pub use events::events_text;
+pub use figures::Figures;
+pub use lanes::{Lane, Point};
+pub use plan::{Plan, plan_of, requests_text, summary_text};
+pub use words::letter_word;

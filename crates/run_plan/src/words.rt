@@ -1,0 +1,25 @@
+//! What each letter means.
+
+ghost use Rattle.std.specs.Prelude.{◌≡◌};
+ghost use Rattle.run_plan.specs.Words.{letter_word};
+
+use drive_pictures::Letter;
+
+/// What a letter says that a drive does.
+pub fn letter_word(letter: Letter) -> &'static str
+    ensures { result.now ≡ letter_word letter }
+{
+    match letter {
+        Letter::Idle => "idle",
+        Letter::Seeks => "arm moves",
+        Letter::Turns => "turns to its sector",
+        Letter::Recalibrates => "recalibrates",
+        Letter::Offsets => "sets an offset",
+        Letter::Arrived => "arrived, attention up",
+        Letter::Ready => "ready, adapter busy",
+        Letter::Moves => "sectors move",
+        Letter::Retries => "tries again",
+        Letter::Replaces => "at a replacement",
+        Letter::Moved => "interrupt up",
+    }
+}
