@@ -17,7 +17,7 @@ use Rattle.driver_laws.proofs.answers.Joined.{front_more, front_of_front}
 use Rattle.driver_laws.specs.shown.RunsRuns.{Stay}
 use Rattle.driver_laws.specs.shown.Lengths.{length_behind, AreAsLong}
 use Rattle.driver_laws.proofs.shown.Lengths.{long_append}
-use Rattle.driver_laws.proofs.shown.TraceRuns.{moments_append}
+use Rattle.driver_laws.proofs.rules.Quiet.{after_parts}
 use Rattle.driver_laws.specs.shown.NextBlock.{HasNext}
 use Rattle.driver_laws.specs.rules.Sessions.{Part, IsSession, behind, behind_all, waited, told_in}
 use Rattle.driver_laws.specs.rules.Waited.{with_packs}
@@ -47,7 +47,7 @@ moments_both (x ∷ xs) ys = ap (λ (ms : List Moment). Played x.line x.input �
 
 behind_moments : (s : Replay) (xs : List Part) → behind_all s xs ≡ after_moments s (moments_in xs)
 behind_moments s [] = refl
-behind_moments s (x ∷ xs) = behind_moments (behind s x) xs ∙ sym (moments_append (after_moment s (Played x.line x.input)) x.told (moments_in xs))
+behind_moments s (x ∷ xs) = behind_moments (behind s x) xs ∙ sym (after_parts (after_moment s (Played x.line x.input)) x.told (moments_in xs))
 
 -- images as long as both have made them
 long_both : (s : Replay) (xs ys : List Part) (old mid new : ℕ → Pack) → AreAsLong s (moments_in xs) old mid → AreAsLong (behind_all s xs) (moments_in ys) mid new → AreAsLong s (moments_in (xs ++ ys)) old new

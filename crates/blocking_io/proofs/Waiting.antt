@@ -25,7 +25,7 @@ use Rattle.driver_laws.specs.shown.RunsRuns.{AreDeclared, Stay}
 use Rattle.driver_laws.specs.shown.Lengths.{AreAsLong}
 use Rattle.driver_laws.specs.shown.Within.{ShowsAll}
 use Rattle.driver_laws.proofs.shown.Lengths.{drained_shows, first_events_keep_lengths, later_events_keep_lengths, submissions_keep_lengths}
-use Rattle.driver_laws.proofs.shown.TraceRuns.{moments_append}
+use Rattle.driver_laws.proofs.rules.Quiet.{after_parts}
 use Rattle.driver_laws.proofs.shown.RunsLaws.{runs_keep}
 use Rattle.driver_laws.proofs.shown.Inputted.{lines_play_nothing}
 use Rattle.driver_laws.specs.rules.Sessions.{Part, MayPlay, IsPart, behind}
@@ -310,7 +310,7 @@ shows_drained : (line : ℕ) (r : Request) (asked drained : List Moment) (mid : 
     → ShowsAll mid.world (after_moments s (drained_moments line r asked drained))
 shows_drained line r asked drained mid s at =
     let ends = at.from.draining.ends in
-    subst (ShowsAll mid.world) (sym (moments_append s (asked_moments line r asked) (Played line script.Drain ∷ drained)))
+    subst (ShowsAll mid.world) (sym (after_parts s (asked_moments line r asked) (Played line script.Drain ∷ drained)))
     (subst (ShowsAll mid.world) (sym ends.is) (drained_shows mid.world ends.last ends.over.rests.shows))
 
 pub more_drained : (line : ℕ) (r : Request) (input : Input) (old mid now : Stage) → (IsTrue now.packs_tell → IsTrue mid.packs_tell) → (IsTrue now.trace_tells → IsTrue mid.trace_tells)
