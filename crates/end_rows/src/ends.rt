@@ -1,7 +1,5 @@
 // The status of each end, in the working folder.
-use hpsim_run::end_status;
-use outside_files::file_sink::FileSink;
-use outside_files::os_folder::OsFolder;
+use hpsim_run::end_told;
 use outside_files::start::{TRACE_NAME, words_of};
 use std::alloc::Global;
 use std::os::unix::fs::{FileExt, symlink};
@@ -122,9 +120,8 @@ fn words(alloc: Global, line: &str) -> io::Result<Vec<String>> {
 fn status_of(rt: &HostRuntime, line: &str, script: &[u8], files: [&str; 2]) -> io::Result<u8> {
     let out = fs::create(rt, files[0])?;
     let words = words_of(rt.alloc(), words(rt.alloc(), line));
-    let mut trace = FileSink::new(rt, files[1]);
-    let folder = OsFolder::new(rt);
-    Ok(end_status(rt.alloc(), words, folder, script, out, &mut trace))
+    let mut errors = Vec::new(rt.alloc());
+    Ok(end_told(rt, words, script, out, files[1], &mut errors))
 }
 
 /// Whether a file holds this text, unless it is on the full disk.

@@ -1,10 +1,8 @@
-//! The program: it makes the real words, folder, reader, writer and trace, and ends with the status of the command, which is
-//! `hpsim_run::end_status`. Only tested: its stored run, with real streams and files.
+//! The program: it makes the real words and streams, and ends with the status of the command, which is `hpsim_run::end_told`. Only
+//! tested: its stored run, and its ends over real files in `end_rows`.
 #![tactic(auto)]
 
-use hpsim_run::end_status;
-use outside_files::file_sink::FileSink;
-use outside_files::os_folder::OsFolder;
+use hpsim_run::end_told;
 use outside_files::start::{TRACE_NAME, null_device, words, words_of};
 use std::alloc::Global;
 use std::io;
@@ -15,15 +13,14 @@ fn main(rt: HostRuntime) -> ExitCode {
     let _output = null_device(&rt);
     let _error = null_device(&rt);
     let words = words_of(rt.alloc(), words(&rt));
-    let folder = OsFolder::new(&rt);
-    let mut trace = FileSink::new(&rt, TRACE_NAME);
-    let status = end_status(
-        rt.alloc(),
+    let mut errors = rt.stderr();
+    let status = end_told(
+        &rt,
         words,
-        folder,
         rt.reader(),
         io::writer(&rt),
-        &mut trace,
+        TRACE_NAME,
+        &mut errors,
     );
     ExitCode::from(status)
 }

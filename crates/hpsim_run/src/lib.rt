@@ -13,7 +13,9 @@
 mod cached;
 mod command;
 mod program;
+mod told;
 
 pub use command::run;
 pub use command_parts::Status;
 pub use program::end_status;
+pub use told::end_told;

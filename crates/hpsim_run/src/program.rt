@@ -1,46 +1,38 @@
-ghost use Rattle.std.specs.Prelude.{◌≡◌, ◌⊎◌, None, IfSome};
+ghost use Rattle.std.specs.Prelude.{◌≡◌, None, IfSome};
+ghost use Rattle.command_parts.specs.Outside.{outside};
 ghost use Rattle.command_parts.specs.Statuses.{status_code};
-ghost use Rattle.hpsim_run.specs.Statuses.{IsStatusOf};
-ghost use Rattle.hpsim_run.specs.Passes.{command_of as the_command};
 ghost use Rattle.command_parts.specs.declared.status.Status.TheVariants.{OutOfMemory};
+ghost use Rattle.hpsim_run.specs.Ends.{Runs};
+ghost use Rattle.pack_commands.specs.Leaves.{LeavesAlone};
+ghost use Rattle.pack_commands.specs.Words.{command_of as the_command};
 
 use crate::{Status, run};
-use outside_files::files::FilePacks;
-use outside_files::folder::PackFolder;
-use outside_files::streams::{StdSink, StdSource};
-use outside_traits::traits::Sink;
-use pack_windows::window_packs::WindowPacks;
+use outside_traits::traits::{Packs, Sink, Source};
 use std::alloc::Global;
-use std::io::{Read, Write};
 
-/// The status of the command that the words name, over the packs in the files of a folder, with the script from a reader, the
-/// answers to a writer and the trace to a sink: that of `crate::run`, and 9 where there was no memory for the words or for what
-/// is read ahead.
-pub fn end_status<F: PackFolder + Drop, R: Read + Drop, W: Write + Drop, T: Sink>(
+/// The status of the command that the words name, and all that `crate::run` promises of it; 9 if there was no memory for the words,
+/// and then nothing else is done.
+pub fn end_status<S: Source, P: Packs, O: Sink, T: Sink>(
     alloc: Global,
-    words: Option<Vec<String>>,
-    folder: F,
-    reader: R,
-    writer: W,
+    words: Option<&[String]>,
+    script: &mut S,
+    packs: &mut P,
+    out: &mut O,
     trace: &mut T,
 ) -> u8
-    ensures no_words { words ≡ None → result ≡ status_code OutOfMemory }
-    ensures statuses { IfSome words (λ list. IsStatusOf (the_command list.items) result ⊎ (result ≡ status_code OutOfMemory)) }
+    ensures runs { IfSome words.entry (λ list. Runs (the_command list.now) result
+        (outside S.tells S.left S.faults P.tells P.held P.faults O.tells O.taken O.faults T.tells T.taken T.faults script.old packs.old out.old trace.old)
+        (outside S.tells S.left S.faults P.tells P.held P.faults O.tells O.taken O.faults T.tells T.taken T.faults script.new packs.new out.new trace.new)) }
+    ensures leaves { IfSome words.entry (λ list. LeavesAlone (the_command list.now) result script.old script.new packs.old packs.new out.old out.new trace.old trace.new) }
+    // Without words nothing is done.
+    ensures no_words { words.entry ≡ None → result ≡ status_code OutOfMemory }
+    ensures unread { words.entry ≡ None → script.new ≡ script.old }
+    ensures unwritten { words.entry ≡ None → packs.new ≡ packs.old }
+    ensures unsaid { words.entry ≡ None → out.new ≡ out.old }
+    ensures untraced { words.entry ≡ None → trace.new ≡ trace.old }
 {
-    let Some(words) = words else {
-        return Status::OutOfMemory.code();
-    };
-    let Ok(mut packs) = WindowPacks::new(alloc, FilePacks::over(folder)) else {
-        return Status::OutOfMemory.code();
-    };
-    let mut script = StdSource::new(reader);
-    let mut out = StdSink::new(writer);
-    run(
-        alloc,
-        words.as_slice(),
-        &mut script,
-        &mut packs,
-        &mut out,
-        trace,
-    )
+    match words {
+        Some(words) => run(alloc, words, script, packs, out, trace),
+        None => Status::OutOfMemory.code(),
+    }
 }

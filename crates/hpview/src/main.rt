@@ -15,6 +15,14 @@ fn main(rt: HostRuntime) -> ExitCode {
     let _error = null_device(&rt);
     let words = words_of(rt.alloc(), words(&rt));
     let trace = File::open(&rt, TRACE_NAME);
-    let status = end_status(rt.alloc(), words, rt.reader(), trace, io::writer(&rt));
+    let mut errors = rt.stderr();
+    let status = end_status(
+        rt.alloc(),
+        words,
+        rt.reader(),
+        trace,
+        io::writer(&rt),
+        &mut errors,
+    );
     ExitCode::from(status)
 }

@@ -6,28 +6,75 @@ ghost use Rattle.hpview_run.specs.Words.{command_of as the_command};
 use crate::trace_source::TraceSource;
 use crate::{Status, view};
 use outside_files::streams::{StdSink, StdSource};
+use outside_traits::traits::{Sink, Source};
+use reasons::lines::text_fields;
+use reasons::picture::PictureEnding;
+use reasons::told::tell_picture;
+use reasons::words::bytes_of;
 use std::alloc::Global;
 use std::io;
 use std::io::{Read, Write};
 
-/// The status of the command that the words name, with the script from a reader, the trace from its file, where that could be
-/// opened, and the picture to a writer: that of `crate::view`, and 9 where there was no memory for the words.
-pub fn end_status<R: Read + Drop, T: Read + Drop, W: Write + Drop>(
+/// The words as bytes; none if there is no memory for them.
+fn words_of<'a>(alloc: Global, words: &'a Option<Vec<String>>) -> Vec<&'a [u8]> {
+    let list = match words {
+        Some(words) => bytes_of(alloc, words.as_slice()),
+        None => Ok(Vec::new(alloc)),
+    };
+    match list {
+        Ok(list) => list,
+        Err(_) => Vec::new(alloc),
+    }
+}
+
+/// The status of the command that the words name, and 9 if there was no memory for them.
+fn status_of<S: Source, T: Source, O: Sink>(
+    alloc: Global,
+    words: &Option<Vec<String>>,
+    script: &mut S,
+    trace: &mut T,
+    out: &mut O,
+) -> u8
+    ensures no_words { words.now ≡ None → result ≡ status_code OutOfMemory }
+    ensures usage { IfSome words.now (λ list. (result ≡ status_code Usage) ↔ (the_command list.items ≡ None)) }
+    ensures statuses { IsViewCode result }
+{
+    match words {
+        Some(words) => view(alloc, words.as_slice(), script, trace, out),
+        None => Status::OutOfMemory.code(),
+    }
+}
+
+/// The status of the command that the words name, with the script from a reader, the trace from its file, if that could be
+/// opened, and the picture to a writer: that of `crate::view`, and 9 if there was no memory for the words. Unless it is 0, the
+/// reason is printed on `errors`; a failure to print it is passed over.
+pub fn end_status<R: Read + Drop, T: Read + Drop, W: Write + Drop, E: Write>(
     alloc: Global,
     words: Option<Vec<String>>,
     script: R,
     trace: io::Result<T>,
     writer: W,
+    errors: &mut E,
 ) -> u8
     ensures no_words { words ≡ None → result ≡ status_code OutOfMemory }
     ensures usage { IfSome words (λ list. (result ≡ status_code Usage) ↔ (the_command list.items ≡ None)) }
     ensures statuses { IsViewCode result }
 {
-    let Some(words) = words else {
-        return Status::OutOfMemory.code();
-    };
     let mut script = StdSource::new(script);
+    script.keep(alloc);
     let mut trace = TraceSource::new(trace);
     let mut out = StdSink::new(writer);
-    view(alloc, words.as_slice(), &mut script, &mut trace, &mut out)
+    let status = status_of(alloc, &words, &mut script, &mut trace, &mut out);
+    let said = words_of(alloc, &words);
+    let text = text_fields(alloc, out.notes().last_piece());
+    let ending = PictureEnding {
+        words: said.as_slice(),
+        status,
+        script: script.notes(),
+        trace: trace.first_error(),
+        out: text.as_slice(),
+        output: out.notes(),
+    };
+    let _ = tell_picture(alloc, &ending, errors);
+    status
 }

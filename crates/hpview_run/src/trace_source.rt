@@ -6,29 +6,45 @@ use outside_traits::traits::{Source, SourceFailed};
 use std::io;
 use std::io::Read;
 
-/// The trace's file as a source; each call fails where it could not be opened. What is left of it is not told.
+/// The trace's file as a source; each call fails if it could not be opened. What is left of it is not told. The first error is kept.
 #[derive(Drop)]
 pub(crate) struct TraceSource<R: Read> {
     file: io::Result<R>,
     faults: u64,
+    first: Option<io::Error>,
 }
 
 impl<R: Read + Drop> TraceSource<R> {
     /// The source that reads from this file. Its count of faults begins at 0.
     pub(crate) fn new(file: io::Result<R>) -> TraceSource<R> {
-        TraceSource { file, faults: 0 }
+        TraceSource {
+            file,
+            faults: 0,
+            first: None,
+        }
+    }
+
+    /// The first error of the file.
+    pub(crate) fn first_error(&self) -> Option<io::Error> {
+        self.first
     }
 
     fn give(&mut self, into: &mut [u8]) -> Result<usize, SourceFailed>
         ensures bound { IfOk result (λ n. n ≤ length into.old) }
         ensures faults { self.new.faults ≡ self.old.faults }
     {
-        match &mut self.file {
-            Ok(file) => match file.read(into) {
-                Ok(count) => Ok(count),
-                Err(_) => Err(SourceFailed),
-            },
-            Err(_) => Err(SourceFailed),
+        let answer = match &mut self.file {
+            Ok(file) => file.read(into),
+            Err(error) => Err(*error),
+        };
+        match answer {
+            Ok(count) => Ok(count),
+            Err(error) => {
+                if self.first.is_none() {
+                    self.first = Some(error);
+                }
+                Err(SourceFailed)
+            }
         }
     }
 }

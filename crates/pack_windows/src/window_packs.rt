@@ -62,6 +62,13 @@ impl<W: WidePacks + Drop> WindowPacks<W> {
             marks,
         })
     }
+
+    /// The packs behind the windows.
+    pub fn behind(&self) -> &W
+        ensures { result.now ≡ self.now }
+    {
+        &self.packs
+    }
 }
 
 impl<W: WidePacks> Packs for WindowPacks<W> {

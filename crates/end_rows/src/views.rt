@@ -1,0 +1,106 @@
+// The reason of each end of `hpview`, on standard error.
+use hpview_run::end_status;
+use outside_files::start::words_of;
+use std::alloc::Global;
+use std::io;
+use std::io::{ErrorKind, Write};
+
+/// A command, its script, its trace, its status, and its first line on standard error.
+type View = (
+    &'static str,
+    &'static [u8],
+    Result<&'static [u8], ErrorKind>,
+    u8,
+    &'static str,
+);
+
+static VIEWS: [View; 8] = [
+    ("text", b"unit 0 rp06\n", Ok(b""), 0, ""),
+    (
+        "png",
+        b"",
+        Ok(b""),
+        2,
+        "hpview: 'png' cannot be FORM (svg, text)",
+    ),
+    (
+        "text 9 3",
+        b"",
+        Ok(b""),
+        2,
+        "hpview: '3' cannot be TO (9 to 4294967295)",
+    ),
+    ("--version", b"", Ok(b""), 2, "hpview 1.0.0"),
+    (
+        "text",
+        b"unit 0 rp06\nread 1 0 c 0\n",
+        Ok(b""),
+        3,
+        "hpview: line 2 of the script: COUNT is missing (1 to 127)",
+    ),
+    (
+        "text",
+        b"unit 0 rp06\n",
+        Ok(b"idle x\n"),
+        3,
+        "hpview: line 1 of hp.trace: the text is no line of a trace",
+    ),
+    (
+        "text",
+        b"unit 0 rp06\n",
+        Err(ErrorKind::NotFound),
+        4,
+        "hpview: there is no hp.trace in this folder: 'hpsim play' makes it",
+    ),
+    (
+        "text",
+        b"unit 0 rp06\n",
+        Err(ErrorKind::PermissionDenied),
+        4,
+        "hpview: cannot read hp.trace: permission denied",
+    ),
+];
+
+/// The words of a line, which stand between its blanks.
+fn words(alloc: Global, line: &str) -> io::Result<Vec<String>> {
+    let mut all = Vec::new(alloc);
+    for word in line.split_whitespace() {
+        all.push(String::from_str(alloc, word)?)?;
+    }
+    Ok(all)
+}
+
+/// A writer that keeps nothing.
+#[derive(Drop)]
+struct Nothing;
+
+impl Write for Nothing {
+    fn write(&mut self, from: &[u8]) -> io::Result<usize> {
+        Ok(from.len())
+    }
+
+    fn flush(&mut self) -> io::Result<()> {
+        Ok(())
+    }
+}
+
+/// Whether a command ends so.
+fn ends_so(alloc: Global, view: &View) -> bool {
+    let (line, script, trace, wanted, told) = *view;
+    let trace = match trace {
+        Ok(bytes) => Ok(bytes),
+        Err(kind) => Err(io::Error::from(kind)),
+    };
+    let mut errors = Vec::new(alloc);
+    let words = words_of(alloc, words(alloc, line));
+    let status = end_status(alloc, words, script, trace, Nothing, &mut errors);
+    let text = str::from_utf8(errors.as_slice()).unwrap_or("?");
+    status == wanted && text.lines().next().unwrap_or("") == told
+}
+
+#[test]
+fn each_view(rt: HostRuntime) {
+    for view in &VIEWS {
+        assert!(rt; ends_so(rt.alloc(), view));
+    }
+}

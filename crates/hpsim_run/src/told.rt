@@ -1,0 +1,78 @@
+// The program over real files and streams, with the reason of its end on standard error.
+use crate::{Status, end_status};
+use outside_files::failure::PackNotes;
+use outside_files::file_sink::FileSink;
+use outside_files::files::FilePacks;
+use outside_files::folder::PackFolder;
+use outside_files::os_folder::OsFolder;
+use outside_files::streams::{StdSink, StdSource};
+use outside_traits::traits::{Sink, Source};
+use pack_windows::window_packs::WindowPacks;
+use reasons::ending::Ending;
+use reasons::lines::text_fields;
+use reasons::told::tell;
+use reasons::warnings::warn;
+use reasons::words::{bytes_of, names_script};
+use std::alloc::Global;
+use std::io::{Read, Write};
+use std::os::unix::fs::FileExt;
+use std::rt::Files;
+
+/// The status of the command that the words name, over packs in the files of a folder that are read ahead, and what these packs
+/// keep.
+fn status_over<F: PackFolder + Drop, S: Source, O: Sink, T: Sink>(
+    alloc: Global,
+    words: Option<&[String]>,
+    folder: F,
+    script: &mut S,
+    out: &mut O,
+    trace: &mut T,
+) -> (u8, PackNotes) {
+    match WindowPacks::new(alloc, FilePacks::over(folder)) {
+        Ok(mut packs) => {
+            let status = end_status(alloc, words, script, &mut packs, out, trace);
+            (status, packs.behind().notes())
+        }
+        Err(_) => (Status::OutOfMemory.code(), PackNotes::new()),
+    }
+}
+
+/// Runs the command that the words name over the packs in the working folder, with the script from a reader, the answers to a writer
+/// and the trace to a file of this name, and answers its status. Before, it prints warnings on `errors`, and behind, unless the
+/// status is 0, the reason. A failure to print either is passed over.
+pub fn end_told<R: Files + AllocGlobal + Copy, I: Read + Drop, O: Write + Drop, E: Write>(
+    rt: R,
+    words: Option<Vec<String>>,
+    reader: I,
+    writer: O,
+    trace_name: &str,
+    errors: &mut E,
+) -> u8
+where
+    R::File: FileExt,
+{
+    let alloc = rt.alloc();
+    let words = words.as_ref().map(|words| words.as_slice());
+    let said = bytes_of(alloc, words.unwrap_or(&[])).unwrap_or(Vec::new(alloc));
+    let _ = warn(&rt, said.as_slice(), errors);
+    let mut script = StdSource::new(reader);
+    if names_script(said.as_slice()) {
+        script.keep(alloc);
+    }
+    let mut out = StdSink::new(writer);
+    let mut trace = FileSink::new(rt, trace_name);
+    let folder = OsFolder::new(rt);
+    let (status, packs) = status_over(alloc, words, folder, &mut script, &mut out, &mut trace);
+    let text = text_fields(alloc, out.notes().last_piece());
+    let ending = Ending {
+        words: said.as_slice(),
+        status,
+        script: script.notes(),
+        packs,
+        out: text.as_slice(),
+        output: out.notes(),
+        trace: trace.first_failure(),
+    };
+    let _ = tell(alloc, &ending, errors);
+    status
+}
