@@ -15,7 +15,7 @@ use Rattle.hpsim_run.specs.Tools.{RunsTool}
 -- WHAT `run` PROMISES of a command, but for the objects that it leaves alone
 pub record Runs (command : Option Command) (code : ℕ) (old new : Outside) : Type 0 where
   pub play : command ≡ Some Play → RunsPlay code old new
-  pub cached : (capacity : ℕ) → command ≡ Some (Cached capacity) → RunsCached code old new
+  pub cached : (capacity : ℕ) → command ≡ Some (Cached capacity) → RunsCached capacity code old new
   pub tool : RunsTool command code new.packs_tell old.held new.held new.out_tells old.said new.said old.out_faults new.out_faults
   pub exercise : (number : ℕ) → command ≡ Some (Exercise number)
       → RunsExercise number code new.out_tells old.said new.said old.out_faults new.out_faults new.trace_tells old.taken new.taken old.trace_faults new.trace_faults
