@@ -9,8 +9,8 @@ use bad144_table::{BadTable, entries, write_table};
 use outside_traits::traits::{Packs, StoreFailed};
 use pack_geometry::{DriveKind, copy_block, replacement};
 
-/// How a block is added to a table: whether its bytes are copied to its replacement (else that gets zeros), and whether
-/// it is marked.
+/// How a block is added to a table. `copy` says whether its bytes are copied to its replacement, which otherwise gets zeros; `mark`
+/// says whether the block is marked.
 #[derive(Clone, Copy)]
 pub struct AddWay {
     pub copy: bool,
@@ -125,7 +125,7 @@ pub(crate) fn write_copies<P: Packs>(
     write_to_all(packs, unit, kind, &bytes)
 }
 
-/// Marks a block, where that is asked for.
+/// Marks a block, if that is asked for.
 pub(crate) fn write_mark<P: Packs>(
     packs: &mut P,
     unit: u8,

@@ -5,7 +5,7 @@ use thiserror::Error;
 /// Why a call of the tool did not do what it was asked.
 #[derive(Debug, Drop, Error)]
 pub enum ToolFault {
-    /// No copy of the table is unmarked and spells one.
+    /// No copy of the table is both unmarked and the text of a table.
     #[error("no table")]
     NoTable,
     /// The block is at or above the data limit.
@@ -17,13 +17,13 @@ pub enum ToolFault {
     /// The table has 126 entries.
     #[error("full")]
     Full,
-    /// This replacement would be written, and is marked.
+    /// The replacement with this index would be written, but is marked.
     #[error("replacement {0} is marked")]
     Spare(u8),
-    /// The image has so many bytes, more than the pack.
+    /// The image has `length` bytes, more than the pack.
     #[error("{length} bytes are too many")]
     TooLong { length: u64 },
-    /// A call on the packs failed.
+    /// A call of the packs failed.
     #[error("the packs failed")]
     Store,
     /// A call of the sink failed.

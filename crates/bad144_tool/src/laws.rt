@@ -12,8 +12,8 @@ ghost use Rattle.bad144_tool.specs.declared.edit.AddWay.{AddWay};
 
 use pack_geometry::packs::table_edit_law;
 
-/// The law of an addition: where a block was added to the table of a unit's pack, that is an edit of the table, in which
-/// each data block but the new one keeps its content or stays unusable; and every other unit's pack is as before.
+/// The law of an addition. If a block was added to the table of a unit's pack, that is an edit of the table: each data block except the
+/// new one keeps its content or stays unusable. Every other unit's pack is as before.
 pub fn add_law()
     ensures may { (kind : DriveKind) → (unit block i : ℕ) → (way : AddWay) → (old new : ℕ → Pack) → block < block_count kind
         → (a : Adds kind unit block way old new i) → IsAddedAt kind (old unit) a.table (edit_of block way) i }
@@ -25,9 +25,8 @@ pub fn add_law()
     table_edit_law();
 }
 
-/// The law of refusals: what a pack holds determines what `add` answers, where the packs don't fail. One refusal at most
-/// has its reason there, and where one has, the block may not be listed at any index. So each refusal comes exactly where
-/// its reason holds.
+/// The law of refusals. Unless the packs fail, what a pack holds determines what `add` answers. At most one refusal has its reason in
+/// the pack, and if one has, the block may not be listed at any index. So each refusal comes exactly if its reason holds.
 pub fn refusal_law()
     ensures once { (kind : DriveKind) → (pack : Pack) → (block : ℕ) → (f g : ToolFault) → block < block_count kind
         → IsRefusal f → IsRefusal g → IsWhy kind pack block f → IsWhy kind pack block g → f ≡ g }
@@ -37,10 +36,10 @@ pub fn refusal_law()
         → block < block_count kind → MayList kind pack block i old new → MayList kind pack block j other other_new → i ≡ j }
 {}
 
-/// The law of marking: where the blocks that a pack's table lists were marked, no byte changed; the marks are those that
-/// there were and those of the listed data blocks; the table is the pack's still. What is read of a listed data block is
-/// what its replacement holds, and every other block keeps its content. Every other unit's pack is as before. Marking a
-/// second time finds nothing to mark, and leaves all as it is.
+/// The law of marking. If the blocks that a pack's table lists were marked, no byte changed. The marks are those that were there before
+/// and those of the listed data blocks, and the table is still that of the pack. A read of a listed data block gives what its
+/// replacement holds, and every other block keeps its content. Every other unit's pack is as before. Marking a second time finds
+/// nothing to mark, and changes nothing.
 pub fn mark_law()
     ensures up { (kind : DriveKind) → (unit count : ℕ) → (old new : ℕ → Pack) → (m : Marks kind unit old new count)
         → IsMarkedUp kind (old unit) (new unit) m.table }

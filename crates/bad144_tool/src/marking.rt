@@ -32,7 +32,7 @@ fn wants<P: Packs>(
     Ok(!marked)
 }
 
-/// Marks the block of a place, where it is a data block that is not marked; true where it did.
+/// Marks the block of a place, if it is a data block that is not marked. True if it did.
 fn mark_place<P: Packs>(
     packs: &mut P,
     unit: u8,
@@ -50,7 +50,7 @@ fn mark_place<P: Packs>(
     Ok(on)
 }
 
-/// A count, and one more where a block was marked.
+/// A count, plus one if a block was marked.
 fn more(count: u8, on: bool) -> u8
     requires { count < 126 }
     ensures { result ≡ count + (if on then 1 else 0) }
@@ -79,13 +79,13 @@ fn mark_all<P: Packs>(
     Ok(count)
 }
 
-/// Marks each data block that the table of a unit's pack lists and that is not marked, lowest first, and gives how many
-/// they were. From then on each listed block lives at its replacement. Places of the reserved tracks are passed over, so
+/// Marks each data block that the table of a unit's pack lists and that is not marked, the lowest one first, and answers how many
+/// blocks were marked. From then on each listed data block lives at its replacement. Places on the reserved tracks are passed over, so
 /// the copies of the table and the replacements stay as they are.
 ///
-/// The refusals come in this order, and change nothing: TooLong where the image is longer than the pack; NoTable where no
-/// copy is unmarked and spells a table. Store comes only where the packs' count of faults rose, and leaves a front of the
-/// marks, the last one set or not. No other fault comes.
+/// The refusals come in this order, and change nothing: `TooLong` if the image is longer than the pack; `NoTable` if no copy is both
+/// unmarked and the text of a table. `Store` comes only if the packs' count of faults rose; it leaves a front of the marks, the last
+/// one set or not. No other fault comes.
 pub fn mark<P: Packs>(packs: &mut P, unit: u8, kind: DriveKind) -> Result<u8, ToolFault>
     requires { unit < 32 }
     ensures never_again { IsTrue (P.tells packs.new) → IsTrue (P.tells packs.old) }

@@ -86,7 +86,7 @@ fn check_spare<P: Packs>(
     Ok(())
 }
 
-/// The table with a block's place in it, and its index, where the block may be listed; else why not. Nothing is written.
+/// The table with a block's place in it, and its index, if the block may be listed; otherwise why it may not. Nothing is written.
 fn make_plan<P: Packs>(
     packs: &mut P,
     unit: u8,
@@ -113,16 +113,17 @@ fn make_plan<P: Packs>(
     Ok(Plan { table, index })
 }
 
-/// Adds a block to the table of a unit's pack, and gives the index of its entry.
+/// Adds a block to the table of a unit's pack, and answers the index of its entry.
 ///
-/// The writes come in this order. Replacement `j` is copied to replacement `j + 1`, for `j` from the last entry's down to
-/// the new index. The replacement of the new index gets the block's own bytes with `copy`, and zeros without. All five
-/// copies of the table are written, copy 0 first. With `mark` the block is marked.
+/// The writes come in this order. Replacement `j` is copied to replacement `j + 1`, for `j` from the last entry's index down to the new
+/// index. The replacement of the new index gets the block's own bytes with `copy`, and zeros otherwise. All five copies of the table
+/// are written, copy 0 first. With `mark`, the block is marked.
 ///
-/// The refusals come in this order, and change nothing: TooLong where the image is longer than the pack; NoTable where no
-/// copy is unmarked and spells a table; Reserved where the block is at or above the data limit; Listed with its index;
-/// Full at 126 entries; Spare with the least replacement that would be written and is marked. Store comes only where the
-/// packs' count of faults rose, and leaves a front of the writes, the last one done or not. Sink never comes.
+/// The refusals come in this order, and change nothing: `TooLong` if the image is longer than the pack; `NoTable` if no copy is both
+/// unmarked and the text of a table; `Reserved` if the block is at or above the data limit; `Listed` with the block's index if the
+/// table lists it; `Full` if the table has 126 entries; `Spare` with the lowest replacement that would be written and is marked.
+/// `Store` comes only if the packs' count of faults rose; it leaves a front of the writes, the last one done or not. `Sink` never
+/// comes.
 pub fn add<P: Packs>(
     packs: &mut P,
     unit: u8,
@@ -145,10 +146,10 @@ pub fn add<P: Packs>(
     Ok(plan.index)
 }
 
-/// Writes an empty table with this serial number to all five copies, copy 0 first. Marks and other blocks stay.
+/// Writes an empty table with this serial number to all five copies, copy 0 first. Marks and other blocks stay as they were.
 ///
-/// TooLong comes exactly where the image is longer than the pack, and changes nothing. Store comes only where the packs'
-/// count of faults rose, and leaves a front of the five writes, the last one done or not.
+/// `TooLong` comes exactly if the image is longer than the pack; nothing changes then. `Store` comes only if the packs' count of faults
+/// rose; it leaves a front of the five writes, the last one done or not.
 pub fn fresh<P: Packs>(
     packs: &mut P,
     unit: u8,
@@ -233,10 +234,10 @@ fn write_list<O: Sink>(
     }
 }
 
-/// Prints the table of a unit's pack: `serial S entries E` and a line for each entry, or `no table`. The packs stay.
+/// Prints the table of a unit's pack: `serial S entries E` and a line for each entry, or `no table`. The packs stay as they were.
 ///
-/// TooLong comes exactly where the image is longer than the pack, and prints nothing; Store only where the packs' count
-/// of faults rose, and prints nothing; Sink only where the count of `out` rose, and then a front of the text was taken.
+/// `TooLong` comes exactly if the image is longer than the pack, and nothing is printed then. `Store` comes only if the packs' count of
+/// faults rose, and nothing is printed then. `Sink` comes only if the count of `out` rose; a front of the text was taken then.
 pub fn list<P: Packs, O: Sink>(
     packs: &mut P,
     unit: u8,

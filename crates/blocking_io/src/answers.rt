@@ -20,7 +20,7 @@ fn lay(bytes: &[u8], into: &mut [u8])
     into[..fits].copy_from_slice(&bytes[..fits]);
 }
 
-/// Lays the first bytes of a block, so many, over others from a place on, as far as there is room.
+/// Lays the first `size` bytes of a block over others from byte `at` on, as far as there is room.
 fn lay_at(block: &[u8; 512], size: u32, at: usize, into: &mut [u8])
     requires { size ≤ 512 }
     ensures { into.new ≡ laid_at at (take size block.now) into.old }
@@ -39,7 +39,7 @@ fn block_size(k: u32, count: u32, last: u32) -> u32
     if k + 1 == count { last } else { 512 }
 }
 
-/// Lays block `k`, of so many bytes, of the read that the oldest answer is of over its place in a buffer.
+/// Lays block `k`, of `size` bytes, of the read that the oldest answer belongs to over its place in a buffer.
 fn give_block(subsystem: &Subsystem, k: u32, size: u32, into: &mut [u8])
     requires block { HasBlock subsystem.now.world k size }
     ensures { into.new ≡ laid_at (512 * k) (slice_index_or (oldest_blocks subsystem.now.world) k []) into.old }
@@ -49,7 +49,7 @@ fn give_block(subsystem: &Subsystem, k: u32, size: u32, into: &mut [u8])
     lay_at(&block, size, 512 * k as usize, into);
 }
 
-/// Gives the blocks of the read that the oldest answer is of: `count` of them, the last one with `last` bytes.
+/// Gives the blocks of the read that the oldest answer belongs to: `count` of them, the last one with `last` bytes.
 fn give_blocks(subsystem: &Subsystem, count: u32, last: u32, into: &mut [u8])
     requires reads { IsOldestKind subsystem.now.world (ReadOk count last) }
     ensures { into.new ≡ laid (bytes_in (oldest_blocks subsystem.now.world)) into.old }
@@ -60,7 +60,7 @@ fn give_blocks(subsystem: &Subsystem, count: u32, last: u32, into: &mut [u8])
     }
 }
 
-/// Gives the bytes of the oldest answer, where it is of a read.
+/// Gives the bytes of the oldest answer, if it answers a read.
 fn give(subsystem: &Subsystem, kind: AnswerKind, into: &mut [u8])
     requires oldest { IsOldestKind subsystem.now.world kind }
     ensures { into.new ≡ bytes_by (answer_told kind (oldest_blocks subsystem.now.world)) into.old }

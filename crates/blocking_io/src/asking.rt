@@ -93,7 +93,7 @@ fn send_ahead<T: Sink>(subsystem: &mut Subsystem, writes: bool, trace: &mut T) -
     }
 }
 
-/// Sends the lines that are kept where the packs failed at an event that writes nothing. Where the trace fails too, that is the answer.
+/// Sends the lines that are kept if the packs failed at an event that writes nothing. If the trace fails too, the answer says that.
 fn send_behind<T: Sink>(subsystem: &mut Subsystem, writes: bool, trace: &mut T) -> Stop
     ensures sends { SendsRest T.tells T.taken T.faults trace.old trace.new writes subsystem.old.kept result }
     ensures same { subsystem.new ≡ record subsystem.old { kept = if writes then subsystem.old.kept else [] } }
@@ -107,8 +107,8 @@ fn send_behind<T: Sink>(subsystem: &mut Subsystem, writes: bool, trace: &mut T) 
     }
 }
 
-/// An event happens at a line. Its lines are kept; those of before are sent ahead of it where it may write a block, and behind it where
-/// the packs failed.
+/// An event happens at a line. Its lines are kept. Earlier lines are sent before the event if it may write a block, and after it if the
+/// packs failed.
 fn happen<P: Packs, T: Sink>(
     subsystem: &mut Subsystem,
     line: u64,
@@ -158,8 +158,8 @@ fn say_idle<T: Sink>(line: u64, trace: &mut T) -> Result<(), Stop>
     }
 }
 
-/// A request is submitted at a line and drained, with the bytes of a write, and its answer is given and taken. However the packs
-/// answer, that comes to its end.
+/// Submits a request at a line, with the bytes if it is a write; drains it; and gives and takes its answer. This ends, however the
+/// packs answer.
 fn ask<P: Packs, T: Sink>(
     subsystem: &mut Subsystem,
     line: u64,
@@ -206,13 +206,14 @@ fn ask<P: Packs, T: Sink>(
     unreachable!()
 }
 
-/// Reads the blocks of a request into a buffer, at a line from 1 on: submits it to a driver that is ready, drains it, and gives what
-/// was answered. Behind it the driver is ready again. Where the packs tell what they hold, and the driver's tables are theirs: all
-/// blocks were read where all can be used, and the buffer has their bytes, as far as it has room; else just those before the first
-/// that can't, and the buffer stays, as it does where the partition refuses the request; and the packs hold what they held.
+/// Reads the blocks of a request into a buffer, at a line from 1 on: submits the request to a ready driver, drains it, and gives what
+/// was answered. The driver is ready again afterwards. The rest applies if the packs tell what they hold, and if the driver's tables
+/// are theirs. If all blocks can be used, all of them were read, and the buffer has their bytes, as far as it has room. Otherwise only
+/// the blocks before the first one that can't be used were read, and the buffer stays as it was. The buffer also stays as it was if the
+/// partition refuses the request. The packs hold what they held.
 ///
-/// `Store` comes only where the packs' count of faults rose, `Sink` only where the trace's did. The trace took a front of the lines
-/// then, and the packs are as they leave them. No further call may follow, and of the buffer nothing is said.
+/// `Store` comes only if the packs' count of faults rose, and `Sink` only if the trace's did. The trace then took a front of the lines,
+/// and the packs are as these lines leave them. No call may follow, and nothing is said about the buffer.
 pub fn ask_read<P: Packs, T: Sink>(
     subsystem: &mut Subsystem,
     line: u64,
@@ -239,13 +240,13 @@ pub fn ask_read<P: Packs, T: Sink>(
     ask(subsystem, line, request, &[], into, packs, trace)
 }
 
-/// Writes the blocks of a request, at a line from 1 on: submits it to a driver that is ready, drains it, and takes the answer. Behind
-/// it the driver is ready again. Where the packs tell what they hold, and the driver's tables are theirs: all blocks were replaced
-/// where all can be used, and else just those before the first that can't; none where the partition refuses the request; and nothing
-/// else.
+/// Writes the blocks of a request, at a line from 1 on: submits the request to a ready driver, drains it, and takes the answer. The
+/// driver is ready again afterwards. The rest applies if the packs tell what they hold, and if the driver's tables are theirs. If all
+/// blocks can be used, all of them were replaced. Otherwise only the blocks before the first one that can't be used were. If the
+/// partition refuses the request, no block was replaced. Nothing else changed.
 ///
-/// `Store` comes only where the packs' count of faults rose, `Sink` only where the trace's did. The trace took a front of the lines
-/// then, and the packs are as they leave them; at `Store` the next block of the write may be there too. No further call may follow.
+/// `Store` comes only if the packs' count of faults rose, and `Sink` only if the trace's did. The trace then took a front of the lines,
+/// and the packs are as these lines leave them; after `Store` they may also have the next block of the write. No call may follow.
 pub fn ask_write<P: Packs, T: Sink>(
     subsystem: &mut Subsystem,
     line: u64,

@@ -1,19 +1,19 @@
-//! What a request that is waited for leaves, as `blocking_io` promises it. The functions here do nothing: each stands for a law.
+//! What a blocking request leaves, as `blocking_io` promises it. The functions here do nothing: each stands for a law.
 //!
-//! What is proved: `fronts_law`: where the request stopped the packs hold a front of it. `clean_law`: where it was answered each block that
-//! is done has its clean line. Here too are the words for whole blocks of a partition in one request, and for what is kept from call to
-//! call, which raw transfers and the cache share.
+//! What is proved: `fronts_law`: if the request stopped, the packs hold a front of it. `clean_law`: if the request was answered, each
+//! block that is done has its clean line. This module also defines the words for whole blocks of a partition in one request, and for
+//! what is kept from call to call. Raw transfers and the cache share these words.
 
 ghost use Rattle.blocking_io.specs.Fronts.{StoppedHoldsFront, AnsweredMovesClean};
 
-/// Where the trace or the packs failed in a request that is waited for, the packs hold a front of it: where it writes some of its first
-/// blocks are replaced, each whole, and nothing else is changed.
+/// If the trace or the packs fail during a blocking request, the packs hold a front of it: a write replaced some of its first blocks,
+/// each of them whole, and changed nothing else.
 pub fn fronts_law()
     ensures { StoppedHoldsFront }
 {}
 
-/// Where a request that is waited for was answered, each block that is done moved clean: among its lines is one that tells so of a sector at
-/// the block's home.
+/// If a blocking request was answered, each block that is done moved clean: one of the request's lines tells that a sector at the
+/// block's home did.
 pub fn clean_law()
     ensures { AnsweredMovesClean }
 {}

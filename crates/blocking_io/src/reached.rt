@@ -1,20 +1,20 @@
-// How far a request that is waited for came.
+// How far a blocking request came.
 ghost use Rattle.std.specs.Prelude.{◌≡◌, ℕ, List};
 ghost use Rattle.driver_machine.specs.Lines.{answer_told};
 ghost use Rattle.blocking_io.specs.Given.{reached_by};
 
 use hp_driver::{AnswerKind, Cause};
 
-/// How far a request came.
+/// How far a blocking request came.
 #[derive(Clone, Copy)]
 pub enum Reached {
-    /// All its blocks were read or written.
+    /// All blocks of the request were read or written.
     All,
-    /// Only so many blocks were, those before the first that can't be used.
+    /// Only the first `done` blocks were read or written: the next one can't be used.
     Before { done: u32 },
-    /// None: it reaches beyond its partition.
+    /// No block was read or written: the request reaches beyond its partition.
     Outside,
-    /// None: it begins at the very end of its partition.
+    /// No block was read or written: the request begins at the very end of its partition.
     AtEnd,
 }
 

@@ -42,10 +42,10 @@ fn is_done(reached: Reached) -> bool
     }
 }
 
-/// Reads a data block of a unit, at a line from 1 on, through a driver that is ready: whether the block can be used. Its bytes are given
-/// then. Behind it the driver is ready again, and no block has changed.
+/// Reads a data block of a unit, at a line from 1 on, through a ready driver. Answers whether the block can be used; if it can, its
+/// bytes are given. The driver is ready again afterwards, and no block has changed.
 ///
-/// `Store` and `Sink` come only where the count of faults of the packs or of the trace rose; no further call may follow then.
+/// `Store` and `Sink` come only if the count of faults of the packs or of the trace rose; no call may follow then.
 pub fn fetch_block<P: Packs, T: Sink>(
     subsystem: &mut Subsystem,
     line: u64,
@@ -84,10 +84,10 @@ pub fn fetch_block<P: Packs, T: Sink>(
     Ok(is_done(reached))
 }
 
-/// Writes a data block of a unit, at a line from 1 on, through a driver that is ready. Behind it the driver is ready again, and the block
-/// has these bytes where it can be used; no other block has changed.
+/// Writes a data block of a unit, at a line from 1 on, through a ready driver. The driver is ready again afterwards. The block has
+/// these bytes if it can be used, and no other block has changed.
 ///
-/// `Store` and `Sink` come as they do for `fetch_block`; the block may have its bytes then.
+/// `Store` and `Sink` come as they do for `fetch_block`; the block may have its new bytes then.
 pub fn store_block<P: Packs, T: Sink>(
     subsystem: &mut Subsystem,
     line: u64,

@@ -15,15 +15,15 @@ use driver_laws::rules::cached::cache_law;
 use outside_traits::traits::{Packs, Sink};
 
 impl Cache {
-    /// Reads a data block of a unit through the cache, at a line from 1 on. A block that is an entry comes to the front, and nothing else is
-    /// done. Another one is read from its pack, the last entry of a full cache is written back where it was changed, and the block is put
-    /// in front in its place. The driver is to be ready, made for one outstanding request at least, and its tables those of the packs;
-    /// behind an Ok and `Unusable` it is ready again.
+    /// Reads a data block of a unit through the cache, at a line from 1 on. If the block is an entry, it comes to the front, and
+    /// nothing else is done. Otherwise the block is read from its pack. If the cache is full, its last entry is written back if it was
+    /// changed, and the new entry takes its place. The new entry comes to the front. The driver must be ready and made for at least one
+    /// outstanding request, and its tables must be those of the packs. It is ready again after Ok and `Unusable`.
     ///
-    /// `Unusable` comes exactly where the block can't be used; cache and packs are as they were then, and of the buffer nothing is said.
-    /// `Stop` comes only where the count of faults of the packs or of the trace rose; no further call may follow then, and the requests were
-    /// those of an Ok or `Unusable`, up to one in which it stopped. Want of memory is never answered: where an insertion is refused, that is
-    /// counted, once in a call at the most, and the block is not in the cache.
+    /// `Unusable` comes exactly if the block can't be used. The cache and the packs are then as they were, and nothing is said about
+    /// the buffer. `Stop` comes only if the count of faults of the packs or of the trace rose. No call may follow then, and the
+    /// requests were those of Ok or `Unusable`, up to the one that stopped. A lack of memory is never an answer: if memory refuses an
+    /// insertion, the block does not enter the cache, and the refusal is counted, at most once for each call.
     pub fn read<P: Packs, T: Sink>(
         &mut self,
         subsystem: &mut Subsystem,
@@ -65,9 +65,9 @@ impl Cache {
         self.read_new(subsystem, line, unit, block, into, packs, trace)
     }
 
-    /// Writes a data block of a unit through the cache, at a line from 1 on: its bytes are in the cache then, and go to the pack when the
-    /// entry is dropped or at a sync. A block that is no entry is read first, as by `read`. Where its insertion is refused the bytes go to
-    /// the pack at once.
+    /// Writes a data block of a unit through the cache, at a line from 1 on. The bytes are then in the cache, and go to the pack when
+    /// the entry is dropped or at a sync. A block that is not an entry is read first, as `read` does. If memory refuses its insertion,
+    /// the bytes go to the pack at once.
     ///
     /// `Unusable` and `Stop` come as they do for `read`.
     pub fn write<P: Packs, T: Sink>(

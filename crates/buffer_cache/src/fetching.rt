@@ -13,7 +13,7 @@ use crate::{Stop, Subsystem, fetch_block, sessions_law, store_block};
 use outside_traits::traits::{Packs, Sink};
 
 impl Cache {
-    /// Writes the last entry of a full cache back, where it was changed.
+    /// Writes the last entry of a full cache back, if it was changed.
     fn make_room<P: Packs, T: Sink>(
         &mut self,
         subsystem: &mut Subsystem,
@@ -57,7 +57,7 @@ impl Cache {
         Ok(())
     }
 
-    /// Reads a block that is no entry, and makes room for it where it can be used: whether it can.
+    /// Reads a block that is no entry, and makes room for it if it can be used. Answers whether it can.
     pub(crate) fn fetch<P: Packs, T: Sink>(
         &mut self,
         subsystem: &mut Subsystem,

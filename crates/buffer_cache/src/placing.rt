@@ -18,7 +18,7 @@ use driver_laws::rules::cached::cache_law;
 use outside_traits::traits::{Packs, Sink};
 
 impl Cache {
-    /// Reads a block that is no entry, and puts it in front where it can be used.
+    /// Reads a block that is no entry, and puts it in front if it can be used.
     pub(crate) fn read_new<P: Packs, T: Sink>(
         &mut self,
         subsystem: &mut Subsystem,
@@ -61,7 +61,7 @@ impl Cache {
         Ok(())
     }
 
-    /// Puts a block that is no entry in front, changed. Where memory refuses that, it goes to its pack at once.
+    /// Puts a changed block that is no entry in front. If memory refuses that, the block goes to its pack at once.
     fn place<P: Packs, T: Sink>(
         &mut self,
         subsystem: &mut Subsystem,
@@ -97,7 +97,7 @@ impl Cache {
         Ok(())
     }
 
-    /// Writes a block that is no entry: it is read first, and put in front where it can be used.
+    /// Writes a block that is no entry: reads it first, and puts it in front if it can be used.
     pub(crate) fn write_new<P: Packs, T: Sink>(
         &mut self,
         subsystem: &mut Subsystem,

@@ -14,8 +14,8 @@ use std::alloc::Global;
 use std::marker::Model;
 use std::num::NonZeroUsize;
 
-/// A cache of blocks with delayed writes. A contract sees its entries, the most recent first, how many there may be, and how many insertions
-/// memory refused.
+/// A cache of blocks with delayed writes. A contract sees its entries, the most recent one first, the largest number of entries that it
+/// may have, and the number of insertions that memory refused.
 #[derive(Drop)]
 pub struct Cache {
     pub(crate) order: LruCache<Key, usize>,
@@ -34,7 +34,7 @@ impl Model for Cache {
     ghost invariant = { λ c. IsKept c.order c.slots.items };
 }
 
-/// A slot for one more entry: the last one's where the cache is full.
+/// A slot for one more entry: that of the last entry if the cache is full.
 fn next_slot(order: &LruCache<Key, usize>) -> usize
     ensures slot { result ≡ free_slot order.now }
     ensures few { length order.now.entries ≤ order.now.cap }
@@ -79,7 +79,7 @@ fn last(order: &LruCache<Key, usize>, slots: &Vec<Held>) -> Option<Entry>
     })
 }
 
-/// An entry, where it was changed.
+/// An entry, if it was changed.
 fn if_changed(entry: Option<Entry>) -> Option<Entry>
     ensures { result ≡ if_changed entry }
 {
@@ -90,8 +90,8 @@ fn if_changed(entry: Option<Entry>) -> Option<Entry>
 }
 
 impl Cache {
-    /// An empty cache of so many entries at the most, from 1 to 4,096. The memory for their bytes is taken here; `NoMemory` where it is not
-    /// to be had.
+    /// Creates an empty cache of at most `capacity` entries, 1 to 4,096. The memory for their bytes is taken here. Answers `NoMemory`
+    /// if memory runs out.
     pub fn new(alloc: Global, capacity: u32) -> Result<Cache, NoMemory>
         requires some { 1 ≤ capacity }
         requires most { capacity ≤ 4096 }
@@ -111,14 +111,14 @@ impl Cache {
         })
     }
 
-    /// The law of the cache: it has no more entries than it may, and no block twice.
+    /// The law of the cache: it has no more entries than its capacity, and no block twice.
     pub fn law(&self)
         ensures { IsCache self.now }
     {
         let _count = self.order.len();
     }
 
-    /// Gives the bytes of a block that is an entry, which comes to the front: whether it is one.
+    /// Gives the bytes of a block that is an entry, which comes to the front. Answers whether it is one.
     pub(crate) fn give(&mut self, unit: u8, block: u32, into: &mut [u8; 512]) -> bool
         ensures found { result ≡ is_some (entry_of unit block self.old.entries) }
         ensures fronts { self.new ≡ fronted unit block self.old }
@@ -131,7 +131,7 @@ impl Cache {
         true
     }
 
-    /// Changes a block that is an entry, which comes to the front: whether it is one.
+    /// Changes a block that is an entry, which comes to the front. Answers whether it is one.
     pub(crate) fn change(&mut self, unit: u8, block: u32, from: &[u8; 512]) -> bool
         ensures found { result ≡ is_some (entry_of unit block self.old.entries) }
         ensures changes { self.new ≡ changed_in_front unit block from.now self.old }
@@ -146,7 +146,7 @@ impl Cache {
         true
     }
 
-    /// The last entry of a full cache, where it was changed.
+    /// The last entry of a full cache, if it was changed.
     pub(crate) fn last_changed(&self) -> Option<Entry>
         ensures { result ≡ to_write_back self.now }
     {
@@ -166,8 +166,8 @@ impl Cache {
         }
     }
 
-    /// Puts a block in front that is no entry, and drops the last entry of a full cache: whether memory was there for it. Where it was not,
-    /// that is counted.
+    /// Puts a block that is no entry in front, and drops the last entry of a full cache. Answers whether there was memory for that; if
+    /// there was not, the refusal is counted.
     pub(crate) fn insert(&mut self, unit: u8, block: u32, bytes: &[u8; 512], changed: bool) -> bool
         requires new { entry_of unit block self.old.entries ≡ None }
         ensures { self.new ≡ put (not result) (entry unit block bytes.now changed) self.old }
@@ -184,7 +184,7 @@ impl Cache {
         true
     }
 
-    /// How many insertions memory refused; the count stands still at its type's end.
+    /// The number of insertions that memory refused. The count stops at 2^64 - 1.
     pub fn refused(&self) -> u64
         ensures { result ≡ self.now.refused }
     {

@@ -17,7 +17,7 @@ use driver_laws::rules::cached::cache_law;
 use lru::LruCache;
 use outside_traits::traits::{Packs, Sink};
 
-/// Writes an entry back, where it was changed.
+/// Writes an entry back, if it was changed.
 fn write_back<P: Packs, T: Sink>(
     key: Key,
     held: &mut Held,
@@ -87,10 +87,10 @@ fn write_all_back<P: Packs, T: Sink>(
 }
 
 impl Cache {
-    /// Writes each changed entry back to its pack, the first one first, at a line from 1 on. The entries and their order stay, none of them
-    /// changed; so the packs hold what is cached.
+    /// Writes each changed entry back to its pack, the first one first, at a line from 1 on. The entries and their order stay, and none
+    /// of them counts as changed afterwards. So the packs hold what is cached.
     ///
-    /// `Store` and `Sink` come only where the count of faults of the packs or of the trace rose; no further call may follow then.
+    /// `Store` and `Sink` come only if the count of faults of the packs or of the trace rose; no call may follow then.
     pub fn sync<P: Packs, T: Sink>(
         &mut self,
         subsystem: &mut Subsystem,

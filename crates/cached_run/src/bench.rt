@@ -21,7 +21,7 @@ pub(crate) struct Bench {
 }
 
 impl Bench {
-    /// A new driver for these units, an empty cache of so many blocks, and an empty desk.
+    /// A new driver for these units, an empty cache of `capacity` blocks, and an empty desk.
     pub(crate) fn new(alloc: Global, units: &[UnitSetup], capacity: u32) -> Result<Bench, NoMemory>
         requires setups { AreSetups (setups_of units.now) }
         requires some { 1 ≤ capacity }

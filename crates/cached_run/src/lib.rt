@@ -1,5 +1,5 @@
-//! The player of scripts for the cache: each request of a script is answered at its own line, block by block through a cache with
-//! delayed writes, and behind the last line all that is changed goes to the packs.
+//! The player of scripts for the cache. Each request of a script is answered at its own line, block by block through a cache with
+//! delayed writes. After the last line, everything that is changed goes to the packs.
 #![tactic(auto)]
 
 mod bench;

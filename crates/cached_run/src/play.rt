@@ -25,8 +25,8 @@ use script_runs::desk::Desk;
 use script_runs::{PlayFault, attach_cached};
 use std::alloc::Global;
 
-/// Plays the lines of a script over units that are set up for it, and behind the last line a sync, whose number is the number of
-/// lines plus one.
+/// Plays the lines of a script over units that are set up for it, and a sync after the last line. The number of the sync is the number
+/// of lines plus one.
 fn play_lines<P: Packs, O: Sink, T: Sink>(
     script: &CachedScript,
     cache: &mut Cache,
@@ -59,20 +59,20 @@ fn play_lines<P: Packs, O: Sink, T: Sink>(
     play_sync(number, cache, subsystem, packs, trace)
 }
 
-/// Plays a script line by line through a cache of so many blocks, from 1 to 4,096, and behind its last line a sync, whose number is the
-/// number of lines plus one. Each request is answered at its own line, and its answer goes to `out` behind it; the lines of the requests
-/// that the cache makes go to `trace`.
+/// Plays a script line by line through a cache of `capacity` blocks, 1 to 4,096, and a sync after its last line. The number of the sync
+/// is the number of lines plus one. Each request is answered at its own line, and its answer goes to `out` at once. The lines of the
+/// requests that the cache makes go to `trace`.
 ///
-/// The units are attached first, in the order of their lines. TooLong tells the first unit whose image has more bytes than the blocks of
-/// its drive. Store comes only where the packs' count of faults rose in this call, and Sink only where that of `out` or of `trace` rose;
-/// Memory only before the first line is played, with the packs, `out` and `trace` as they were.
+/// The units are attached first, in the order of their lines. `TooLong` names the first unit whose image has more bytes than the blocks
+/// of its drive. `Store` comes only if the packs' count of faults rose in this call, and `Sink` only if that of `out` or of `trace`
+/// rose. `Memory` comes only before the first line is played, with the packs, `out` and `trace` as they were.
 ///
-/// Behind an Ok the requests were those that an empty cache of so many blocks asks for, a read for each block that it does not hold and a
-/// write for each changed entry that is dropped or synced; and each image is as long as the blocks that were written make it.
+/// After Ok the requests were those that an empty cache of `capacity` blocks asks for: a read for each block that it does not hold, and
+/// a write for each changed entry that is dropped or synced. Each image is as long as the blocks that were written make it.
 ///
-/// Behind Store and Sink each block of the packs holds what some of the blocks that were written up to the line of the stop left, those
-/// before the last sync that ended among them. `out` took the answers of all lines before that one, and a front of its own; and `trace` took
-/// the lines of the requests up to where it stopped.
+/// After `Store` and `Sink` each block of the packs holds what some of the blocks that were written up to the line of the stop left,
+/// among them those before the last sync that ended. `out` took the answers of all lines before that line, and a front of that line's
+/// answer. `trace` took the lines of the requests, up to the request that stopped.
 pub fn play_cached<P: Packs, O: Sink, T: Sink>(
     alloc: Global,
     script: &CachedScript,

@@ -22,7 +22,7 @@ use partitions::{Admission, Part, admit};
 use script_reader::cached::Asked;
 use trace_replay::requests::{AnswerKind, Cause};
 
-/// How a request is answered of whose blocks so many were done, with the kind that it has where all were.
+/// The answer to a request of which `done` of `count` blocks were done. `whole` is its kind if all were.
 fn answered(done: u32, count: u32, whole: AnswerKind) -> AnswerKind
     ensures { result ≡ kind_by done count whole }
 {

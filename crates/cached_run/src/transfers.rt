@@ -11,7 +11,7 @@ use buffer_cache::{Cache, CacheFault, Subsystem};
 use driver_laws::answers::outcome::Stop;
 use outside_traits::traits::{Packs, Sink};
 
-/// Reads the blocks of a unit from one on, so many: how many come before the first that can't be used.
+/// Reads `count` blocks of a unit, one after another. Answers how many come before the first one that can't be used.
 pub(crate) fn read_blocks<P: Packs, T: Sink>(
     cache: &mut Cache,
     subsystem: &mut Subsystem,
@@ -63,7 +63,8 @@ pub(crate) fn read_blocks<P: Packs, T: Sink>(
     Ok(count)
 }
 
-/// Writes one block to each of those of a unit from one on, so many: how many come before the first that can't be used.
+/// Writes the same block to each of `count` blocks of a unit, one after another. Answers how many come before the first one that can't
+/// be used.
 pub(crate) fn write_blocks<P: Packs, T: Sink>(
     cache: &mut Cache,
     subsystem: &mut Subsystem,

@@ -1,4 +1,4 @@
-// Drives are attached, and a driver is made of them.
+// These functions attach drives, and make a driver of them.
 ghost use Rattle.std.specs.Prelude.{◌≡◌, ◌≤◌, IfSome};
 ghost use Rattle.driver_machine.specs.Guards.{IsSetUp};
 ghost use Rattle.blocking_io.specs.Asking.{IsReady};
@@ -12,8 +12,8 @@ use outside_traits::traits::Packs;
 use pack_geometry::DriveKind;
 use std::alloc::Global;
 
-/// Attaches unit 0, an RM03, with the table of its pack, and makes a driver for one request at a time. None where the pack is too long or
-/// fails, or memory is short.
+/// Attaches unit 0, an RM03, with the table of its pack, and makes a driver for one request at a time. None if the pack is too long or
+/// fails, or if memory runs out.
 pub fn attached<P: Packs>(alloc: Global, packs: &mut P) -> Option<Subsystem>
     ensures ready { IfSome result (λ s. IsReady s) }
     ensures room { IfSome result (λ s. s.outstanding ≡ 1) }
@@ -35,8 +35,8 @@ pub fn attached<P: Packs>(alloc: Global, packs: &mut P) -> Option<Subsystem>
     }
 }
 
-/// Attaches units 0 and 1, two RM03 on one adapter, and makes a driver on which so many requests may be outstanding at once. None where a
-/// pack is too long or fails, or memory is short.
+/// Attaches units 0 and 1, two RM03 on one adapter, and makes a driver on which `outstanding` requests, 65,536 at the most, may be
+/// outstanding at once. None if a pack is too long or fails, or if memory runs out.
 pub fn attached_both<P: Packs>(alloc: Global, packs: &mut P, outstanding: u32) -> Option<Subsystem>
     requires few { outstanding ≤ 65536 }
     ensures may { IfSome result (MayGoOn 0) }

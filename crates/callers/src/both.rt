@@ -1,4 +1,4 @@
-// Requests to two drives are submitted one after another, before anything happens, and then they are drained.
+// Requests to two drives are submitted one after another, before any event happens, and then they are drained.
 ghost use Rattle.std.specs.Prelude.{◌≡◌, ◌+◌, ◌<◌, ◌≤◌, false, [], length, IfOk, OnOk, IsTrue};
 ghost use Rattle.driver_machine.specs.Runs.{NoneOutstanding};
 ghost use Rattle.driver_laws.specs.answers.Waiting.{all_taken};
@@ -10,7 +10,7 @@ use hp_driver::{AnswerKind, Event, Request, Stop, Subsystem};
 use outside_traits::traits::{Packs, Sink};
 use partitions::Part;
 
-/// How many requests were answered, how many of them ok, and whether none is outstanding any more.
+/// The number of requests that were answered, how many of them were answered ok, and whether no request is outstanding any more.
 #[derive(Drop)]
 pub struct Tally {
     pub answered: u64,
@@ -58,7 +58,7 @@ fn take_answers(subsystem: &mut Subsystem, tally: &mut Tally)
     }
 }
 
-/// Submits the read of a block at a line, where requests with all lower ids were submitted before.
+/// Submits the read of a block at a line. Requests with all lower ids were submitted before.
 fn ask<T: Sink>(
     subsystem: &mut Subsystem,
     line: u64,
@@ -101,8 +101,8 @@ fn happen<P: Packs, T: Sink>(
     Ok(())
 }
 
-/// Lets happen what happens until no request is outstanding, and answers `true` then. The loop needs no measure, since it counts to
-/// 2^64 - 1. No drain comes so far, since `next_event` leaves fewer lines to come each time, at most 200 for each block.
+/// Lets events happen until no request is outstanding, and answers `true` then. The loop needs no measure, since it counts to 2^64 - 1.
+/// No drain gets that far, since each event of `next_event` leaves fewer lines to come, at most 200 for each block.
 pub fn drain<P: Packs, T: Sink>(
     subsystem: &mut Subsystem,
     line: u64,
@@ -123,7 +123,7 @@ pub fn drain<P: Packs, T: Sink>(
     Ok(false)
 }
 
-/// Reads a block for each of these numbers, of unit 0 and unit 1 in turn. All requests are outstanding at once, so the drives seek at
+/// Reads a block for each of these numbers, from unit 0 and unit 1 in turn. All requests are outstanding at once, so the drives seek at
 /// the same time, and each drive serves its requests in the order of their cylinders.
 pub fn read_from_both<P: Packs, T: Sink>(
     subsystem: &mut Subsystem,

@@ -1,9 +1,9 @@
-// What a caller may bring of its own: a source, a sink, and packs.
+// What a caller may supply itself: a source, a sink, and packs.
 ghost use Rattle.std.specs.Prelude.{true, false, [], replicate};
 
 use outside_traits::traits::{Packs, Sink, SinkFailed, Source, SourceFailed, StoreFailed};
 
-/// A source of zeros. It tells how many are left, and never fails.
+/// A source of zeros. It tells how many are left, and it never fails.
 #[derive(Drop)]
 pub struct Zeros {
     pub left: usize,
@@ -24,7 +24,7 @@ impl Source for Zeros {
     }
 }
 
-/// A sink that counts bytes and keeps none, so it does not tell what it took. It never fails.
+/// A sink that counts bytes and keeps none of them, so it does not tell what it took. It never fails.
 #[derive(Drop)]
 pub struct Counter {
     pub bytes: u64,
@@ -43,8 +43,8 @@ impl Sink for Counter {
     }
 }
 
-/// The pack of unit 0 in memory that is given, with no mark; all other packs are empty. A write beyond that memory fails. It does not tell
-/// what it holds, as a store behind a network would not: so no contract promises anything of its contents.
+/// The pack of unit 0, in memory that the caller hands in, without a mark; all other packs are empty. A write beyond that memory fails.
+/// The disk does not tell what it holds, as a store across a network would not, so no contract promises anything about its contents.
 #[derive(Drop)]
 pub struct Disk {
     bytes: Vec<u8>,
@@ -55,12 +55,12 @@ impl Disk {
     ghost use Rattle.std.specs.Prelude.{◌≤◌};
     ghost use Rattle.outside_traits.specs.Causes.{Rose};
 
-    /// The pack whose image has these bytes.
+    /// Creates the disk whose image has these bytes.
     pub fn new(bytes: Vec<u8>) -> Disk {
         Disk { bytes, faults: 0 }
     }
 
-    /// The bytes of the image now.
+    /// The bytes of the image as they are now.
     pub fn bytes(&self) -> &[u8] {
         &self.bytes
     }

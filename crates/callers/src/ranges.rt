@@ -8,7 +8,7 @@ use outside_traits::traits::{Packs, Sink};
 use partitions::Part;
 use raw_io::{RawFault, raw_read, raw_write};
 
-/// Writes bytes to partition `a` of unit 0, from a place on, and reads what is there then.
+/// Writes bytes to partition `a` of unit 0 from byte `at` on, below 2^40, and then reads from that byte on until `into` is full.
 pub fn put_then_get<P: Packs, T: Sink>(
     subsystem: &mut Subsystem,
     at: u64,

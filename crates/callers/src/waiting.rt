@@ -1,4 +1,4 @@
-// One request at a time, which is waited for: blocks are written and read back.
+// One blocking request at a time: blocks are written and read back.
 ghost use Rattle.std.specs.Prelude.{◌≡◌, ◌≤◌, OnOk};
 ghost use Rattle.driver_machine.specs.Guards.{IsSetUp};
 ghost use Rattle.blocking_io.specs.Asking.{IsReady};
@@ -28,7 +28,8 @@ fn three_blocks(id: u32, block: u32, write: bool) -> Request
     }
 }
 
-/// Writes three blocks of unit 0, from a block of its partition c on, and reads them back: whether all were written and read.
+/// Writes three blocks of unit 0, from a block of partition `c` on, and reads them back. Answers whether all of them were written and
+/// read.
 pub fn write_then_read<P: Packs, T: Sink>(
     subsystem: &mut Subsystem,
     block: u32,

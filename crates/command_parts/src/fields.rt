@@ -5,7 +5,7 @@ ghost use Rattle.command_parts.specs.Fields.{kind_named, unit_named};
 use mass_text::{Radix, number};
 use pack_geometry::{DriveKind, kind_of};
 
-/// A unit in decimal, 0 to 31.
+/// Reads a unit in decimal, 0 to 31. None if the word is not such a number.
 pub fn unit_in(word: &str) -> Option<u8>
     ensures unit { result ≡ unit_named word.now }
     ensures small { IfSome result (λ unit. unit < 32) }
@@ -14,7 +14,7 @@ pub fn unit_in(word: &str) -> Option<u8>
     Some(unit as u8)
 }
 
-/// The kind that a word names.
+/// The kind of drive that a word names. None if it names none.
 pub fn kind_in(word: &str) -> Option<DriveKind>
     ensures { result ≡ kind_named word.now }
 {

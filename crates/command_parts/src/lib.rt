@@ -1,10 +1,11 @@
-//! What the commands of the program share: the units, kinds and transfers that their words name, how a script is loaded, the lines
-//! that they print, and the numbers that they end with.
+//! What the commands of the program share: the units, kinds and transfers that their words name, how they load a script, the lines that
+//! they print, and the numbers that they end with.
 //!
 //! Defined in `specs/`: what a command meets outside (`Outside`), and a text that was taken whole or in part (`Told`).
 //!
-//! What is proved: `unit_in`, `kind_in`, `raw_in` and `dump_in` give just what their words name; `numbered`, `plain` and `too_long` are just their texts.
-//! `load`, `load_cached`: Ok exactly where the source's bytes spell a script of that grammar, and Refused names their first fault.
+//! What is proved: `unit_in`, `kind_in`, `raw_in` and `dump_in` give exactly what their words name. `numbered`, `plain` and `too_long`
+//! are exactly their texts. `load`, `load_cached`: Ok exactly if the source's bytes spell a script of that grammar; `Refused` names
+//! their first fault.
 #![tactic(auto)]
 
 mod fields;

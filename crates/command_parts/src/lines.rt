@@ -4,7 +4,7 @@ ghost use Rattle.command_parts.specs.Lines.{too_long_text};
 
 use mass_text::{LineBuf, Radix, numeral_law};
 
-/// Puts a name of at most 100 bytes and a number, and ends the line.
+/// A name of at most 100 bytes followed by a number, as a line.
 pub fn numbered(name: &str, value: u64) -> LineBuf
     requires { length name.now ≤ 100 }
     ensures { result ≡ name.now ++ decimal value ++ 10 ∷ [] }
@@ -17,7 +17,7 @@ pub fn numbered(name: &str, value: u64) -> LineBuf
     text
 }
 
-/// A text of at most 100 bytes without a number, as a line.
+/// A text of at most 100 bytes, as a line without a number.
 pub fn plain(words: &str) -> LineBuf
     requires { length words.now ≤ 100 }
     ensures { result ≡ words.now ++ 10 ∷ [] }

@@ -75,9 +75,9 @@ impl From<CachedRefusal> for LoadFault {
     }
 }
 
-/// Reads the script that a source gives, to its end or to 16 MiB and one byte. Ok comes only where its bytes spell a
-/// script; Refused only where they spell none, with the first fault; Failed only where the source's count of faults
-/// rose in this call; Memory tells that there was none.
+/// Reads the script that a source gives, to its end or to 16 MiB and one byte. Ok comes only if the source's bytes spell a script, and
+/// `Refused` only if they spell none; it names the first fault. `Failed` comes only if the source's count of faults rose in this call,
+/// and `Memory` only if there was no memory.
 pub fn load<S: Source>(alloc: Global, source: &mut S) -> Result<Script, LoadFault>
     ensures never_again { IsTrue (S.tells source.new) → IsTrue (S.tells source.old) }
     ensures spells { IfOk result (λ script. Spells all_verbs script.text (lines_in script) script.count) }
@@ -94,7 +94,7 @@ pub fn load<S: Source>(alloc: Global, source: &mut S) -> Result<Script, LoadFaul
     Ok(script)
 }
 
-/// Reads the script of a cache that a source gives, as `load` does, by the grammar of these scripts.
+/// Reads the script of a cache that a source gives, as `load` does, but by the grammar of these scripts.
 pub fn load_cached<S: Source>(alloc: Global, source: &mut S) -> Result<CachedScript, LoadFault>
     ensures never_again { IsTrue (S.tells source.new) → IsTrue (S.tells source.old) }
     ensures ok { IfOk result (λ script. IsTrue (S.tells source.new) → CachedSpells (S.left source.old) script.lines script.count) }

@@ -4,7 +4,7 @@ ghost use Rattle.command_parts.specs.Statuses.{status_code};
 /// How a run of the program ends.
 #[derive(Clone, Copy)]
 pub enum Status {
-    /// It is done.
+    /// The command is done.
     Done,
     /// The words are no command.
     Usage,
@@ -18,7 +18,7 @@ pub enum Status {
     PacksFailed,
     /// An image is longer than its pack.
     TooLong,
-    /// The tool for bad-sector tables refused what was asked.
+    /// The tool for bad-sector tables refused the command.
     ToolRefused,
     /// There was no memory.
     OutOfMemory,

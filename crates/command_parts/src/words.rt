@@ -10,7 +10,7 @@ use pack_geometry::DriveKind;
 use partitions::Part;
 use script_lines::part_field;
 
-/// Where a transfer begins: a unit with a drive of this kind, a partition, and a place in it, counted in bytes.
+/// Where a transfer begins: a unit with a drive of this kind, a partition of the unit, and a byte of the partition, counted from 0.
 #[derive(Clone, Copy)]
 pub struct Target {
     pub unit: u8,
@@ -22,7 +22,7 @@ pub struct Target {
 /// Where the bytes of the source are written.
 #[derive(Clone, Copy)]
 pub enum Writing {
-    /// From a place of a partition on.
+    /// From a byte of a partition on.
     Raw { target: Target },
     /// To the end of partition `b`, filled up with zeros to whole blocks.
     Dump { unit: u8, kind: DriveKind },
@@ -31,7 +31,7 @@ pub enum Writing {
 /// What is transferred.
 #[derive(Clone, Copy)]
 pub enum Transfer {
-    /// So many bytes of a partition are read.
+    /// `size` bytes of a partition are read.
     Read { target: Target, size: u32 },
     /// The bytes of the source are written.
     Write { writing: Writing },
@@ -128,8 +128,8 @@ fn sized_in(
     None
 }
 
-/// What `raw` transfers, by its verb, a unit, a kind, and the words behind them: `read`, a partition, a place in it below 2^40, and a
-/// number of bytes of 16,777,216 at the most; or `write`, a partition and a place. None where they are none of these.
+/// What `raw` transfers, by its verb, a unit, a kind and the words after them. `read` takes a partition, a place in it below 2^40, and
+/// a number of bytes, at most 16,777,216. `write` takes a partition and a place. None if the words are neither of these.
 pub fn raw_in(verb: &str, unit: &str, kind: &str, rest: &[String]) -> Option<Transfer>
     ensures named { result ≡ raw_named verb.now unit.now kind.now (map string_bytes rest.now) }
     ensures valid { IfSome result IsInRange }
@@ -143,7 +143,7 @@ pub fn raw_in(verb: &str, unit: &str, kind: &str, rest: &[String]) -> Option<Tra
     }
 }
 
-/// What `dump` transfers, by a unit and a kind; None where the words are none.
+/// What `dump` transfers, by a unit and a kind of drive. None if the words do not name them.
 pub fn dump_in(unit: &str, kind: &str) -> Option<Transfer>
     ensures named { result ≡ dump_named unit.now kind.now }
     ensures valid { IfSome result IsInRange }

@@ -1,5 +1,5 @@
-//! Outcomes of wrong bodies, each refused by the words that contracts are made of. A wrong body of a crate whose proof takes long is
-//! tried here, and not as an edit of it, which would have that crate proved once more.
+//! Outcomes of wrong bodies, which the words of the contracts rule out. A wrong body of a crate whose proof takes long is tried here,
+//! and not as an edit of that crate, which would have to be proved once more.
 
 ghost use Rattle.contract_rows.specs.Memory.{FirstPieceOnly, KnownFrameTakenForTheSame, ByteWrittenTakenForItsFrame, NextFrameNotAsked, OldBytesBehindTheEnd, LentFrameLeftFree, FramesWithoutTheOffset};
 ghost use Rattle.contract_rows.specs.Drives.{TwelvePlaceBurst, BurstPastTheEnd, WritesForgotten, WriteHeldBack, SectorWrittenWithoutItsZeros, MarkTestedBeforeTheArmedFault, NewestNoiseStrikes, ByteCountNotShortened, CompletionOneSectorEarly, MarkedSectorLetThrough, MarkedBlockWritten};
@@ -7,7 +7,8 @@ ghost use Rattle.contract_rows.specs.Machine.{FirstFailureIsFinal, OneSeekAtATim
 ghost use Rattle.contract_rows.specs.Bytes.{WriteNotAtItsHome, NeighbourWritten, OtherBlockRead, BurstElsewhere, UnusableBlockDone, UnmarkedBlockForwarded, OtherEntryForwarded, TableOfAnotherPack, AnsweredWithOtherBytes};
 ghost use Rattle.contract_rows.specs.Slots.{FrameLost, PutBackUnderAnotherKey, BitLeftOnBehindTheArrival, BitOfAnotherUnit};
 
-/// Main memory may not be left so: by its window's `Writes`, what it knows of its frames, what it lent, and how many frames it needs.
+/// Rules out wrong contents of main memory: by its window's `Writes`, what it knows of its frames, what it lent, and how many frames it
+/// needs.
 pub fn memory_law()
     ensures first_piece_only { FirstPieceOnly }
     ensures known_frame_taken_for_the_same { KnownFrameTakenForTheSame }
@@ -18,7 +19,8 @@ pub fn memory_law()
     ensures frames_without_the_offset { FramesWithoutTheOffset }
 {}
 
-/// A sector may not be moved so: by the code's `Judges`, the drive's `MovesSector`, what loads and steps do to an adapter, and `Polls`.
+/// Rules out wrong moves of a sector: by the code's `Judges`, the drive's `MovesSector`, what loads and steps do to an adapter, and
+/// `Polls`.
 pub fn drive_law()
     ensures twelve_place_burst { TwelvePlaceBurst }
     ensures burst_past_the_end { BurstPastTheEnd }
@@ -33,7 +35,7 @@ pub fn drive_law()
     ensures marked_block_written { MarkedBlockWritten }
 {}
 
-/// The driver may not do so: by the deeds of its machine, and what its acts leave.
+/// Rules out wrong acts of the driver: by the deeds of its machine, and what its acts leave.
 pub fn machine_law()
     ensures first_failure_is_final { FirstFailureIsFinal }
     ensures one_seek_at_a_time { OneSeekAtATime }
@@ -48,7 +50,7 @@ pub fn machine_law()
     ensures first_blocks_loaded { FirstBlocksLoaded }
 {}
 
-/// Slots and the units' row of bits may not be left so, by what they keep.
+/// Rules out wrong slots and a wrong row of the units' bits, by what they keep.
 pub fn slots_law()
     ensures frame_lost { FrameLost }
     ensures put_back_under_another_key { PutBackUnderAnotherKey }
@@ -56,7 +58,7 @@ pub fn slots_law()
     ensures bit_of_another_unit { BitOfAnotherUnit }
 {}
 
-/// Packs, buffers and tables may not be left so, by what the driver bears of a map.
+/// Rules out wrong packs, buffers and tables, by what the driver bears of a map.
 pub fn bytes_law()
     ensures write_not_at_its_home { WriteNotAtItsHome }
     ensures neighbour_written { NeighbourWritten }

@@ -1,5 +1,5 @@
-//! Wrong outcomes, each refused by the words that contracts are made of (`contracts`, of single parts `parts`, and of tables of numbers
-//! `tables`), worked rows of the driver's machine (`machine`), and a worked script beside its text (`scripts`).
+//! Wrong outcomes, which the words of the contracts rule out: those of whole calls (`contracts`), of single parts (`parts`), and of
+//! tables of numbers (`tables`). Also worked rows of the driver's machine (`machine`), and a worked script beside its text (`scripts`).
 #![tactic(auto)]
 
 pub mod contracts;

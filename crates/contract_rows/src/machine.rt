@@ -1,9 +1,8 @@
-//! Worked rows of the driver's machine: what it does with a script is just the row's trace, with the answers and their bytes,
-//! and its invariant is met behind each act. The rows are those of `trace_rows`.
+//! Worked rows of the driver's machine: what it does with a script is exactly the row's trace, with the answers and their bytes, and
+//! its invariant holds after each act. The rows are those of `trace_rows`.
 //!
-//! What is proved: The scripts of 37 worked traces, played through that machine, give just these traces with the answers and
-//! their bytes, and the invariant is met after each act, by computation (noise that imitates a right sector is left to
-//! `trace_rows`).
+//! What is proved: the scripts of 37 worked traces, played through that machine, give exactly these traces with the answers and their
+//! bytes, and the invariant holds after each act, by computation (noise that imitates a right sector is left to `trace_rows`).
 
 ghost use Rattle.trace_rows.specs.Rows1.{answers_in_service_order_script, answers_in_service_order_start, answers_in_service_order, attentions_together_script, attentions_together_start, attentions_together, burst_across_two_frames_script, burst_across_two_frames_start, burst_across_two_frames, burst_beyond_the_end_script, burst_beyond_the_end_start, burst_beyond_the_end, each_fault_script, each_fault_start, each_fault, empty_script_script, empty_script_start, empty_script, first_read_script, first_read_start, first_read, forwarded_between_other_units_script, forwarded_between_other_units_start, forwarded_between_other_units, forwarded_read_script, forwarded_read_start, forwarded_read};
 ghost use Rattle.trace_rows.specs.Rows2.{frames_run_out_script, frames_run_out_start, frames_run_out, last_data_block_script, last_data_block_start, last_data_block, locked_script, locked_start, locked, marked_replacement_script, marked_replacement_start, marked_replacement, near_enough_script, near_enough_start, near_enough, offline_script, offline_start, offline, offline_behind_a_burst_script, offline_behind_a_burst_start, offline_behind_a_burst, offline_in_a_transfer_script, offline_in_a_transfer_start, offline_in_a_transfer};
@@ -18,7 +17,7 @@ ghost use Rattle.trace_rows.specs.Rows10.{until_offset_script, until_offset_star
 ghost use Rattle.trace_rows.specs.Rows12.{write_by_events_script, write_by_events_start, write_by_events, written_as_far_as_done_script, written_as_far_as_done_start, written_as_far_as_done, written_short_script, written_short_start, written_short};
 ghost use Rattle.contract_rows.specs.Player.{Gives, Tells};
 
-/// What the machine does with the scripts of rows: just the moments of their runs.
+/// What the machine does with the scripts of the rows: exactly the moments of their runs.
 pub fn rows_law()
     ensures answers_in_service_order { Gives answers_in_service_order_script answers_in_service_order_start answers_in_service_order }
     ensures attentions_together { Gives attentions_together_script attentions_together_start attentions_together }

@@ -1,9 +1,9 @@
-//! Outcomes of wrong bodies of the parts that decide for the driver, and of the texts below it, each refused by the words of the part's
-//! own contract.
+//! Outcomes of wrong bodies of the parts that decide for the driver, and of the texts below it. The words of the part's own contract
+//! rule each of them out.
 
 ghost use Rattle.contract_rows.specs.Parts.{ContinuationOffByOne, UnmarkedBlockForwarded, DoneOneTooMany, FailuresKeptOverAMovedPlace, EqualCylinderInFront, OneRunOnly, BitsSetAndNotFlipped, RepairPastTheWindowEnd, ClearedLineKeepsItsText};
 
-/// Transfers, queues, repaired blocks and lines may not be left so: by what each end makes of a transfer, by the service order, by the
+/// Rules out wrong transfers, queues, repaired blocks and lines: by what each end makes of a transfer, by the service order, by the
 /// burst that is flipped, and by the text that was taken away.
 pub fn parts_law()
     ensures continuation_off_by_one { ContinuationOffByOne }

@@ -4,7 +4,7 @@ ghost use Rattle.trace_replay.specs.Script.{IsScript};
 ghost use Rattle.trace_rows.specs.Rows1.{first_read_script};
 ghost use Rattle.contract_rows.specs.OneRead.{MeansOneRead};
 
-/// A text of one read means the row of that read, which is so a script.
+/// The text of one read means the script of that row, which therefore is a script.
 pub fn script_law()
     ensures meaning { MeansOneRead }
     ensures script { IsScript first_read_script }

@@ -1,10 +1,10 @@
-//! Outcomes of wrong bodies of the parts on which drives, driver and charts stand, each refused by a law, so that these crates are
-//! proved once.
+//! Outcomes of wrong bodies of the parts on which drives, driver and charts are built. A law rules each of them out, so that these
+//! crates are proved only once.
 
 ghost use Rattle.contract_rows.specs.tables.Places.{ReplacementOffByOne, Rm05LimitBy22Sectors, SectorTooMany, EndIsOutside, OneBlockPastTheEnd, Rm05GByRm03, FormatBeforeTheBadSector, MarkedHeaderKeepsItsGoodBit, Rm05MarkedAsAnRp06, BytesAsTheyAre, PlusForATextThatFits};
 ghost use Rattle.contract_rows.specs.tables.Registers.{CodesOfTwoFunctionsSwapped, UnknownCodeIsNop, StatusBitMoved, OffsetForAWrite, OffsetOneFailureLate, LaterTryWaitsForTheSector, Search4Ahead};
 
-/// Of places, partitions, headers and charts this may not be said.
+/// Rules out wrong places, partitions, headers and charts.
 pub fn places_law()
     ensures replacement_off_by_one { ReplacementOffByOne }
     ensures rm05_limit_by_22_sectors { Rm05LimitBy22Sectors }
@@ -19,7 +19,7 @@ pub fn places_law()
     ensures plus_for_a_text_that_fits { PlusForATextThatFits }
 {}
 
-/// Nor this of registers, retries and positions.
+/// Rules out wrong registers, retries and positions.
 pub fn registers_law()
     ensures codes_of_two_functions_swapped { CodesOfTwoFunctionsSwapped }
     ensures unknown_code_is_nop { UnknownCodeIsNop }

@@ -27,7 +27,7 @@ fn marked_pack(alloc: Global, listed: bool) -> FewBlocks {
     packs
 }
 
-/// Whether these blocks and the first replacement begin so.
+/// Whether these blocks and the first replacement begin with these bytes.
 fn begin_so(packs: &FewBlocks, firsts: [u8; 4]) -> bool {
     let blocks = [418, 419, 420, 131_647];
     for i in 0..4usize {
@@ -54,7 +54,8 @@ fn asked(
     }
 }
 
-/// Whether blocks 418 to 420 come back as they were written just where they are to, and what the pack then holds is this.
+/// Whether blocks 418 to 420 come back as they were written exactly if the table lists the marked one, and whether the pack then holds
+/// these first bytes.
 fn come_back(alloc: Global, listed: bool, firsts: [u8; 4]) -> bool {
     let mut packs = marked_pack(alloc, listed);
     let mut from = [1; 1536];

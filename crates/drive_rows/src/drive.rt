@@ -1,4 +1,4 @@
-// What a drive leaves in its registers, and what moving a sector and attaching a pack come to where a call on the packs fails.
+// What a drive leaves in its registers, and what a move of a sector and the attaching of a pack come to if a call of the packs fails.
 ghost use Rattle.std.specs.Prelude.{◌≡◌, true};
 ghost use Rattle.hardware_table.specs.Drive.{is_transferring};
 
@@ -83,7 +83,7 @@ fn packs_for(alloc: Global, trial: Trial, number: u64) -> FewBlocks {
     few_blocks(alloc, marks, number, Wrong::Fails)
 }
 
-// A book with the noise of a trial at block 0, where it has any.
+// A book with the noise of a trial at block 0, if the trial has any.
 fn book_for(alloc: Global, trial: Trial) -> Option<NoiseBook> {
     let noise = match trial {
         Noisy(places) => Noise::new(places),
@@ -108,7 +108,7 @@ fn shows_error(drive: &Drive, kind: DriveKind, row: &Row) -> bool {
     drive.read_register(Register::Er1) == er1 && drive.read_register(Register::Er2) == er2
 }
 
-// Whether a try of block 0 comes to a row, or is told to fail with the call of this number, behind which none comes.
+// Whether a try of block 0 comes to a row, or is told to fail with the call of this number, after which none comes.
 fn is_tried(
     alloc: Global,
     kind: DriveKind,
@@ -128,7 +128,7 @@ fn is_tried(
     is_told && packs.calls == if number > 0 { number } else { row.3 }
 }
 
-// Whether a row holds where no call fails, and where each does.
+// Whether a row holds if no call fails, and if each call does.
 fn are_tried(alloc: Global, kind: DriveKind, row: &Row) -> bool {
     let Ok(mut memory) = MainMemory::new(alloc) else {
         return false;
@@ -180,7 +180,7 @@ fn shows(drive: &Drive, registers: [Register; 3], words: [u16; 3]) -> bool {
     true
 }
 
-// Whether a function leaves a drive so.
+// Whether a function leaves a drive as a row says.
 fn does_function(kind: DriveKind, row: &Done) -> bool {
     let (function, dc, locked, left, arrived) = *row;
     let mut drive = Drive::new(kind, 3);
@@ -224,8 +224,8 @@ fn registers(rt: HostRuntime) {
     }
 }
 
-// Whether a pack that is so many bytes longer than it may be, and has no table, is attached with so many calls, of which that of this
-// number fails: where it is as long as it may be, and no call fails, it is; else it is told to be too long, or that a call failed.
+// Whether a pack that is `more` bytes longer than it may be, and has no table, is attached with `calls` calls, of which call `number`
+// fails. It is attached if it is as long as it may be and no call fails; otherwise it is told to be too long, or that a call failed.
 fn is_attached(alloc: Global, row: &Kind, more: u64, number: u64, calls: u64) -> bool {
     let (kind, _, most) = *row;
     let mut packs = few_blocks(alloc, &[], number, Wrong::Fails);
@@ -274,7 +274,7 @@ fn drive_types(rt: HostRuntime) {
     }
 }
 
-// The copies of the table of an RP06 that are marked; the serial numbers of the five, where 0 is no table; and the one that is found.
+// The copies of the table of an RP06 that are marked; the serial numbers of the five, 0 for no table; and the one that is found.
 type Copies = (&'static [u32], [u32; 5], Option<u32>);
 
 static COPIES: [Copies; 5] = [

@@ -28,8 +28,8 @@ pub(crate) struct Written {
 /// read of the two that are marked.
 pub(crate) const SURVEYED: u64 = 263_305;
 
-/// A pack full of 77, on which one call goes wrong. Some of its blocks are marked, and behind the first reading of a whole RM03 all data
-/// blocks are, but for the first, the last, and one in the middle. It keeps what is written, and tells nothing.
+/// A pack full of 77, on which one call goes wrong. Some of its blocks are marked. After the first reading of a whole RM03 all data
+/// blocks are marked, except the first one, the last one, and one in the middle. It keeps what is written, and tells nothing.
 #[derive(Drop)]
 pub(crate) struct FewBlocks {
     pub(crate) length: u64,
@@ -41,7 +41,7 @@ pub(crate) struct FewBlocks {
     wrong: Wrong,
 }
 
-/// A pack as long as an RM03's, with these blocks marked, of which the call of this number goes wrong so.
+/// A pack as long as an RM03's, with these blocks marked, of which the call of this number goes wrong in this way.
 pub(crate) fn few_blocks(
     alloc: Global,
     marks: &'static [u32],
@@ -60,7 +60,7 @@ pub(crate) fn few_blocks(
 }
 
 impl FewBlocks {
-    /// Counts a call, which fails where it is to.
+    /// Counts a call, which fails if it is to fail.
     fn call(&mut self) -> Result<(), StoreFailed>
         ensures { HasCause self.old.failed self.new.failed result }
     {

@@ -100,7 +100,7 @@ fn ends(alloc: Global, number: u64, wrong: Wrong, calls: u64, end: End) -> bool 
     is_told && packs.calls == calls && is_front(packs.written.as_slice(), behind)
 }
 
-/// Calls of a whole run that fail: the first one, how many, and by which steps. Where a step is odd, marks and reads take turns.
+/// Calls of a whole run that fail: the first one, how many, and by which steps. If a step is odd, marks and reads take turns.
 static FAILING: [(u64, u64, u64); 9] = [
     // The length, the first reading of two cylinders, and of data blocks from there on.
     (1, 660, 1),
@@ -108,17 +108,17 @@ static FAILING: [(u64, u64, u64); 9] = [
     // The first reading of the replacements, and of the last one and of the copies.
     (SURVEYED - 260, 10, 25),
     (SURVEYED - 11, 12, 1),
-    // The tests of the first data block, and of marked ones behind it.
+    // The tests of the first data block, and of marked ones after it.
     (SURVEYED + 1, 12, 1),
     (SURVEYED + 13, 7, 19_989),
-    // The tests of the data block in the middle, and of marked ones behind it.
+    // The tests of the data block in the middle, and of marked ones after it.
     (394_830, 16, 1),
     (394_847, 6, 23_911),
     // The tests of the last data block and of the replacements, and the writing of the copies.
     (CALLS - 47, 48, 1),
 ];
 
-/// Whether a run ends with each of these calls where it fails.
+/// Whether a run ends with each of these calls if it fails.
 fn end_with(alloc: Global, calls: &(u64, u64, u64)) -> bool {
     let (first, count, step) = *calls;
     for k in 0..count {
@@ -170,7 +170,7 @@ fn each_write_comes_back_otherwise(rt: HostRuntime) {
     assert!(rt; ends(rt.alloc(), u64::MAX, Fails, CALLS, End::Formatted));
 }
 
-/// Whether the reading of a block fails with this one of its calls, and makes no other behind it.
+/// Whether the reading of a block fails with this one of its calls, and makes no other call after it.
 fn fails_with(alloc: Global, block: u32, number: u64) -> bool
     requires { block < block_count Rm03 }
 {
@@ -183,7 +183,7 @@ fn fails_with(alloc: Global, block: u32, number: u64) -> bool
     polled.is_err() && packs.calls == number
 }
 
-/// Whether the reading of each block of an RM03 fails with each of its calls: a mark, and a read where the block is not marked.
+/// Whether the reading of each block of an RM03 fails with each of its calls: a mark, and a read if the block is not marked.
 fn fails_with_each(alloc: Global) -> bool {
     for block in 0..131_680u32 {
         let is_marked = block == 5 || block == 160;

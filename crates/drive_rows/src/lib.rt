@@ -1,6 +1,6 @@
-//! Tests of memory and what an adapter maps of it, of packs in memory, the queue, the drive and its attaching, of numbers that come from
-//! outside, the texts of errors, the formatter's single calls, each of which goes wrong once, and of the caller of `callers`. There are
-//! tests alone here, so that the crates that they test are proved once.
+//! Tests of memory and what an adapter maps of it, of packs in memory, the queue, the drive and its attaching, of numbers that come
+//! from outside, the texts of errors, the formatter's single calls, each of which goes wrong once, and the caller of `callers`. The
+//! crate has only tests, so that the crates that they test are proved only once.
 #![tactic(auto)]
 
 #[cfg(test)]

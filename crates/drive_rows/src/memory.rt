@@ -25,7 +25,7 @@ fn frames_run_out(rt: HostRuntime) {
     assert!(rt; runs_out(rt.alloc()));
 }
 
-// How many frames 127 blocks take that begin at place 300 of a frame, the last of them of so many bytes.
+// How many frames 127 blocks take that begin at place 300 of a frame. The last block has `last` bytes.
 fn frames_taken(alloc: Global, last: u32) -> usize {
     let Ok(mut memory) = MainMemory::new(alloc) else {
         return 0;

@@ -15,7 +15,7 @@ static ORDERS: [Order; 5] = [
     (0, [0, 0, 0, 0, 0, 0], [0, 0, 0, 0, 0, 0]),
 ];
 
-/// A queue with 8 places and 815 cylinders in which so many joined.
+/// A queue with 8 places and 815 cylinders, which the first `count` of these joined.
 fn queue_with_all(alloc: Global, count: u32, cylinders: &[u32; 6]) -> Result<SortQueue, NoMemory> {
     let mut queue = SortQueue::new(alloc, 8, 815)?;
     for number in 0..count.min(6) {
@@ -24,7 +24,7 @@ fn queue_with_all(alloc: Global, count: u32, cylinders: &[u32; 6]) -> Result<Sor
     Ok(queue)
 }
 
-/// Whether a queue gives those of a row in their order, and none behind them.
+/// Whether a queue gives those of a row in their order, and none after them.
 fn serves(queue: &mut SortQueue, row: &Order) -> bool {
     for i in 0..6u32 {
         let is_next = match queue.take_head() {

@@ -70,7 +70,7 @@ fn say_fill<O: Sink, T: Sink>(
     desk.say_fill(subsystem, out, trace)
 }
 
-/// Says the line of block `k`, of so many bytes, of the read that the oldest answer is of.
+/// Says the line of block `k`, of `size` bytes, of the read that the oldest answer belongs to.
 fn say_block_of<O: Sink, T: Sink>(
     subsystem: &mut Subsystem,
     k: u32,
@@ -94,7 +94,7 @@ fn say_block_of<O: Sink, T: Sink>(
     say_block(subsystem, k, size, desk, out, trace)
 }
 
-/// Says the lines of the blocks of the read that the oldest answer is of: `count` of them, the last one with `last` bytes.
+/// Says the lines of the blocks of the read that the oldest answer belongs to: `count` of them, the last one with `last` bytes.
 fn say_blocks<O: Sink, T: Sink>(
     subsystem: &mut Subsystem,
     count: u32,
@@ -117,7 +117,7 @@ fn say_blocks<O: Sink, T: Sink>(
     Ok(())
 }
 
-/// Says what comes behind the line of the oldest answer: the blocks of a read.
+/// Says what follows the line of the oldest answer: the blocks of a read.
 fn say_rest<O: Sink, T: Sink>(
     subsystem: &mut Subsystem,
     kind: AnswerKind,

@@ -1,4 +1,4 @@
-// The calls of the driver: a request is submitted, or an event happens; behind them the answers that wait are said.
+// The calls of the driver. A request is submitted, or an event happens; afterwards the waiting answers are said.
 ghost use Rattle.std.specs.Prelude.{◌≡◌, ℕ, Bool, IsTrue, OnOk, IfErr};
 ghost use Rattle.pack_geometry.specs.Pack.{Pack};
 ghost use Rattle.hp_driver.specs.Inputs.{input_of};
@@ -15,7 +15,8 @@ use hp_driver::{Event, Request, Subsystem};
 use outside_traits::traits::{Packs, Sink, SinkFailed};
 use script_runs::PlayFault;
 
-/// Submits a request at a line, with the bytes of a write.
+/// Submits a request at a line, with the bytes if it is a write, and then says the answers that wait. Fails with `Sink` if a call of a
+/// sink failed, whose count of faults then rose.
 pub fn ask<O: Sink, T: Sink>(
     subsystem: &mut Subsystem,
     number: u64,
@@ -72,7 +73,9 @@ fn send_ahead<O: Sink, T: Sink>(
     }
 }
 
-/// An event happens at a line.
+/// Lets an event happen at a line, and then says the answers that wait. All text is sent before an event that may write a block, lines
+/// first. Fails with `Store` if a call of the packs failed, and with `Sink` if a call of a sink failed; the count of faults of that
+/// object then rose.
 pub fn happen<P: Packs, O: Sink, T: Sink>(
     subsystem: &mut Subsystem,
     number: u64,

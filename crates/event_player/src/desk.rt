@@ -12,8 +12,8 @@ use trace_lines::answers::{BlockLine, FillLine, Tally};
 /// How many bytes of answers are gathered at most.
 const ANSWER_ROOM: u32 = 32_768;
 
-/// Text that is gathered for a sink, the tally of the run so far, and room for a block and for its line, of either form. Up to 32,768
-/// bytes of answers are gathered before they are sent; a block has 512 bytes.
+/// The text that is gathered for a sink, the tally of the run so far, and room for a block of 512 bytes and for its line, of either
+/// form. Up to 32,768 bytes of answers are gathered before they are sent.
 #[derive(Drop)]
 pub struct Desk {
     pub gather: Gather,
@@ -24,7 +24,8 @@ pub struct Desk {
 }
 
 impl Desk {
-    /// A desk at which nothing is gathered yet, and none of so many requests is answered. Fails only where memory for the answers lacks.
+    /// Creates a desk at which nothing is gathered yet, for `requests` requests, none of which is answered. Fails only if there is no
+    /// memory for the answers.
     pub fn new(alloc: Global, requests: u64) -> Result<Desk, NoMemory>
         ensures gather { IfOk result (λ desk. desk.gather ≡ []) }
         ensures tally { IfOk result (λ desk. desk.tally ≡ tally_by requests [] []) }
@@ -42,7 +43,7 @@ impl Desk {
         })
     }
 
-    /// Sends all text that is kept, lines first.
+    /// Sends all text that is kept, the lines first.
     pub fn send<O: Sink, T: Sink>(
         &mut self,
         subsystem: &mut Subsystem,
@@ -59,7 +60,7 @@ impl Desk {
         self.gather.flush(out)
     }
 
-    /// Counts a text, and keeps it; where it does not fit all lines are sent, and then what was kept.
+    /// Counts a text, and keeps it. If the text does not fit, all lines are sent first, and then the text that was kept.
     pub fn say<O: Sink, T: Sink>(
         &mut self,
         text: &[u8],
@@ -81,7 +82,7 @@ impl Desk {
         self.gather.put(text, out)
     }
 
-    /// Counts the line of a block, and says it as [`Desk::say`] does.
+    /// Counts the line of a block, and says the line as [`Desk::say`] does.
     pub fn say_line<O: Sink, T: Sink>(
         &mut self,
         subsystem: &mut Subsystem,
@@ -102,7 +103,7 @@ impl Desk {
         self.gather.put(self.line.as_bytes(), out)
     }
 
-    /// Counts the line of a block whose bytes are all one byte, and says it as [`Desk::say`] does.
+    /// Counts the line of a block whose bytes are all the same, and says the line as [`Desk::say`] does.
     pub fn say_fill<O: Sink, T: Sink>(
         &mut self,
         subsystem: &mut Subsystem,

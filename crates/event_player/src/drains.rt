@@ -11,7 +11,7 @@ use hp_driver::Subsystem;
 use outside_traits::traits::{Packs, Sink};
 use script_runs::PlayFault;
 
-/// The events of a drain behind its first one. It comes to its end long before it has turned so often.
+/// The events of a drain after its first one. The drain ends long before the loop could.
 fn go_on<P: Packs, O: Sink, T: Sink>(
     subsystem: &mut Subsystem,
     number: u64,
@@ -37,9 +37,9 @@ fn go_on<P: Packs, O: Sink, T: Sink>(
     Ok(())
 }
 
-/// A drain at a line: events happen until no request is outstanding, or it finds nothing to do. `number` is that of the line, which the
-/// trace tells. Fails with `Store` where a call on the packs failed, and with `Sink` where one of a sink did, whose count of faults then
-/// rose; never with `Memory` or `TooLong`.
+/// Drains the driver at a line: events happen until no request is outstanding. If nothing is outstanding at the start, the drain finds
+/// nothing to do, and the trace tells so. `number` is the number of the line. Fails with `Store` if a call of the packs failed, and
+/// with `Sink` if a call of a sink failed, whose count of faults then rose; never with `Memory` or `TooLong`.
 pub fn drain<P: Packs, O: Sink, T: Sink>(
     subsystem: &mut Subsystem,
     number: u64,

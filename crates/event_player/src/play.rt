@@ -51,7 +51,7 @@ struct Bench {
 }
 
 impl Bench {
-    /// A desk at which nothing is gathered yet, and none of so many requests is answered.
+    /// A desk at which nothing is gathered yet, for `requests` requests, none of which is answered.
     fn new(alloc: Global, requests: u64) -> Result<Bench, PlayFault>
         ensures room { IfOk result (λ bench. vec_len bench.room ≡ 65024) }
         ensures gather { IfOk result (λ bench. bench.desk.gather ≡ []) }
@@ -64,8 +64,8 @@ impl Bench {
     }
 }
 
-/// Plays the lines of a script over units that are set up for it, and behind the last line a drain, whose number is the number of
-/// lines plus one. `room` has a place for each byte of the longest write.
+/// Plays the lines of a script over units that are set up for it, and a drain after the last line. The number of the drain is the
+/// number of lines plus one. `room` has a place for each byte of the longest write.
 fn play_lines<P: Packs, O: Sink, T: Sink>(
     script: &Script,
     subsystem: &mut Subsystem,
@@ -101,7 +101,7 @@ fn play_lines<P: Packs, O: Sink, T: Sink>(
     Ok(desk.tally)
 }
 
-/// Where the packs failed all that is kept is sent, lines first, whatever comes of it.
+/// If the packs failed, sends all that is kept, lines first, whatever comes of it.
 fn send_rest<O: Sink, T: Sink>(
     played: Result<Tally, PlayFault>,
     subsystem: &mut Subsystem,
@@ -124,8 +124,8 @@ fn send_rest<O: Sink, T: Sink>(
     }
 }
 
-/// Plays a script over units that are set up for it, as `play` does behind their attaching: Memory comes only before the first line is
-/// played, and TooLong never.
+/// Plays a script over units that are set up for it, as `play` does once they are attached. `Memory` comes only before the first line
+/// is played, and `TooLong` never.
 fn play_units<P: Packs, O: Sink, T: Sink>(
     alloc: Global,
     script: &Script,
@@ -165,18 +165,18 @@ fn play_units<P: Packs, O: Sink, T: Sink>(
     played
 }
 
-/// Plays a script line by line, and behind its last line a drain, whose number is the number of lines plus one. Its lines are kept for
-/// `trace`, and its answers for `out`. They are sent, lines first, before a move that may write a block, where there is no room for more,
-/// at the end, and where the packs failed.
+/// Plays a script line by line, and a drain after its last line. The number of the drain is the number of lines plus one. The lines of
+/// the run are kept for `trace`, and its answers for `out`. They are sent, lines first: before a move that may write a block, when
+/// there is no room for more, at the end, and if the packs failed.
 ///
-/// The units are attached first, in the order of their lines. TooLong tells the first unit whose image has more bytes than the
-/// blocks of its drive. Store comes only where the packs' count of faults rose in this call, and Sink only where that of
-/// `out` or of `trace` rose; Memory only before the first line is played, with the packs, `out` and `trace` as they were.
+/// The units are attached first, in the order of their lines. `TooLong` names the first unit whose image has more bytes than the blocks
+/// of its drive. `Store` comes only if the packs' count of faults rose in this call, and `Sink` only if that of `out` or of `trace`
+/// rose. `Memory` comes only before the first line is played, with the packs, `out` and `trace` as they were.
 ///
-/// The tally counts the script's requests and the answers of the run with their text, also where `out` does not tell what it took.
+/// The tally counts the script's requests, and the answers of the run with their text, even if `out` does not tell what it took.
 ///
-/// Behind Store and Sink it is known how far the script came: `trace` and `out` took fronts of the texts of a run so far, no answer goes
-/// out before its lines, and since text was last sent one move at most may have written a block.
+/// After `Store` and `Sink` it is known how far the script came: `trace` and `out` took fronts of the texts of a run so far, no answer
+/// goes out before its lines, and since text was last sent at most one move may have written a block.
 pub fn play<P: Packs, O: Sink, T: Sink>(
     alloc: Global,
     script: &Script,

@@ -97,7 +97,7 @@ fn put_data(script: &Script, asked: &Asked, content: &Content<Span>, room: &mut 
     512 * (asked.count as usize - 1) + asked.last as usize
 }
 
-/// The event that a statement is: an arrival, a move, an interrupt, or a condition other than noise. None where it is none of these.
+/// The event that a statement is: an arrival, a move, an interrupt, or a condition other than noise. None if it is none of these.
 fn event_of(statement: &Statement<Span, Box<Noise>>) -> Option<Event>
     ensures some { IfSome result (λ event. (digits : Span → List ℕ) → statement_of (renamed digits box_value statement.now) ≡ Plays (input_of event)) }
     ensures silent { IfSome result (λ event. (number : ℕ) → said_text (Played number (input_of event)) ≡ []) }
@@ -194,9 +194,9 @@ fn play_other<P: Packs, O: Sink, T: Sink>(
     }
 }
 
-/// Plays a line of a script: its request is submitted, its event happens, its noise is said and armed, or its drain runs to its end,
-/// each with the answers behind it; a line that declares a drive does nothing. `room` has a place for each byte of the longest write,
-/// 65,024 of them. Fails with `Store` where a call on the packs failed, and with `Sink` where one of a sink did, whose count of faults
+/// Plays a line of a script: submits its request, lets its event happen, says and arms its noise, or drains the driver, and in each
+/// case says the answers afterwards. A line that declares a drive does nothing. `room` has a place for each byte of the longest write,
+/// 65,024 of them. Fails with `Store` if a call of the packs failed, and with `Sink` if a call of a sink failed, whose count of faults
 /// then rose; never with `Memory` or `TooLong`.
 pub fn play_line<P: Packs, O: Sink, T: Sink>(
     script: &Script,

@@ -1,4 +1,4 @@
-// The deeds that change a drive.
+// The acts that change a drive.
 ghost use Rattle.driver_machine.specs.Acts.{Of, Arrive, Attn, Search, Do, Pack, Dclr, Rtc};
 ghost use Rattle.driver_machine.specs.Guards.{Allowed};
 ghost use Rattle.driver_machine.specs.Sound.{Sound};
@@ -13,7 +13,7 @@ use pack_geometry::Place;
 use trace_lines::Told;
 
 impl Core {
-    /// The positioning of a drive ends.
+    /// Ends the positioning of a drive.
     pub fn arrive<T: Sink>(&mut self, line: u64, u: u8, id: u32, trace: &mut T) -> Result<(), Stop>
         requires sound { Sound self.old.world }
         requires may { Allowed self.old.world (Of line u id Arrive) }
@@ -23,7 +23,7 @@ impl Core {
         self.tell(line, u, id, Told::Arrive, trace)
     }
 
-    /// The attention of a drive is taken, behind so many steps of a retry.
+    /// Takes the attention of a drive, after `taken` steps of a retry.
     pub fn attend<T: Sink>(
         &mut self,
         line: u64,
@@ -40,7 +40,7 @@ impl Core {
         self.tell(line, u, id, Told::Attn, trace)
     }
 
-    /// PACK is issued.
+    /// Issues PACK.
     pub fn pack<T: Sink>(&mut self, line: u64, u: u8, id: u32, trace: &mut T) -> Result<(), Stop>
         requires sound { Sound self.old.world }
         requires may { Allowed self.old.world (Of line u id Pack) }
@@ -50,7 +50,7 @@ impl Core {
         self.tell(line, u, id, Told::Pack, trace)
     }
 
-    /// DCLR is issued; the verdict of so many sectors is judged behind it.
+    /// Issues DCLR. The verdict on `moved` sectors is judged after it.
     pub fn clear<T: Sink>(
         &mut self,
         line: u64,
@@ -68,7 +68,7 @@ impl Core {
         self.tell(line, u, id, Told::Clear, trace)
     }
 
-    /// RTC is issued.
+    /// Issues RTC.
     pub fn centre<T: Sink>(&mut self, line: u64, u: u8, id: u32, trace: &mut T) -> Result<(), Stop>
         requires sound { Sound self.old.world }
         requires may { Allowed self.old.world (Of line u id Rtc) }
@@ -78,7 +78,7 @@ impl Core {
         self.tell(line, u, id, Told::Centre, trace)
     }
 
-    /// SEARCH is issued for the first block of the request in hand.
+    /// Issues SEARCH for the first block of the request in hand.
     pub fn search<T: Sink>(
         &mut self,
         line: u64,
@@ -106,7 +106,7 @@ impl Core {
         )
     }
 
-    /// RECAL, SEEK or OFFSET is issued, a step of a retry; so many are then taken.
+    /// Issues RECAL, SEEK or OFFSET as one step of a retry. `taken` steps have then been taken.
     pub fn step<T: Sink>(
         &mut self,
         line: u64,

@@ -1,4 +1,4 @@
-// Conditions that change: what each leaves, and that it comes to its act.
+// Conditions that change: what each change leaves, and that it performs its act.
 ghost use Rattle.trace_replay.specs.Script as script;
 ghost use Rattle.driver_machine.specs.Acts.{Change};
 ghost use Rattle.driver_machine.specs.Guards.{Allowed};
@@ -10,7 +10,7 @@ use fire_code::Noise;
 use hardware_table::{FaultKind, NoiseSpan};
 
 impl Core {
-    /// A pack turns until a sector comes under the heads.
+    /// Turns a pack until a sector comes under the heads.
     pub fn turn(&mut self, u: u8, sector: u32)
         requires sound { Sound self.old.world }
         requires may { Allowed self.old.world (Change (script.Turn u sector)) }
@@ -19,7 +19,7 @@ impl Core {
         self.units[usize::from(u)].turn(sector);
     }
 
-    /// A fault is armed at a drive for so many more times.
+    /// Arms a fault at a drive, for `times` more times.
     pub fn arm(&mut self, u: u8, kind: FaultKind, times: u32)
         requires sound { Sound self.old.world }
         requires may { Allowed self.old.world (Change (script.Arm u kind times)) }
@@ -28,7 +28,7 @@ impl Core {
         self.units[usize::from(u)].arm(kind, times);
     }
 
-    /// A drive goes online, or offline.
+    /// Brings a drive online, or takes it offline.
     pub fn set_online(&mut self, u: u8, on: bool)
         requires sound { Sound self.old.world }
         requires may { Allowed self.old.world (Change (script.SetOnline u on)) }
@@ -37,7 +37,7 @@ impl Core {
         self.units[usize::from(u)].set_online(on);
     }
 
-    /// A drive is write locked, or unlocked.
+    /// Write-locks a drive, or unlocks it.
     pub fn set_locked(&mut self, u: u8, on: bool)
         requires sound { Sound self.old.world }
         requires may { Allowed self.old.world (Change (script.SetLocked u on)) }
@@ -46,7 +46,7 @@ impl Core {
         self.units[usize::from(u)].set_locked(on);
     }
 
-    /// Noise is armed at a sector.
+    /// Arms noise at a block of a unit.
     pub fn arm_noise(&mut self, unit: u8, block: u32, noise: Noise, span: NoiseSpan)
         requires sound { Sound self.old.world }
         requires may { Allowed self.old.world (Change (script.Noise (record { unit = unit; block = block; span = span; places = noise }))) }

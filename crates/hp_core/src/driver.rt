@@ -24,8 +24,8 @@ use std::marker::Model;
 use trace_lines::{LineText, Told, clean_line};
 use transfer_engine::Job;
 
-/// 32 units, of which some are set up, four adapters, the slots of requests and the frames that they need, the noise that is armed,
-/// the answers that wait, and the text of the trace that is still kept.
+/// The whole driver: 32 units, some of which are set up; four adapters; the slots of requests, and the frames that the requests need;
+/// the noise that is armed; the answers that wait; and the text of the trace that is still kept.
 #[derive(Drop)]
 pub struct Core {
     pub(crate) units: Vec<DiskUnit>,
@@ -70,7 +70,7 @@ pub(crate) fn told_step(step: RetryStep) -> Told
     }
 }
 
-/// How many frames so many blocks need, the last one of so many bytes, which begin at a place of the first frame.
+/// How many frames `count` blocks need that begin `offset` bytes into the first frame. The last block has `last` bytes.
 pub(crate) fn needed(count: u32, offset: u32, last: u32) -> u32
     requires some { 1 ≤ count }
     requires few { count ≤ 127 }
@@ -127,7 +127,7 @@ impl Core {
         sent(self.gather.put_short(text.front(), text.len(), trace))
     }
 
-    /// Sends the text that is kept. Nothing is kept after it, also where the trace failed.
+    /// Sends the text that is kept to the trace. Nothing is kept afterwards, even if the trace fails.
     pub fn send<T: Sink>(&mut self, trace: &mut T) -> Result<(), SinkFailed>
         ensures puts { Puts T.tells T.taken T.faults trace.old trace.new result self.old.kept }
         ensures same { self.new ≡ record self.old { kept = [] } }

@@ -55,7 +55,7 @@ impl Core {
         });
     }
 
-    /// The request in hand ends, and its answer waits.
+    /// Ends the request in hand. Its answer waits until it is taken.
     pub fn end<T: Sink>(
         &mut self,
         line: u64,
@@ -81,7 +81,7 @@ impl Core {
         self.answers.push(Made { slot: None, answer });
     }
 
-    /// A request is refused.
+    /// Refuses a request. The answer that says so waits until it is taken.
     pub fn refuse<T: Sink>(
         &mut self,
         line: u64,
@@ -98,7 +98,7 @@ impl Core {
         self.tell(line, unit, id, Told::End, trace)
     }
 
-    /// An event found nothing to do.
+    /// Tells the line of an event that found nothing to do.
     pub fn nothing<T: Sink>(&mut self, line: u64, trace: &mut T) -> Result<(), Stop>
         ensures { DoesAct T.tells T.taken T.faults trace.old trace.new self.old self.new result (Nothing line) }
     {

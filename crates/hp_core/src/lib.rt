@@ -1,10 +1,10 @@
-//! The acts of the driver: its units, adapters, slots and answers, changed act by act, with each act's line told to a trace.
+//! The acts of the driver. Each act changes the driver's units, adapters, slots and answers, and tells its line to a trace.
 //!
-//! What is proved: `Core`: units, adapters, slots, noise and waiting answers together, with a method for each act of the
-//! machine, and views of what stands. Each act's method has the act's outcome as its clause (`DoesAct`, `DoesSilently`,
-//! `TriesSector`): the world is that of the act also where the trace failed, the line is told last, and a failure of the packs
-//! leaves the next block old or new, and none where the transfer is a read. Its conditions are the invariant and that the act may
-//! come. Lines are kept, up to 64 KiB, and sent with `send`.
+//! What is proved: `Core` holds units, adapters, slots, noise and waiting answers together. It has a method for each act of the
+//! machine, and views of its state. The contract of each method states the outcome of the act (`DoesAct`, `DoesSilently`,
+//! `TriesSector`): the world after the call is that of the act even if the trace fails, and the line is told last. If the packs fail,
+//! the next block of a write is left old or new, and a read changes no block. The conditions of each method are the invariant, and that
+//! the act may come. Lines are kept, up to 64 KiB, and `send` passes them on.
 #![tactic(auto)]
 
 mod acts;

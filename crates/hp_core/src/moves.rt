@@ -13,8 +13,8 @@ use trace_lines::Told;
 use transfer_engine::Segment;
 
 impl Core {
-    /// The data interrupt is taken: the adapter is free, the request has its buffer back, and what comes next is decided by what
-    /// the drive's registers and the adapter show.
+    /// Takes the data interrupt. The adapter is then free, and the request has its buffer back. The registers of the drive and the
+    /// adapter decide what comes next.
     pub fn interrupt<T: Sink>(
         &mut self,
         line: u64,
@@ -30,7 +30,7 @@ impl Core {
         self.tell(line, u, id, Told::Intr, trace)
     }
 
-    /// RCOM or WCOM is issued for a segment, and the adapter is started.
+    /// Issues RCOM or WCOM for a segment, and starts the adapter.
     pub fn command<T: Sink>(
         &mut self,
         line: u64,
@@ -58,7 +58,8 @@ impl Core {
         )
     }
 
-    /// Behind so many sectors that moved clean a try failed; the next one is due, or the end where it was the last.
+    /// Records a failed try, after `moved` sectors that moved clean. The next try is then due; if this one was the last, the end of the
+    /// request is due.
     pub fn try_failed<T: Sink>(
         &mut self,
         line: u64,

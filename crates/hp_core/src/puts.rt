@@ -244,7 +244,7 @@ impl Core {
         self.units[usize::from(u)].transfer(write, segment.block);
     }
 
-    /// The block behind so many sectors of the segment is repaired.
+    /// The block that follows `moved` sectors of the segment is repaired.
     pub(crate) fn put_repair(&mut self, u: u8, moved: u32, at: u16, pattern: u16)
         requires unit { u < length self.old.world.units }
         requires some { 0 < length (unit_at self.old.world u).queue }

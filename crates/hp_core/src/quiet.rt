@@ -1,4 +1,4 @@
-// The deeds that tell no line.
+// The acts that tell no line.
 ghost use Rattle.std.specs.Prelude.{◌≡◌};
 ghost use Rattle.driver_machine.specs.declared.Phase.TheVariants.{Due};
 ghost use Rattle.driver_machine.specs.declared.Task.TheVariants.{Steps};
@@ -12,7 +12,7 @@ ghost use Rattle.hp_core.specs.Done.{DoesSilently};
 use crate::driver::Core;
 
 impl Core {
-    /// Behind the steps of a retry, of which so many are taken, the unit is ready with the transfer that it has.
+    /// Makes the unit ready with the transfer that it has, after `taken` steps of a retry.
     pub fn make_ready(&mut self, line: u64, u: u8, id: u32, taken: u32)
         requires sound { Sound self.old.world }
         requires may { Allowed self.old.world (Of line u id (Ready (transfer_of (unit_at self.old.world u)))) }
@@ -22,7 +22,7 @@ impl Core {
         self.put_ready(u);
     }
 
-    /// The blocks behind so many that moved come next.
+    /// Goes on with the blocks that follow the `moved` sectors.
     pub fn go_on(&mut self, line: u64, u: u8, id: u32, moved: u32)
         requires sound { Sound self.old.world }
         requires may { Allowed self.old.world (Of line u id (Continue moved)) }
@@ -31,7 +31,7 @@ impl Core {
         self.units[usize::from(u)].go_on(moved);
     }
 
-    /// At its start the unit is ready with a new transfer of the request in hand.
+    /// Makes the unit ready with a new transfer: the first one of the request in hand.
     pub fn begin(&mut self, line: u64, u: u8, id: u32)
         requires sound { Sound self.old.world }
         requires may { Allowed self.old.world (Of line u id (Ready (begun (job_of (unit_at self.old.world u).drive.kind (held_in self.old.world (slot_in_hand (unit_at self.old.world u))))))) }
@@ -41,7 +41,8 @@ impl Core {
         self.put_begin(u, job);
     }
 
-    /// The replacement of the sector behind so many others comes next, that of this entry of the pack's table.
+    /// Goes on with the replacement of the sector that follows `moved` others. The replacement is that of entry `index` of the pack's
+    /// table.
     pub fn forward(&mut self, line: u64, u: u8, id: u32, moved: u32, index: u8)
         requires sound { Sound self.old.world }
         requires may { Allowed self.old.world (Of line u id (Forward moved index)) }
@@ -50,7 +51,7 @@ impl Core {
         let _index = self.units[usize::from(u)].forward(moved);
     }
 
-    /// The block behind so many sectors is repaired in the buffer of the request.
+    /// Repairs, in the buffer of the request, the block that follows `moved` sectors.
     pub fn repair(&mut self, line: u64, u: u8, id: u32, moved: u32, at: u16, pattern: u16)
         requires sound { Sound self.old.world }
         requires may { Allowed self.old.world (Of line u id (Repair moved at pattern)) }

@@ -77,7 +77,7 @@ impl Core {
         block + moved
     }
 
-    /// The next sector of the transfer under way is tried, for the request in hand.
+    /// Tries the next sector of the transfer that is under way, for the request in hand.
     pub fn sector<P: Packs, T: Sink>(
         &mut self,
         line: u64,

@@ -17,7 +17,7 @@ use std::alloc::Global;
 /// How many bytes of the trace's text are kept at most.
 const TRACE_ROOM: u32 = 65536;
 
-/// The same table again, where there is one.
+/// A copy of the table, if there is one.
 fn copy_of(table: &Option<BadTable>) -> Option<BadTable>
     ensures { result ≡ table.now }
 {
@@ -146,9 +146,9 @@ impl Tables {
 }
 
 impl Core {
-    /// The driver at its start, with these units set up, with slots for so many requests that are outstanding at a time, of
-    /// which there are at most 16,384, and with room for so many noises in all. `NoMemory` where the memory is not to be had.
-    /// No later call takes any.
+    /// Creates the driver as it starts: these units are set up, and there is room for `noises` noises in all, at most 4,096. There are
+    /// slots for `outstanding` requests at a time. That number must be at most 65,536, and there are never more than 16,384 slots.
+    /// Answers `NoMemory` if memory runs out. No later call allocates.
     pub fn new(
         alloc: Global,
         setups: &[UnitSetup],

@@ -42,7 +42,7 @@ impl Core {
         self.units[usize::from(u)].join(slot, first);
     }
 
-    /// A request joins in a free slot, which is given, with its bytes where it is a write.
+    /// Puts a request into a free slot, with its bytes if it is a write, and into the queue of its unit. Answers the slot.
     pub fn join(&mut self, line: u64, asked: Asked, bytes: &[u8]) -> u32
         requires sound { Sound self.old.world }
         requires may { MayJoin self.old.world asked bytes.now }
@@ -53,7 +53,7 @@ impl Core {
         slot
     }
 
-    /// The slot of an answer is free again, where it has one.
+    /// Frees the slot of an answer, if it has one.
     fn vacate(&mut self, slot: Option<u32>)
         requires there { (p : ℕ) → slot ≡ Some p → IsSome (slot_at self.old.world p) }
         requires cpu { (p : ℕ) → slot ≡ Some p → (held_in self.old.world p).on_bus ≡ false }
@@ -81,7 +81,7 @@ impl Core {
         }
     }
 
-    /// The oldest answer is taken, and its slot is free again.
+    /// Takes the oldest answer, and frees its slot if it has one.
     pub fn take(&mut self)
         requires sound { Sound self.old.world }
         requires some { 0 < length self.old.world.answers }

@@ -25,7 +25,7 @@ use transfer_engine::Segment;
 
 // The units.
 impl Core {
-    /// A unit, to be looked at.
+    /// A unit, by reference.
     pub fn unit(&self, u: u8) -> &DiskUnit
         requires { u < length self.now.world.units }
         ensures { result.now ≡ unit_at self.now.world u }
@@ -41,7 +41,7 @@ impl Core {
         self.unit(u).kind()
     }
 
-    /// How many requests wait at a unit, with the one in hand.
+    /// The number of requests in the queue of a unit, including the one in hand.
     pub fn queue_len(&self, u: u8) -> u32
         requires { u < length self.now.world.units }
         ensures { result ≡ length (unit_at self.now.world u).queue }
@@ -60,7 +60,7 @@ impl Core {
         self.unit(u).position(target)
     }
 
-    /// How a unit has to position for a first try at a place of its drive.
+    /// The positioning that a unit needs for a first try at a place of its drive.
     pub fn position(&self, u: u8, target: Place) -> Position
         requires sound { Sound self.now.world }
         requires unit { u < 32 }
@@ -70,7 +70,7 @@ impl Core {
         self.position_from_here(u, target)
     }
 
-    /// The slot of the request in hand of a unit. None where its queue is empty.
+    /// The slot of the request in hand of a unit. None if its queue is empty.
     pub fn head(&self, u: u8) -> Option<u32>
         requires { u < length self.now.world.units }
         ensures slot { IfSome result (λ p. p ≡ slot_in_hand (unit_at self.now.world u)) }
@@ -80,7 +80,7 @@ impl Core {
         self.unit(u).head()
     }
 
-    /// Where a unit is with the head of its queue.
+    /// The phase that a unit has reached with the head of its queue.
     pub fn phase(&self, u: u8) -> Phase
         requires { u < length self.now.world.units }
         ensures { result ≡ (unit_at self.now.world u).phase }
@@ -96,7 +96,7 @@ impl Core {
         self.unit(u).is_positioning()
     }
 
-    /// The lowest unit whose drive positions, found at once. None where none does.
+    /// The lowest unit whose drive positions, found in one step. None if no drive positions.
     pub fn positioning(&self) -> Option<u8>
         ensures { result ≡ lowest can_arrive self.now.world.units 0 }
     {
@@ -111,7 +111,7 @@ impl Core {
         self.unit(u).is_raised()
     }
 
-    /// What the drive status says before a command, which is a write's transfer command or not.
+    /// What the drive status shows before a command. `writes` says whether the command is the transfer command of a write.
     pub fn sensed(&self, u: u8, writes: bool) -> Sensed
         requires { u < length self.now.world.units }
         ensures { result ≡ (if not (unit_at self.now.world u).drive.online then Sensed.Offline
@@ -120,7 +120,7 @@ impl Core {
         self.unit(u).sensed(writes)
     }
 
-    /// Whether the pack has to be acknowledged before the next command.
+    /// Whether PACK must be issued before the next command.
     pub fn needs_pack(&self, u: u8) -> bool
         requires { u < length self.now.world.units }
         ensures { result ≡ not (unit_at self.now.world u).drive.valid }
@@ -144,7 +144,7 @@ impl Core {
         self.unit(u).segment()
     }
 
-    /// How many first blocks of the request in hand are done.
+    /// The number of blocks of the request in hand that are done, counted from its first one.
     pub fn done(&self, u: u8) -> u32
         requires { u < length self.now.world.units }
         ensures { result ≡ (transfer_of (unit_at self.now.world u)).done }
@@ -152,7 +152,7 @@ impl Core {
         self.unit(u).done()
     }
 
-    /// The next step of a retry, behind so many that are taken. None where all are.
+    /// The next step of a retry, after `taken` steps. None if all steps have been taken.
     pub fn next_step(&self, u: u8, taken: u32, write: bool) -> Option<RetryStep>
         requires unit { u < length self.now.world.units }
         requires kind { (transfer_of (unit_at self.now.world u)).job.kind ≡ (unit_at self.now.world u).drive.kind }
@@ -163,7 +163,7 @@ impl Core {
         self.unit(u).next_step(taken, write)
     }
 
-    /// The entry whose replacement takes the place of the sector behind so many others. None where none does.
+    /// The entry whose replacement takes the place of the sector that follows `moved` others. None if no entry does.
     pub fn entry(&self, u: u8, moved: u32) -> Option<u8>
         requires unit { u < length self.now.world.units }
         requires begun { (unit_at self.now.world u).transfer ≡ Some (transfer_of (unit_at self.now.world u)) }
@@ -177,7 +177,7 @@ impl Core {
 
 // The adapters.
 impl Core {
-    /// Whether a transfer is started at an adapter that was not completed.
+    /// Whether an adapter has started a transfer that is not completed yet.
     pub fn is_busy(&self, a: u8) -> bool
         requires { a < length self.now.world.adapters }
         ensures { result ≡ (adapter_at self.now.world a).state.busy }
@@ -193,7 +193,7 @@ impl Core {
         self.channels[usize::from(a)].adapter.completion()
     }
 
-    /// Whether the transfer that an adapter started last is a write.
+    /// Whether the last transfer that an adapter started is a write.
     pub fn writes(&self, a: u8) -> bool
         requires { a < length self.now.world.adapters }
         ensures { result ≡ (adapter_at self.now.world a).state.write }
@@ -201,7 +201,7 @@ impl Core {
         self.channels[usize::from(a)].adapter.writes()
     }
 
-    /// Whether the attention of a drive of an adapter is up.
+    /// Whether any drive of an adapter has its attention up.
     pub fn has_attention(&self, a: u8) -> bool
         requires { a < length self.now.world.adapters }
         ensures { result ≡ not ((adapter_at self.now.world a).state.attentions == 0) }
@@ -220,7 +220,7 @@ impl Core {
         8 * a + self.channels[usize::from(a)].adapter.drive()
     }
 
-    /// The unit that waits longest for an adapter. None where none waits.
+    /// The unit that has waited longest for an adapter. None if no unit waits.
     pub fn first_waiting(&self, a: u8) -> Option<u8>
         requires { a < length self.now.world.adapters }
         ensures some { IfSome result (λ u. (adapter_at self.now.world a).queue ≡ u ∷ drop 1 (adapter_at self.now.world a).queue) }
@@ -232,14 +232,14 @@ impl Core {
 
 // The slots, the answers and the text.
 impl Core {
-    /// How many slots there are.
+    /// The number of slots.
     pub fn slot_count(&self) -> u32
         ensures { result ≡ length self.now.world.slots }
     {
         self.slots.count()
     }
 
-    /// How many frames all outstanding requests need.
+    /// The number of frames that all outstanding requests need together.
     pub fn frames(&self) -> u32
         ensures { result ≡ self.now.world.frames }
     {
@@ -254,7 +254,7 @@ impl Core {
         self.slots.asked(slot)
     }
 
-    /// The oldest answer. None where none waits.
+    /// The oldest answer. None if no answer waits.
     pub fn first_answer(&self) -> Option<Made>
         ensures some { IfSome result (λ made. self.now.world.answers ≡ made ∷ drop 1 self.now.world.answers) }
         ensures none { IfNone result (self.now.world.answers ≡ []) }
@@ -262,7 +262,7 @@ impl Core {
         self.answers.first()
     }
 
-    /// Reads block `k` of the request in a slot, counted from 0: its bytes, and then zeros.
+    /// Reads block `k` of the request in a slot, counted from 0: its bytes, followed by zeros if the block is short.
     pub fn answer_block(&self, slot: u32, k: u32, into: &mut [u8; 512])
         requires there { IsSome (slot_at self.now.world slot) }
         requires cpu { (held_in self.now.world slot).on_bus ≡ false }
@@ -272,7 +272,8 @@ impl Core {
         self.slots.block(slot, k, into);
     }
 
-    /// The byte that all bytes of block `k` of the request in a slot are, counted from 0, where it is known without reading them.
+    /// The byte that fills block `k`, counted from 0, of the request in a slot, if that is known without reading the block. None says
+    /// nothing about the block.
     pub fn answer_fill(&self, slot: u32, k: u32) -> Option<u8>
         requires there { IsSome (slot_at self.now.world slot) }
         requires cpu { (held_in self.now.world slot).on_bus ≡ false }

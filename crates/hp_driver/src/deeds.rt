@@ -18,7 +18,7 @@ use driver_machine::{AnswerKind, Cause, Phase, Task};
 use hp_core::{Asked, Core, Stop};
 use outside_traits::traits::Sink;
 
-/// What the request in hand of a unit asks. None where its queue is empty.
+/// What the request in hand of a unit asks. None if its queue is empty.
 fn asked_in_hand(core: &Core, u: u8) -> Option<Asked>
     requires sound { Sound core.now.world }
     requires unit { u < 32 }
@@ -106,8 +106,8 @@ pub(crate) fn next_deed<T: Sink>(
     }
 }
 
-/// Gives the first unit of the queue of its adapter, which is free, what is due for its transfer command: PACK, behind which the
-/// command is due; the command; or the end of its request, behind which the unit is started. At Err a call of the trace failed.
+/// Gives the first unit in the queue of its adapter, which is free, what is due for its transfer command: PACK, after which the command
+/// is due; the command itself; or the end of its request, after which the unit is started. Err means that a call of the trace failed.
 pub(crate) fn choose<T: Sink>(core: &mut Core, line: u64, u: u8, trace: &mut T) -> Result<(), Stop>
     requires sound { Sound core.old.world }
     requires unit { u < 32 }

@@ -11,7 +11,7 @@ use fire_code::Noise;
 use hardware_table::{FaultKind, NoiseSpan};
 use hp_core::Core;
 
-/// What happens to the driver, beside a submission.
+/// What can happen to the driver, other than a submission.
 #[derive(Drop)]
 pub enum Event {
     /// The positioning of a unit's drive ends.
@@ -38,7 +38,7 @@ pub enum Event {
         noise: Noise,
         span: NoiseSpan,
     },
-    /// A fault is armed at a unit's drive, for so many more times.
+    /// A fault is armed at a unit's drive, for `times` more times.
     Fault {
         unit: u8,
         kind: FaultKind,
@@ -82,8 +82,8 @@ fn next_interrupt(core: &Core) -> Option<u8>
     None
 }
 
-/// What a drain does next: the first that can be done of a positioning that ends, a sector that is moved and an interrupt, each of
-/// the lowest unit or adapter. None where nothing can be done.
+/// The next event of a drain: the end of a positioning if a drive positions; otherwise the move of a sector if an adapter can move one;
+/// otherwise an interrupt. Each of them is that of the lowest unit or adapter. None if nothing can happen.
 pub fn next_event(core: &Core) -> Option<Event>
     requires { Sound core.now.world }
     ensures { option_map input_of result ≡ events.next_event core.now.world }

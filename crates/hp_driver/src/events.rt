@@ -13,7 +13,7 @@ use driver_machine::Phase;
 use hp_core::{Core, Stop};
 use outside_traits::traits::{Packs, Sink};
 
-/// The positioning of a unit's drive ends, where one is under way. Stops where the trace fails.
+/// Ends the positioning of a unit's drive, if the drive is positioning. Stops if the trace fails.
 pub fn arrive<T: Sink>(core: &mut Core, line: u64, u: u8, trace: &mut T) -> Result<(), Stop>
     requires sound { Sound core.old.world }
     requires unit { u < 32 }
@@ -56,7 +56,7 @@ pub(crate) fn interrupts(core: &Core, a: u8) -> bool
     core.has_completed(a) || core.has_attention(a)
 }
 
-/// Moves one sector of an adapter's transfer, where one is under way. Stops where the packs fail or the trace does.
+/// Moves one sector of an adapter's transfer, if a transfer is under way. Stops if the packs or the trace fail.
 pub fn move_sector<P: Packs, T: Sink>(
     core: &mut Core,
     line: u64,
@@ -75,7 +75,7 @@ pub fn move_sector<P: Packs, T: Sink>(
     core.sector(line, u, packs, trace)
 }
 
-/// The data interrupt of an adapter is taken, where its completion is up, and what is due behind it is done.
+/// Takes the data interrupt of an adapter, if its completion is up, and does what is then due.
 fn data_interrupt<T: Sink>(core: &mut Core, line: u64, a: u8, trace: &mut T) -> Result<(), Stop>
     requires sound { Sound core.old.world }
     requires adapter { a < 4 }
@@ -100,7 +100,7 @@ fn steps_taken(phase: Phase) -> u32
     }
 }
 
-/// The attention of a drive of an adapter, 0 to 7, is taken, where it is up, and what is due behind it is done.
+/// Takes the attention of drive 0 to 7 of an adapter, if it is up, and does what is then due.
 fn attention<T: Sink>(
     core: &mut Core,
     line: u64,
@@ -135,8 +135,8 @@ fn attentions<T: Sink>(core: &mut Core, line: u64, a: u8, trace: &mut T) -> Resu
     Ok(())
 }
 
-/// An adapter's interrupt is delivered, where one is pending: its data interrupt and its drives' attentions, and then the adapter
-/// is started. Stops where the trace fails.
+/// Delivers an adapter's interrupt, if one is pending: takes its data interrupt and the attentions of its drives, and then starts the
+/// adapter. Stops if the trace fails.
 pub fn attend<T: Sink>(core: &mut Core, line: u64, a: u8, trace: &mut T) -> Result<(), Stop>
     requires sound { Sound core.old.world }
     requires adapter { a < 4 }

@@ -9,14 +9,14 @@ use driver_machine::Cause;
 use hp_core::Core;
 use hp_interrupts::Sensed;
 
-/// What is due where a command is, behind a look at the drive status.
+/// What is due when a command comes up, by the drive status: the command, or something before it or in its place.
 #[derive(Clone, Copy)]
 pub(crate) enum Before {
     /// The command itself.
     Command,
-    /// PACK, in front of it.
+    /// PACK, before the command.
     Pack,
-    /// The end of the request, in its place.
+    /// The end of the request, instead of the command.
     End { cause: Cause },
 }
 

@@ -1,4 +1,4 @@
-// The commands that are due, each behind a look at the drive status.
+// The commands that are due. The drive status is read before each of them.
 ghost use Rattle.std.specs.Prelude.{◌≡◌, ◌+◌, ◌<◌, ◌∷◌, [], false, drop, length};
 ghost use Rattle.pack_geometry.specs.Geometry.{IsInside};
 ghost use Rattle.hp_core.specs.Requests.{asked_of};
@@ -78,7 +78,7 @@ pub(crate) fn start<T: Sink>(
     }
 }
 
-/// A step of a retry is due, the last one of so many.
+/// A step of a retry is due. It is the last one of `taken` steps.
 fn step<T: Sink>(
     core: &mut Core,
     line: u64,
@@ -102,7 +102,7 @@ fn step<T: Sink>(
     }
 }
 
-/// The next step of a retry, behind so many that are taken; or the unit is ready.
+/// The next step of a retry is due, after `taken` steps; if all have been taken, the unit is ready.
 pub(crate) fn go_steps<T: Sink>(
     core: &mut Core,
     line: u64,
@@ -126,7 +126,7 @@ pub(crate) fn go_steps<T: Sink>(
     }
 }
 
-/// The transfer command is due, at once or where the adapter takes the unit.
+/// The transfer command is due, at once or when the adapter takes the unit.
 pub(crate) fn command<T: Sink>(
     core: &mut Core,
     line: u64,

@@ -15,7 +15,7 @@ use driver_machine::AnswerKind;
 use hp_core::{Asked, Core, Stop};
 use outside_traits::traits::Sink;
 
-/// A request of a unit is refused, and then its adapter is started. Stops where the trace fails.
+/// Refuses a request of a unit, and then starts the unit's adapter. Stops if the trace fails.
 pub fn refuse<T: Sink>(
     core: &mut Core,
     line: u64,
@@ -34,8 +34,8 @@ pub fn refuse<T: Sink>(
     start_adapter(core, line, unit / 8, trace)
 }
 
-/// A request joins in a free slot, with its bytes where it is a write; what is due at its unit is done, and its adapter is started.
-/// No task is due anywhere. Stops where the trace fails.
+/// Puts a request into a free slot, with its bytes if it is a write; then does what is due at its unit, and starts the unit's adapter.
+/// No task may be due anywhere before the call. Stops if the trace fails.
 pub fn join<T: Sink>(
     core: &mut Core,
     line: u64,

@@ -38,8 +38,8 @@ use std::alloc::Global;
 use std::marker::Model;
 use trace_replay::requests::Request;
 
-/// The disks, their adapters, the requests that are outstanding, and the text of the trace that is kept, at most 64 KiB. Nothing is
-/// allocated once it is made.
+/// The disks, their adapters, the outstanding requests, and the text of the trace that is kept, at most 64 KiB. Nothing is allocated
+/// after `new`.
 #[derive(Drop)]
 pub struct Subsystem {
     core: Core,
@@ -58,9 +58,10 @@ impl Model for Subsystem {
 }
 
 impl Subsystem {
-    /// A subsystem with these units, which differ and are below 32, each with a table for its kind or none; their drives are
-    /// attached. Nothing is asked, and no noise is armed. At most `outstanding` requests, 65,536 at the most, are outstanding at
-    /// once; room for `noises` lines of noise, 4,096 at the most, is reserved. `NoMemory` where the memory is not to be had.
+    /// Creates a subsystem with these units, whose drives are attached. The units must differ and be below 32, and each must have a
+    /// table for its kind of drive, or no table. No request is outstanding, and no noise is armed. At most `outstanding` requests are
+    /// outstanding at once; `outstanding` must be at most 65,536. Room is reserved for `noises` lines of noise, at most 4,096. Answers
+    /// `NoMemory` if memory runs out.
     pub fn new(
         alloc: Global,
         units: &[UnitSetup],
@@ -80,9 +81,9 @@ impl Subsystem {
         })
     }
 
-    /// The law of the subsystem: between any two calls its world is sound, noise that is live flips places of a sector, and no unit
-    /// with a request stands still. With nothing outstanding it stands for what its packs hold, and a read that is answered gives the
-    /// blocks of each map that it stands for. No request has more commands than 300 for each of its blocks.
+    /// The law of the subsystem. Between any two calls its world is sound, live noise flips places of a sector, and no unit that has a
+    /// request stands still. If no request is outstanding, the subsystem stands for what its packs hold. An answered read gives the
+    /// blocks of each map that the subsystem stands for. No request takes more than 300 commands for each of its blocks.
     pub fn law(&self)
         ensures sound { Sound self.now.world }
         ensures noise { AllFlip self.now.world.book.live }
@@ -102,9 +103,10 @@ impl Subsystem {
         self.core.kind(unit)
     }
 
-    /// Submits a request at a line of the script, with the bytes of a write. It is refused at once, or joins its unit's queue;
-    /// a unit that waits is started, and then a free adapter. Its lines are kept, and go to the trace where there is no room. Fails only where the trace's count of faults rose; no further
-    /// submission or event may follow then.
+    /// Submits a request at a line of the script, with the bytes if it is a write. The request is refused at once, or joins its unit's
+    /// queue, and then what is due at that unit is done. Last, the unit's adapter is started if it is free. The lines of the call are kept,
+    /// and go to the trace if there is no room for more. Fails only if the trace's count of faults rose; no submission or event may follow
+    /// then.
     pub fn submit<T: Sink>(
         &mut self,
         line: u64,
@@ -132,10 +134,12 @@ impl Subsystem {
         }
     }
 
-    /// An event happens at a line of the script: a positioning ends, a sector is tried, an adapter's interrupt is delivered, or a
-    /// condition changes. Its lines are kept, and go to the trace where there is no room. Store comes only where the packs' count of faults rose, Sink only where the trace's did; no further
-    /// submission or event may follow then. Only a move touches the packs, and a move that does not write leaves them; where they fail
-    /// nothing of it was done or told.
+    /// Lets an event happen at a line of the script: a positioning ends, a sector is tried, an adapter's interrupt is delivered, or a
+    /// condition changes. The lines of the call are kept, and go to the trace if there is no room for more. Only a move touches the
+    /// packs, and a move that does not write leaves them as they were. If the packs fail, nothing of the event was done or told.
+    ///
+    /// `Store` comes only if the packs' count of faults rose, and `Sink` only if the trace's did. No submission or event may follow
+    /// then.
     pub fn event<P: Packs, T: Sink>(
         &mut self,
         line: u64,
@@ -165,8 +169,8 @@ impl Subsystem {
         }
     }
 
-    /// Passes on to the trace what is kept. Nothing is kept after it, also where the trace failed: then a front of it was taken. Fails
-    /// only where the trace's count of faults rose.
+    /// Passes the text that is kept on to the trace. Nothing is kept afterwards, even if the trace fails: then the trace took a front
+    /// of the text. Fails only if the trace's count of faults rose.
     pub fn send<T: Sink>(&mut self, trace: &mut T) -> Result<(), SinkFailed>
         ensures puts { Puts T.tells T.taken T.faults trace.old trace.new result self.old.kept }
         ensures same { self.new ≡ record self.old { kept = [] } }
@@ -174,7 +178,7 @@ impl Subsystem {
         self.core.send(trace)
     }
 
-    /// Says that a drain at a line found nothing to do. Fails only where the trace's count of faults rose; then nothing is kept.
+    /// Says that a drain at a line found nothing to do. Fails only if the trace's count of faults rose; nothing is kept then.
     pub fn idle<T: Sink>(&mut self, line: u64, trace: &mut T) -> Result<(), SinkFailed>
         ensures gathers { Gathers T.tells T.taken T.faults trace.old trace.new self.old.kept self.new.kept result (moment_text (Idle line)) }
         ensures same { self.new ≡ record self.old { kept = self.new.kept } }
@@ -182,7 +186,7 @@ impl Subsystem {
         self.core.idle(line, trace)
     }
 
-    /// Whether the next sector that an adapter moves may be written. A move of an adapter for which it is not so leaves the packs.
+    /// Whether the next sector that an adapter moves may be written. If not, a move of that adapter leaves the packs as they were.
     pub fn writes(&self, adapter: u8) -> bool
         requires { adapter < 4 }
         ensures { result ≡ writes_next self.now.world adapter }
@@ -190,9 +194,9 @@ impl Subsystem {
         writes(&self.core, adapter)
     }
 
-    /// The drain's next event: the lowest unit that can arrive, else the lowest adapter that can move, else the lowest that can
-    /// attend. None exactly where no request is outstanding. With each event fewer lines `arrive`, `sector`, `intr` and `attn` are left to
-    /// come, of which there are at most 200 for each block that is outstanding: so each drain ends.
+    /// The next event of a drain: the lowest unit that can arrive, otherwise the lowest adapter that can move, otherwise the lowest
+    /// adapter that can attend. None exactly if no request is outstanding. Each event leaves fewer lines `arrive`, `sector`, `intr` and
+    /// `attn` to come. At most 200 of these lines come for each outstanding block, so each drain ends.
     pub fn next_event(&self) -> Option<Event>
         requires going { self.now.failed ≡ false }
         ensures next { IfSome result (λ event. next_event self.now.world ≡ Some (input_of event)) }
@@ -205,7 +209,7 @@ impl Subsystem {
         next_event(&self.core)
     }
 
-    /// The oldest answer that waits. None exactly where none waits.
+    /// The oldest answer that waits. None exactly if no answer waits.
     pub fn answer(&self) -> Option<Answer>
         ensures some { IfSome result (λ answer. (made : Made) × IsOldest self.now.world made × (made.answer ≡ answer)) }
         ensures none { (result ≡ None) ↔ (self.now.world.answers ≡ []) }
@@ -214,8 +218,7 @@ impl Subsystem {
         Some(made.answer)
     }
 
-    /// Takes the oldest answer that waits, and frees the frames of its request. None exactly where none waits; then nothing
-    /// changes.
+    /// Takes the oldest answer that waits, and frees the frames of its request. None exactly if no answer waits; nothing changes then.
     pub fn take_answer(&mut self) -> Option<Answer>
         ensures some { IfSome result (λ answer. (made : Made) × IsOldest self.old.world made × (made.answer ≡ answer)) }
         ensures taken { IfSome result (λ _. self.new ≡ record self.old { world = after self.old.world Taken }) }
@@ -227,7 +230,8 @@ impl Subsystem {
         Some(made.answer)
     }
 
-    /// Gives block `k`, from 0, of the read that the oldest answer is of: its bytes, and zeros behind those of a short last block.
+    /// Gives block `k`, counted from 0, of the read that the oldest answer belongs to: its bytes, followed by zeros if the last block
+    /// is short.
     pub fn answer_block(&self, k: u32, into: &mut [u8; 512])
         requires reads { Reads self.now.world k }
         ensures { (made : Made) → (p : ℕ) → IsOldest self.now.world made → made.slot ≡ Some p → into.new ≡ filled 512 (block_in (held_in self.now.world p) k) }
@@ -241,8 +245,8 @@ impl Subsystem {
         self.core.answer_block(slot, k, into);
     }
 
-    /// The byte that all bytes of block `k`, from 0, of the read that the oldest answer is of are, where it is known without
-    /// reading the block. None says nothing of the block.
+    /// The byte that fills block `k`, counted from 0, of the read that the oldest answer belongs to, if that is known without reading
+    /// the block. None says nothing about the block.
     pub fn answer_fill(&self, k: u32) -> Option<u8>
         requires reads { Reads self.now.world k }
         ensures { IfSome result (λ byte. (made : Made) → (p : ℕ) → IsOldest self.now.world made → made.slot ≡ Some p → IsFill byte (block_in (held_in self.now.world p) k)) }

@@ -1,4 +1,4 @@
-// What is due at a unit, and the start of an adapter: one turn behind another, until nothing is left to do.
+// What is due at a unit, and the start of an adapter: one turn after another, until nothing is left to do.
 ghost use Rattle.std.specs.Prelude.{◌≡◌, ◌<◌, [], false, IfOk};
 ghost use Rattle.driver_machine.specs.Events.{due_acts, choose_acts, adapter_start};
 ghost use Rattle.driver_machine.specs.Sound.{Sound};
@@ -9,13 +9,13 @@ use crate::deeds::{choose, next_deed};
 use hp_core::{Core, Stop};
 use outside_traits::traits::Sink;
 
-/// How many deeds come at most behind an interrupt: of the phase, for the volume, and for the offset.
+/// How many deeds follow an interrupt at most: those of the phase, for the volume, and for the offset.
 const DEEDS_OF_INTERRUPT: u64 = 8;
 
 /// How many deeds come at most for each request that ends.
 const DEEDS_OF_REQUEST: u64 = 3;
 
-/// Does what is due at a unit, 0 to 31, until nothing is; a transfer command comes only where its adapter is free. Stops where the
+/// Does what is due at a unit, 0 to 31, until nothing is due. A transfer command comes only if the unit's adapter is free. Stops if the
 /// trace fails.
 pub fn due<T: Sink>(core: &mut Core, line: u64, u: u8, trace: &mut T) -> Result<(), Stop>
     requires sound { Sound core.old.world }
@@ -32,8 +32,8 @@ pub fn due<T: Sink>(core: &mut Core, line: u64, u: u8, trace: &mut T) -> Result<
     Ok(())
 }
 
-/// The first unit that waits for an adapter, where that is free, gets its transfer command or what comes in its place, and then
-/// what is due at it. Says whether one did.
+/// If an adapter is free, the first unit that waits for it gets its transfer command, or what comes in its place, and then what is due
+/// at that unit. Says whether a unit did.
 fn choose_first<T: Sink>(core: &mut Core, line: u64, a: u8, trace: &mut T) -> Result<bool, Stop>
     requires sound { Sound core.old.world }
     requires adapter { a < 4 }
@@ -51,8 +51,8 @@ fn choose_first<T: Sink>(core: &mut Core, line: u64, a: u8, trace: &mut T) -> Re
     Ok(true)
 }
 
-/// Starts an adapter, 0 to 3: the first unit that waits for it is given what is due, until the adapter is busy or no unit waits.
-/// Stops where the trace fails.
+/// Starts an adapter, 0 to 3: the first unit that waits for it gets what is due, until the adapter is busy or no unit waits. Stops if
+/// the trace fails.
 pub(crate) fn start_adapter<T: Sink>(
     core: &mut Core,
     line: u64,

@@ -57,7 +57,7 @@ fn finish<T: Sink>(
     }
 }
 
-/// The sector behind so many others is marked: its replacement comes next, or the request ends when this many blocks are done.
+/// The sector that follows `moved` others is marked: its replacement comes next, or the request ends when this many blocks are done.
 fn replace<T: Sink>(
     core: &mut Core,
     line: u64,
@@ -88,7 +88,7 @@ fn replace<T: Sink>(
     }
 }
 
-/// What a verdict asks for behind so many sectors that moved clean, where no offset is set.
+/// What a verdict asks for after `moved` sectors that moved clean, if no offset is set.
 fn follow<T: Sink>(
     core: &mut Core,
     line: u64,
@@ -124,7 +124,7 @@ fn follow<T: Sink>(
     }
 }
 
-/// A verdict is judged, behind RTC where an offset is set.
+/// Judges a verdict. If an offset is set, RTC comes first.
 pub(crate) fn judge<T: Sink>(
     core: &mut Core,
     line: u64,

@@ -33,14 +33,14 @@ pub fn count(word: u64) -> u64
     1 + (word >> 32) % 16
 }
 
-/// The number of a sequence, up to 255.
+/// The start of a sequence, up to 255.
 pub fn seq(word: u64) -> u64
     ensures { result ≡ seq_of word }
 {
     (word >> 40) % 256
 }
 
-/// An offset, up to 511.
+/// An offset into a frame, up to 511.
 pub fn offset(word: u64) -> u64
     ensures { result ≡ offset_of word }
 {

@@ -1,12 +1,12 @@
-//! A large script from a number, the packs on which it is played, and the lines of its tally.
+//! A large script that is generated from a number, the packs on which it is played, and the lines of its tally.
 //!
-//! What is proved: `script_of`: the text is the script of the number, word by word. `spelling_law`: it spells 2,051 known lines
-//! by the whole grammar. `bounds_law`: in these lines at most 125 requests of at most 17 frames stand between two drains, the
-//! faults strike at most 24 times, and every noise is a short burst. `ExercisePacks`: `SurePacks` with room for the blocks of a
-//! script; what would be written beyond it is kept as what they hold there and fails. `exercise_lines`: just the four lines of
-//! its tally.
+//! What is proved: `script_of`: the text is the script of the number, word by word. `spelling_law`: the text spells 2,051 known lines
+//! by the whole grammar. `bounds_law`: between two drains these lines have at most 125 requests, each of at most 17 frames; the faults
+//! strike at most 24 times; and every noise is a short burst. `ExercisePacks`: `SurePacks` with room for the blocks of a script. A
+//! write beyond that room fails, and its bytes are kept as what the packs hold there. `exercise_lines`: exactly the four lines of the
+//! tally.
 //!
-//! Only tested, in `hpsim_rows`: worked values, beside their proofs.
+//! Only tested, in `hpsim_rows`: worked values, in addition to their proofs.
 #![tactic(auto)]
 
 mod draw;
@@ -43,8 +43,8 @@ fn head(alloc: Global) -> Result<Vec<u8>, NoMemory>
     Ok(text)
 }
 
-/// The script of a number: three units are declared, and 2,048 lines follow, each drawn from the next word of
-/// SplitMix64, whose seed is the number's eight bytes from the least one on. NoMemory tells only that there was none.
+/// The script of a number: three lines that declare units, and then 2,048 lines, each of which is drawn from the next word of
+/// SplitMix64. The seed is the eight bytes of the number, the least one first. `NoMemory` comes only if there was no memory.
 pub fn script_of(alloc: Global, number: u64) -> Result<Vec<u8>, NoMemory>
     ensures { IfOk result (λ text. text.items ≡ script_text number) }
 {
@@ -57,13 +57,14 @@ pub fn script_of(alloc: Global, number: u64) -> Result<Vec<u8>, NoMemory>
     Ok(text)
 }
 
-/// The law of what such a text spells: three units, and then what each step's word chooses, in 2,051 lines.
+/// The law of what such a text spells: 2,051 lines, of which the first three declare units, and each other line is the one that the
+/// word of its step chooses.
 pub fn spelling_law()
     ensures { (number : ℕ) → Spells all_verbs (script_text number) (numbered 1 (script_statements number)) 2051 }
 {}
 
-/// The law of how large such a script is: between two drains at most 125 requests are asked, each of at most 17 frames;
-/// the faults strike at most 24 times in all; and all noise is short.
+/// The law of how large such a script is. Between two drains it has at most 125 requests, each of at most 17 frames. The faults strike
+/// at most 24 times in all, and all noise is short.
 pub fn bounds_law()
     ensures asked { (number : ℕ) → most_asked 0 (script_statements number) ≤ 125 }
     ensures frames { (number : ℕ) → All IsNarrow (script_statements number) }

@@ -8,7 +8,7 @@ use outside_traits::traits::{NoMemory, Packs, StoreFailed};
 use std::alloc::Global;
 use std::marker::Model;
 
-/// What was to be written where there is no room: a block, or the mark of one.
+/// What was to be written beyond the room: a block, or the mark of a block.
 #[derive(Clone, Copy)]
 pub enum Outside {
     Block {
@@ -57,8 +57,8 @@ fn images(alloc: Global) -> Result<Vec<Image>, NoMemory>
     Ok(images)
 }
 
-/// Packs in memory with room for what a script may write, which tell what they hold. A write or a mark beyond that room fails, is kept
-/// beside them as what they hold there, and from then on each call fails.
+/// Packs in memory with room for what a script may write. They tell what they hold. A write or a mark beyond that room fails, and is
+/// kept beside the packs as what they hold there. From then on each call fails.
 #[derive(Drop)]
 pub struct ExercisePacks {
     packs: SurePacks,
@@ -78,8 +78,8 @@ impl Model for ExercisePacks {
 impl ExercisePacks {
     ghost use Rattle.hp_exercise.specs.Room.{IsOutside};
 
-    /// Empty packs without marks. The room is reserved here, so that no later call takes memory; of it, only what lies
-    /// below the end of the last block that is written is ever touched.
+    /// Creates empty packs without marks. The room is reserved here, so that no later call allocates. Only the part of it below the end
+    /// of the last block that is written is ever touched.
     pub fn new(alloc: Global) -> Result<ExercisePacks, NoMemory>
         ensures empty { IfOk result (λ packs. AreEmpty (held_on packs)) }
         ensures inside { IfOk result (λ packs. packs.outside ≡ None) }

@@ -1,5 +1,5 @@
-//! Rows through the top call, as text: `stdin` has scripts and commands over packs, one row behind the other, and `stdout` what each
-//! comes to. `rows.py` puts both together from `rows/`, and says how a row is written. Only tested.
+//! Rows through the top call, as text: `stdin` has scripts and commands over packs, one row after another, and `stdout` gets the result
+//! of each row. `rows.py` builds both from `rows/`, and says how a row is written. Only tested.
 #![tactic(auto)]
 
 use hpsim_run::run;

@@ -1,11 +1,13 @@
 //! The command of the program: what its words, source, packs and sinks come to, and its status.
 //!
-//! What is proved: `run`, the top call: the headline for `play` and status 0 (`Headline`, `Promises`), and for 5 and 6 what
-//! stands after the stop (`HasStopped`); the same of `cached` (`HasCached`, `HasStoppedCached`); what `bad144` did to a pack, and
-//! what `format`, `exercise` and the transfers of bytes came to, for each status; for each other status its cause; what refusals
-//! print and leave; no other status; completeness. Each clause hangs on the objects that it speaks of alone. The words are read in
-//! `pack_commands`, and `Status::code` of `command_parts` has the numbers. `end_status`: the same, and
-//! that nothing is done if there was no memory for the words. `end_told`, over real files and streams: each command has its statuses.
+//! What is proved: `run`, the top call, has one clause for each kind of command. `play`: the headline for status 0 (`Headline`,
+//! `Promises`), and what is left after the stop for 5 and 6 (`HasStopped`). `cached`: the same for a script of the cache (`HasCached`,
+//! `HasStoppedCached`). `bad144`, `format`, `exercise` and the transfers of bytes: what each of them did to a pack or a sink, for each
+//! status. Each other status has its cause, refusals say what they print and leave, and no other status comes. A refusal comes whenever
+//! its cause is there, except if a status comes that the table of `run` names. Each clause depends only on the objects that it names.
+//! `pack_commands` reads the words, and `Status::code` of `command_parts` gives the numbers. `end_status`: the same, and
+//! nothing is done if there was no memory for the words. `end_told`, over real files and streams: each command ends with one of its
+//! statuses.
 //!
 //! Only tested, in `hpsim_rows`: printed texts of worked scripts, each call failing in turn, and that memory suffices; in `end_rows`: what
 //! `end_told` prints on standard error.

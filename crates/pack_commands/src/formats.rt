@@ -21,7 +21,7 @@ fn formatted_line(bad: u8) -> LineBuf
     numbered("formatted bad ", u64::from(bad))
 }
 
-/// What is printed of a fault; nothing where the packs failed or there was no memory.
+/// What is printed for a fault. Nothing is if the packs failed or there was no memory.
 #[tactic(auto, unfolding(crate::specs::Formats::format_text))]
 fn fault_line(unit: u8, fault: &FormatFault) -> LineBuf
     ensures { result ≡ format_text unit fault.now }
@@ -68,7 +68,7 @@ fn refuse<O: Sink>(out: &mut O, unit: u8, fault: &FormatFault) -> Status
     }
 }
 
-/// Formats a unit's pack, and prints how many of its data blocks are bad.
+/// The command `format`: tests and formats a unit's pack, and prints how many of its data blocks are bad.
 pub fn run_format<P: Packs, O: Sink>(
     alloc: Global,
     packs: &mut P,

@@ -1,14 +1,15 @@
-//! The commands over one unit's pack: those of `bad144`, and `format`. Each calls its tool, and prints what came of it.
+//! The commands over one unit's pack: those of `bad144`, and `format`. Each of them calls its tool, and prints the result.
 //!
-//! What is proved: of `run_list`, `run_add`, `run_fresh`, `run_mark` and `run_format` what stands in the pack and what was printed, for each
-//! status (`RunsList` and its like), and that each fault has its cause.
+//! What is proved: for each status of `run_list`, `run_add`, `run_fresh`, `run_mark` and `run_format`, what the pack holds and what was
+//! printed (`RunsList` and its like), and that each fault has its cause.
 //!
 //! Only tested, in `hpsim_rows`: printed texts.
 //!
-//! The commands that the words of the command line name, the usage, and what each command leaves as it was (`LeavesAlone`).
+//! The crate also reads the words of the command line, prints the usage, and defines what each command leaves as it was
+//! (`LeavesAlone`).
 //!
-//! What is proved: `command_of` gives a command exactly where the words are one of the shapes, with the numbers that they spell, in their
-//! ranges.
+//! What is proved: `command_of` gives a command exactly if the words have one of the shapes, with the numbers that they spell, each in
+//! its range.
 #![tactic(auto)]
 
 mod formats;

@@ -10,7 +10,7 @@ use mass_text::LineBuf;
 use outside_traits::traits::Sink;
 use outside_traits::whole::write_all;
 
-/// What is printed of a fault of the tool; nothing where the packs or the sink failed.
+/// What is printed for a fault of the tool. Nothing is if the packs or the sink failed.
 #[tactic(auto, unfolding(crate::specs::Tools::fault_text))]
 pub(crate) fn fault_line(unit: u8, fault: &ToolFault) -> LineBuf
     ensures { result ≡ fault_text unit fault.now }

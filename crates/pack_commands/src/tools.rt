@@ -39,7 +39,7 @@ fn refuse<O: Sink>(out: &mut O, unit: u8, fault: &ToolFault) -> Status
     status_of(fault)
 }
 
-/// Prints the table of a unit's pack.
+/// The command `bad144 list`: prints the table of a unit's pack.
 pub fn run_list<P: Packs, O: Sink>(packs: &mut P, out: &mut O, unit: u8, kind: DriveKind) -> Status
     requires { unit < 32 }
     ensures never_again { IsTrue (P.tells packs.new) → IsTrue (P.tells packs.old) }
@@ -54,7 +54,7 @@ pub fn run_list<P: Packs, O: Sink>(packs: &mut P, out: &mut O, unit: u8, kind: D
     }
 }
 
-/// Adds a block to the table of a unit's pack, and prints the index of its entry.
+/// The command `bad144 add`: adds a block to the table of a unit's pack, and prints the index of its entry.
 pub fn run_add<P: Packs, O: Sink>(
     packs: &mut P,
     out: &mut O,
@@ -77,7 +77,7 @@ pub fn run_add<P: Packs, O: Sink>(
     }
 }
 
-/// Writes an empty table to a unit's pack, and prints its serial number.
+/// The command `bad144 fresh`: writes an empty table to a unit's pack, and prints its serial number.
 pub fn run_fresh<P: Packs, O: Sink>(
     packs: &mut P,
     out: &mut O,
@@ -98,7 +98,8 @@ pub fn run_fresh<P: Packs, O: Sink>(
     }
 }
 
-/// Marks the blocks that the table of a unit's pack lists, and prints how many were not marked before.
+/// The command `bad144 mark`: marks the data blocks that the table of a unit's pack lists, and prints how many of them were not marked
+/// before.
 pub fn run_mark<P: Packs, O: Sink>(packs: &mut P, out: &mut O, unit: u8, kind: DriveKind) -> Status
     requires { unit < 32 }
     ensures never_again { IsTrue (P.tells packs.new) → IsTrue (P.tells packs.old) }

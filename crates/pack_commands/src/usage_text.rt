@@ -3,7 +3,7 @@ ghost use Rattle.pack_commands.specs.Words.{usage_text};
 
 use mass_text::LineBuf;
 
-/// The text for words that are no command.
+/// The text that is printed if the words are no command.
 #[tactic(auto, unfolding(crate::specs::Words::usage_text))]
 pub fn usage() -> LineBuf
     ensures { result ≡ usage_text }

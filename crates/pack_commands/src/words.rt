@@ -33,16 +33,16 @@ pub enum Command {
         kind: DriveKind,
         serial: u32,
     },
-    /// The blocks that the table of a unit's pack lists are marked.
+    /// The data blocks that the table of a unit's pack lists are marked.
     MarkBlocks {
         unit: u8,
         kind: DriveKind,
     },
-    /// The script of a number is played, and its tally is printed.
+    /// The script that belongs to a number is played, and its tally is printed.
     Exercise {
         number: u64,
     },
-    /// A script is played through a cache of so many blocks.
+    /// A script is played through a cache of `capacity` blocks.
     Cached {
         capacity: u32,
     },
@@ -127,7 +127,7 @@ fn both_ways(first: &str, second: &str) -> Option<AddWay>
     None
 }
 
-/// How a block is added, by the words behind it: none, `copy`, `mark`, or `copy mark`.
+/// How a block is added, by the words that follow it: none, `copy`, `mark`, or `copy mark`.
 fn way_in(words: &[String]) -> Option<AddWay>
     ensures { result ≡ way_named (map string_bytes words.now) }
 {
@@ -261,7 +261,7 @@ fn worded_command(
     }
 }
 
-/// A command of `bad144`, by its verb, a unit, a kind, and the words behind them.
+/// A command of `bad144`, by its verb, a unit, a kind, and the words after them.
 fn tool_command(verb: &str, unit: &str, kind: &str, rest: &[String]) -> Option<Command>
     ensures named { result ≡ tool_named verb.now unit.now kind.now (map string_bytes rest.now) }
     ensures valid { IfSome result IsValid }
@@ -282,7 +282,7 @@ fn format_command(unit: &str, kind: &str, serial: &str) -> Option<Command>
     Some(Command::FormatPack { unit, kind, serial })
 }
 
-/// The command `format`, by the words behind it.
+/// The command `format`, by the words after it.
 fn pack_command(unit: &str, kind: &str, serial: &str, rest: &[String]) -> Option<Command>
     ensures named { result ≡ pack_named unit.now kind.now serial.now (map string_bytes rest.now) }
     ensures valid { IfSome result IsValid }
@@ -342,7 +342,7 @@ fn long_command(tool: &str, verb: &str, unit: &str, kind: &str, rest: &[String])
     None
 }
 
-/// The command that the words name; None where they name none.
+/// The command that the words of the command line name. None if they name none.
 pub fn command_of(words: &[String]) -> Option<Command>
     ensures named { result ≡ command_named (map string_bytes words.now) }
     ensures valid { IfSome result IsValid }

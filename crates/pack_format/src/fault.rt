@@ -8,24 +8,24 @@ pub enum FormatFault {
     /// There was no memory. Nothing was written.
     #[error("there is no memory")]
     Memory,
-    /// The image has so many bytes, more than the pack.
+    /// The image has `length` bytes, more than the pack.
     #[error("{length} bytes are too many")]
     TooLong {
         length: u64,
     },
-    /// So many data blocks are marked, more than the 126 that a table lists.
+    /// `found` data blocks are marked, more than the 126 that a table can list.
     #[error("{found} marked blocks are too many")]
     TooMany {
         found: u32,
     },
-    /// This replacement would be used, and is marked.
+    /// The replacement with this index would be used, but is marked.
     #[error("replacement {0} is marked")]
     Spare(u8),
     /// All five copies of the table are marked.
     #[error("no copy is unmarked")]
     NoCopy,
-    /// A block came back otherwise than it was written; `at` is the place of its first byte that did. A block that was found marked as it
-    /// was read back gave nothing: then `at` is 0, and `read` the complement of what was written.
+    /// A block did not come back as it was written. `at` is the place of the first byte that differs. If the block was found marked
+    /// when it was read back, it gave nothing; then `at` is 0, and `read` is the complement of what was written.
     #[error("byte {at} of block {block} was written as {wrote} and read as {read}")]
     Differs {
         block: u32,
@@ -33,7 +33,7 @@ pub enum FormatFault {
         wrote: u8,
         read: u8,
     },
-    /// A call on the packs failed.
+    /// A call of the packs failed.
     #[error("the packs failed")]
     Store,
 }

@@ -13,7 +13,7 @@ use outside_traits::traits::Packs;
 use pack_geometry::{DriveKind, blocks, copy_block, data_limit};
 use std::alloc::Global;
 
-/// What formatting a pack came to.
+/// The result of formatting a pack.
 #[derive(Clone, Copy)]
 pub struct FormatReport {
     /// How many data blocks are marked, and so listed.
@@ -97,17 +97,17 @@ fn format_through<P: Packs>(
 
 /// Formats a unit's pack.
 ///
-/// First every data block, replacement and copy is read. Then each data block that is not marked, and each replacement
-/// that the table will use, by rising block number, is written with 512 bytes A5, read back, written with zeros and read
-/// back. Last a table with this serial number, which lists the marked data blocks, is written to each copy that is not
-/// marked, and read back.
+/// First every data block, replacement and copy of the table is read. Then each data block that is not marked, and each replacement
+/// that the table will use, is written with 512 bytes A5, read back, written with zeros and read back, in ascending order of block
+/// number. Last, a table with this serial number, which lists the marked data blocks, is written to each copy that is not marked, and
+/// read back.
 ///
-/// The refusals come in this order, and change nothing: TooLong exactly where the image is longer than the pack; TooMany
-/// exactly where more than 126 data blocks are marked; Spare with the first replacement that would be used and is marked;
-/// NoCopy exactly where all five copies are marked. Differs never comes over packs that tell; over others it names the first
-/// byte of a block that came back otherwise, with what was written there and what was read. Store comes only where the
-/// packs' count of faults rose, and leaves a front of what is written: up to one sector all is done, that one has what it had,
-/// or A5, zeros or the table, and none behind it was begun. Memory comes before any write.
+/// The refusals come in this order, and change nothing: `TooLong` exactly if the image is longer than the pack; `TooMany` exactly if
+/// more than 126 data blocks are marked; `Spare` with the first replacement that would be used and is marked; `NoCopy` exactly if all
+/// five copies are marked. `Differs` never comes over packs that tell. Over other packs it names the first byte of a block that did not
+/// come back as it was written, with what was written there and what was read. `Store` comes only if the packs' count of faults rose,
+/// and leaves a front of what is written: all sectors before one sector are done, that sector has what it had, or A5, zeros or the
+/// table, and no later sector was begun. `Memory` comes before any write.
 pub fn format<P: Packs>(
     alloc: Global,
     packs: &mut P,

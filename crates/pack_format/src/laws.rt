@@ -10,8 +10,8 @@ ghost use Rattle.pack_format.specs.Formatted.{CanBeFormatted, Holds, IsFormatted
 ghost use Rattle.pack_format.specs.declared.fault.FormatFault.{FormatFault};
 ghost use Rattle.pack_format.specs.declared.fault.FormatFault.TheVariants.{Memory, Store};
 
-/// The law of refusals: of a pack on which nothing is in the way there is no refusal, so that `format` ends well, but for want
-/// of memory and a failure of the packs. And one of two refusals excludes the other: no pack is refused for two reasons.
+/// The law of refusals. If nothing is in the way on a pack, `format` does not refuse it; so `format` ends well, unless memory runs out
+/// or the packs fail. And no pack is refused for two reasons.
 pub fn refusals_law()
     ensures none { (kind : DriveKind) → (pack : Pack) → (fault : FormatFault) → CanBeFormatted kind pack → IsWhy kind pack fault
         → (fault ≡ Memory) ⊎ (fault ≡ Store) }
@@ -19,9 +19,9 @@ pub fn refusals_law()
         → (fault ≡ Memory) ⊎ (fault ≡ Store) ⊎ (other ≡ Memory) ⊎ (other ≡ Store) ⊎ (other ≡ fault) }
 {}
 
-/// The law of what is left alone, so that these wrong packs are none that `format` leaves: a marked sector that was written; a
-/// replacement that was, though no entry uses it; and, where it stopped, a copy of the table that was, while a block before the
-/// copies still lacked its zeros.
+/// The law of what is left alone. It rules out packs that `format` never leaves: one in which a marked sector changed; one in which a
+/// replacement changed though no entry uses it; and, if `format` stopped, one in which a copy of the table changed while a block before
+/// the copies still lacked its zeros.
 pub fn left_alone_law()
     ensures marked { (kind : DriveKind) → (serial sector : ℕ) → (old new : Pack) → IsFormatted kind serial old new → is_marked old sector ≡ true
         → block_at new.image sector ≡ block_at old.image sector }
@@ -32,8 +32,8 @@ pub fn left_alone_law()
         → Holds IsZeros kind serial old sector (block_at new.image sector) written }
 {}
 
-/// The law of the table, so that no pack that `format` leaves has such a text in an unmarked copy: entries out of order, or the
-/// serial number with its two words swapped.
+/// The law of the table. It rules out that an unmarked copy of a pack that `format` leaves has entries out of order, or the serial
+/// number with its two words swapped.
 pub fn table_law()
     ensures order { (kind : DriveKind) → (serial number k : ℕ) → (old new : Pack) → (places : List Place) → IsFormatted kind serial old new → k < 5
         → is_marked old (copy_at kind k) ≡ false → block_at new.image (copy_at kind k) ≡ table_text number places → length places ≤ 126

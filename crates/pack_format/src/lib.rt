@@ -1,16 +1,14 @@
-//! A formatter of packs: it tests every data block through a drive and an adapter, and writes a bad-sector table of the
-//! blocks that are marked.
+//! A formatter of packs. It tests every data block through a drive and an adapter, and writes a bad-sector table of the marked blocks.
 //!
-//! What is proved: `format` leaves a formatted pack (`IsFormatted`): each unmarked copy spells the table of the marked data
-//! blocks, and each data block has a home and zeros for its content; marks, every other sector and every other unit stay. Each
-//! refusal has its reason and comes just where nothing before it is in the way, so that no pack is refused for two reasons
-//! (`refusals_law`). Formatting goes by rising number, and what a failure leaves is said by the sector that it reached
-//! (`IsPartly`): so no copy of the table is written before the last block is tested (`left_alone_law`). A poll that fails is the
-//! last one, since its station is never at rest again (`testing`). A byte that came back otherwise is one that was written
-//! in that block (`IsFault`).
+//! What is proved: `format` leaves a formatted pack (`IsFormatted`): each unmarked copy spells the table of the marked data blocks, and
+//! each data block has a home whose content is zeros. Marks, every other sector and every other unit stay. Each refusal has its reason,
+//! and comes exactly if nothing before it is in the way, so that no pack is refused for two reasons (`refusals_law`). Formatting goes
+//! in ascending order of block number, and what a failure leaves is said by the sector that was reached (`IsPartly`): so no copy of the
+//! table is written before the last block is tested (`left_alone_law`). A poll that fails is the last one, since its station is never
+//! at rest again (`testing`). If a byte comes back different, the byte that is named was written in that block (`IsFault`).
 //!
-//! Only tested, in `hpsim_rows` and `drive_rows`: that A5 is written first, that blocks are read back, that a call that fails
-//! is told as `Store`, texts, and that memory suffices.
+//! Only tested, in `hpsim_rows` and `drive_rows`: that A5 is written first, that blocks are read back, that a call that fails is told
+//! as `Store`, texts, and that memory suffices.
 #![tactic(auto)]
 
 mod fault;

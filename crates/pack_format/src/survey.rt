@@ -16,7 +16,7 @@ use bad144_table::{BadTable, empty_table, insert};
 use outside_traits::traits::{Packs, StoreFailed};
 use pack_geometry::{DriveKind, copy_block, data_limit, place_of, replacement};
 
-/// The marked data blocks so far: how many they are, and the table that lists them, where they are at most 126.
+/// The marked data blocks so far: how many they are, and, if they are at most 126, the table that lists them.
 #[derive(Drop)]
 struct Survey {
     found: u32,
@@ -33,7 +33,7 @@ fn is_mark(polled: Polled) -> bool
     }
 }
 
-/// Reads a block; true where it is marked.
+/// Reads a block. True if it is marked.
 fn poll_mark<P: Packs>(
     station: &mut Station,
     packs: &mut P,
@@ -150,7 +150,7 @@ fn read_replacements<P: Packs>(
     Ok(first)
 }
 
-/// Reads the copies of the table; true where all five are marked.
+/// Reads the copies of the table. True if all five are marked.
 fn read_copies<P: Packs>(
     station: &mut Station,
     packs: &mut P,
@@ -173,7 +173,7 @@ fn read_copies<P: Packs>(
     Ok(all)
 }
 
-/// The first marked replacement, where an entry would use it.
+/// The first marked replacement, if an entry would use it.
 fn used(found: u32, spare: Option<u8>) -> Option<u8>
     ensures used { result ≡ used_of found spare }
     ensures below { IfSome result (λ i. i < found) }
@@ -200,7 +200,7 @@ fn judge(found: u32, spare: Option<u8>, no_copy: bool) -> Result<(), FormatFault
     }
 }
 
-/// Reads every data block, replacement and copy, and gives the table of the marked data blocks where nothing is in the way.
+/// Reads every data block, replacement and copy. Gives the table of the marked data blocks if nothing is in the way.
 pub(crate) fn first_reading<P: Packs>(
     station: &mut Station,
     packs: &mut P,

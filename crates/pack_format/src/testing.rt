@@ -1,16 +1,17 @@
-//! Blocks that are tested through a station: each is written with A5 and read back, and then with zeros, by rising number.
+//! Blocks that are tested through a station: each of them is written with A5 and read back, and then with zeros, in ascending order of
+//! number.
 //!
-//! What is proved: where a stage ends, its unmarked blocks have their bytes, and all else stays (`Fills`). Where it stops, the
-//! blocks before one are done, none behind it was begun, and it has itself what it had, A5 or zeros (`Reaches`). No byte
-//! comes back otherwise over packs that tell; over others it is one that was written in that block (`IsStop`). That blocks are
-//! read back is seen by no clause.
+//! What is proved: if a stage completes, its unmarked blocks have their bytes, and all else stays (`Fills`). If it stops at a block,
+//! the blocks before that block are done, no later one was begun, and the block itself has what it had, A5 or zeros (`Reaches`). Over
+//! packs that tell, no byte comes back different; over others, the byte that is named was written in that block (`IsStop`). No clause
+//! shows that blocks are read back.
 //!
-//! A station: a good drive and an adapter that are polled, and one frame of memory, through which one sector moves at a time.
+//! A station is a good drive and an adapter that are polled, and one frame of memory, through which one sector moves at a time.
 //!
-//! What is proved: one poll reads or writes a block just as the pack holds it, or says that it is marked, and then nothing
-//! moves (`Polls`); a poll that the packs fail leaves the block old or new (`IsOldOrNew`); behind each poll that did not fail
-//! the station is at rest (`IsAtRest`), and behind one that failed it never is again, so that it polls no more. Before a sector
-//! moves the heads stand on its cylinder (`IsAimed`). That the bytes go through the drive and the adapter is seen by no clause.
+//! What is proved: one poll reads or writes a block exactly as the pack holds it; or it says that the block is marked, and then nothing
+//! moves (`Polls`). A poll in which the packs fail leaves the block old or new (`IsOldOrNew`). After each poll that did not fail the
+//! station is at rest (`IsAtRest`). After one that failed it never is again, so that it polls no more. Before a sector moves, the heads
+//! stand on its cylinder (`IsAimed`). No clause shows that the bytes go through the drive and the adapter.
 
 mod blocks;
 mod fault;

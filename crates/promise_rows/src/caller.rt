@@ -1,5 +1,5 @@
-//! A caller of the program that knows of it only what the contract of `run` says: from these clauses alone it shows, section by section, what
-//! users are told. So a clause of `run` that is lost, or comes to say less, is missed here.
+//! A caller of the program that knows only the contract of `run`. From these clauses alone it shows, section by section, what users are
+//! told. So its proof fails if a clause of `run` is lost or becomes weaker.
 
 ghost use Rattle.std.specs.Prelude.{◌≡◌, ◌⊎◌, ℕ, Some};
 ghost use Rattle.command_parts.specs.Outside.{outside};

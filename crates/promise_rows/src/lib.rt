@@ -1,6 +1,6 @@
-//! Wrong outcomes of the program, each refused by what is promised of it: of `play`, the tool and `exercise`; of packs and the commands
-//! over them (`packs`); and of requests that are waited for, raw transfers and the cache (`transfers`). The functions here do nothing:
-//! each stands for a law.
+//! Wrong outcomes of the program. Each function here states outcomes that a wrong program could produce, and proves that what is
+//! promised rules them out: for `play`, the tool and `exercise` in this file, for packs and the commands over them in `packs`, and for
+//! blocking requests, raw transfers and the cache in `transfers`. The functions do nothing: each stands for a law.
 #![tactic(auto)]
 
 pub mod caller;
@@ -16,9 +16,9 @@ ghost use Rattle.promise_rows.specs.Others.{DoneWhereTheTextWasNotTaken, FaultTh
 ghost use Rattle.promise_rows.specs.Commands.{NumberBeforeItsCommand, TwoRefusalsOfOneStatus, HalfOfTheSource, HalfTheNumberPlayed, SeedFromTheGreatestByteOn};
 ghost use Rattle.promise_rows.specs.Texts.{UnitAndIdSwapped, ErrorWithoutDone, OkCountsReadsAlone, SumThatSaturates};
 
-/// Of `play`: no fault without its cause, no answer left out, no block that no request wrote, no line of noise that is not counted,
-/// no short last block that is told as a whole one, and no request that fails by tries where the script's faults and noise strike its unit
-/// too seldom.
+/// What `play` rules out: a fault without its cause, a missing answer, a change of a block that no request wrote, a line of noise that
+/// is not counted, a short last block that is told as a whole one, and a request that fails by tries though the script's faults and
+/// noise strike its unit too seldom for that.
 pub fn play_rows()
     ensures always_a_fault { AlwaysAFault }
     ensures answers_kept_back { AnswersKeptBack }
@@ -31,8 +31,8 @@ pub fn play_rows()
     ensures failed_by_few_strikes { FailedByFewStrikes }
 {}
 
-/// Of the tool and of `exercise`: status 0 says that the text was taken whole, status 6 that nothing was; what is printed of a table is of one,
-/// whatever the packs tell; and an exercise prints its own four lines.
+/// What the tool and `exercise` promise: after status 0 the text was taken whole, and after status 6 nothing was printed. What is
+/// printed of a table belongs to a table, whatever the packs tell. An exercise prints its own four lines.
 pub fn other_rows()
     ensures done_where_the_text_was_not_taken { DoneWhereTheTextWasNotTaken }
     ensures fault_that_prints { FaultThatPrints }
@@ -40,9 +40,10 @@ pub fn other_rows()
     ensures list_of_another_table { ListOfAnotherTable }
 {}
 
-/// Of `play` too: the unit that is named as too long is the first one, with a length that does not fit; the first event of a drain is told;
-/// no other tables have another run; reads lengthen no image, and writes do as far as they reach; one event is under way at a stop, of one line of the script at most; and the packs that
-/// are left by a failure have their marks.
+/// What `play` promises further. The unit that is named as too long is the first such unit, with a length that does not fit. The first
+/// event of a drain is told. There is no other run with other tables. Reads lengthen no image, and writes lengthen it as far as they
+/// reach. At a stop one event is under way, and it belongs to at most one line of the script. The packs that a failure leaves have
+/// their marks.
 pub fn naming_rows()
     ensures later_unit_named { LaterUnitNamed }
     ensures fitting_length_named { FittingLengthNamed }
@@ -55,13 +56,14 @@ pub fn naming_rows()
     ensures mark_gone_behind_a_failure { MarkGoneBehindAFailure }
 {}
 
-/// A header's fault is the drive's: the header of a marked block shows the fault whose error bit the drive sets at a marked sector.
+/// The fault of a header is that of the drive: the header of a marked block shows the fault whose error bit the drive sets at a marked
+/// sector.
 pub fn header_rows()
     ensures { HeadersAreAsTheDriveHasThem }
 {}
 
-/// Of a stop: no answer stands before its line, of the blocks that were written one at most has no line that was sent, and where the packs
-/// failed and the trace did not, all lines were sent, once.
+/// What holds at a stop: no answer comes before its line; of the blocks that were written, at most one has no line that was sent; and
+/// if the packs failed and the trace did not, all lines were sent, once.
 pub fn stop_rows()
     ensures answer_before_its_line { AnswerBeforeItsLine }
     ensures write_before_its_lines { TwoBlocksAhead }
@@ -69,8 +71,9 @@ pub fn stop_rows()
     ensures text_sent_twice { TextSentTwice }
 {}
 
-/// Of the words of the command line, which name a command before its number; of statuses, each of one end; of a transfer, which takes its
-/// source whole; and of an exercise, which plays the script of its own number, by the number's bytes from the least one on.
+/// What holds of the words of the command line, which name a command before its number; of statuses, each of which belongs to one end;
+/// of a transfer, which takes its source whole; and of an exercise, which plays the script of its own number, by the number's bytes,
+/// the least one first.
 pub fn command_rows()
     ensures number_before_its_command { NumberBeforeItsCommand }
     ensures two_refusals_of_one_status { TwoRefusalsOfOneStatus }
@@ -79,8 +82,8 @@ pub fn command_rows()
     ensures seed_from_the_greatest_byte_on { SeedFromTheGreatestByteOn }
 {}
 
-/// Of the lines of a trace, with the unit before the id; of the answers, which say how much was done; and of the counts of a run: a write is
-/// ok too, and the sum goes round.
+/// What holds of the lines of a trace, which name the unit before the id; of the answers, which say how much was done; and of the
+/// counts of a run, in which a write counts as ok too, and the sum wraps around.
 pub fn text_rows()
     ensures unit_and_id_swapped { UnitAndIdSwapped }
     ensures error_without_done { ErrorWithoutDone }

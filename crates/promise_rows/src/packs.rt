@@ -1,11 +1,11 @@
-//! Outcomes of wrong bodies of the crates that read and write packs, from streams to the commands `bad144` and `format`, each refused by
-//! the words of the contract that the body would have to keep. The functions here do nothing: each stands for a law.
+//! Outcomes of wrong bodies in the crates that read and write packs, from streams to the commands `bad144` and `format`. The contract
+//! that each body would have to keep rules them out. The functions here do nothing: each stands for a law.
 
 ghost use Rattle.promise_rows.specs.Reads.{ReadOfAnotherUnit, NextBlockRead, FirstByteLeftOut, WholePieceKept, WindowKeptAfterFailedWrite};
 ghost use Rattle.promise_rows.specs.Tables.{EntryAfterTheEnd, ReplacementsLeftBehind, LastCopyTaken, MarkedCopyTaken, TooLongAtTheLastByte, WiderMask};
 ghost use Rattle.promise_rows.specs.Formats.{HeadsLeftWhereTheyAre, AnotherBlockTold, CopyLeftOut, ZerosLeftOut, FailedReadingPassedOver, AnotherUnitNamedTooLong, KindTakenForAnother, FormatLengthensTheImage, DiffersAtALaterByte};
 
-/// Packs and streams may not be read and written so, and windows and texts may not be kept so.
+/// Rules out wrong reads and writes of packs and streams, and wrong contents of windows and texts.
 pub fn reads_law()
     ensures read_of_another_unit { ReadOfAnotherUnit }
     ensures next_block_read { NextBlockRead }
@@ -14,7 +14,7 @@ pub fn reads_law()
     ensures window_kept_after_failed_write { WindowKeptAfterFailedWrite }
 {}
 
-/// Tables may not be read, edited and taken so, nor a drive's kind.
+/// Rules out wrong reads, edits and choices of tables, and a wrong kind of drive.
 pub fn tables_law()
     ensures entry_after_the_end { EntryAfterTheEnd }
     ensures replacements_left_behind { ReplacementsLeftBehind }
@@ -24,7 +24,7 @@ pub fn tables_law()
     ensures wider_mask { WiderMask }
 {}
 
-/// Packs may not be polled, tested and formatted so, and commands may not say so.
+/// Rules out wrong polls, tests and formatting of packs, and wrong texts of commands.
 pub fn formats_law()
     ensures heads_left_where_they_are { HeadsLeftWhereTheyAre }
     ensures another_block_told { AnotherBlockTold }

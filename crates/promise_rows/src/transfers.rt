@@ -1,4 +1,4 @@
-//! Wrong outcomes of requests that are waited for, of raw transfers and of the cache, each refused by what is promised of them. The
+//! Wrong outcomes of blocking requests, of raw transfers and of the cache. What is promised of them rules these outcomes out. The
 //! functions here do nothing: each stands for a law.
 
 ghost use Rattle.promise_rows.specs.Raw.{DrainEndsEarly, ReadComesFromThePack, DriveIsOffline, WriteBeforeItsLines, DoneInBlocks, DumpAtTheFront, OutsideByOne, EdgeWithoutItsBytes, AnyTraceAtAStoppedTransfer, RawLengthensTheImage};
@@ -6,8 +6,9 @@ ghost use Rattle.promise_rows.specs.Waited.{AnswerLeftUntaken, UnforwardedCounts
 ghost use Rattle.promise_rows.specs.Cache.{ChangedEntryDropped, AnotherBlockWrittenBack, RefusedInsertionNotCounted, RefusedRisesAtAStop, SyncStopsEarly, RefusedInsertionPromotes, AnotherBlockWritten, BlockAlwaysFound};
 ghost use Rattle.promise_rows.specs.Cached.{LastSyncForgotten, BlockOlderThanTheLastSync, CachedBytesBeyondTheDrive, CachedNotAsLongAsWritten, LaterLinesPlayedBehindASinkThatFailed, CacheOfAnotherSize, SyncThatWritesNothing, LastUnusableBlockOk, FaultCalledThatOfASink, WriteAnsweredBeforeItIsDone, UnitBehindASync};
 
-/// Of a request that is waited for: it has ended, a read gives the bytes of its blocks, nothing hinders a driver that is ready for one, and
-/// before a block is written all lines are sent; behind it no answer waits, and a block that can't be used is not counted as done.
+/// What holds of a blocking request: it has ended, a read gives the bytes of its blocks, a driver that is ready can always take one,
+/// and all lines are sent before a block is written. After the request no answer waits, and a block that can't be used does not count
+/// as done.
 pub fn asked_rows()
     ensures drain_ends_early { DrainEndsEarly }
     ensures read_comes_from_the_pack { ReadComesFromThePack }
@@ -17,8 +18,9 @@ pub fn asked_rows()
     ensures unforwarded_counts_the_bad_block { UnforwardedCountsTheBadBlock }
 {}
 
-/// Of a raw transfer: bytes are counted, a dump ends its partition, the last byte of a partition is inside, a block that is written in part keeps
-/// its other bytes, and an image is as long as what was written makes it; where the packs failed the trace has the lines of a legal session.
+/// What holds of a raw transfer: bytes are counted, a dump ends its partition, the last byte of a partition is inside, a block that is
+/// written in part keeps its other bytes, and an image is as long as what was written makes it. If the packs failed, the trace has the
+/// lines of a legal session.
 pub fn raw_rows()
     ensures done_in_blocks { DoneInBlocks }
     ensures dump_at_the_front { DumpAtTheFront }
@@ -28,8 +30,9 @@ pub fn raw_rows()
     ensures raw_lengthens_the_image { RawLengthensTheImage }
 {}
 
-/// Of the cache: what is cached stays when its entry goes, no other block changes, each refused insertion is counted, one in a call, and
-/// leaves the entries as they are, and a sync writes all. Of single blocks: just the one is written, and one that can't be used is not found.
+/// What holds of the cache: what is cached stays when its entry goes, no other block changes, and a sync writes everything. Each
+/// refused insertion is counted, one in a call at most, and leaves the entries as they are. What holds of single blocks: only the block
+/// that is named is written, and one that can't be used is not found.
 pub fn cache_rows()
     ensures changed_entry_is_dropped_unwritten { ChangedEntryDropped }
     ensures another_block_is_written_back { AnotherBlockWrittenBack }
@@ -41,10 +44,10 @@ pub fn cache_rows()
     ensures block_is_always_found { BlockAlwaysFound }
 {}
 
-/// Of a script of the cache: at its end the packs hold what the requests left, and where it stopped what was there at the last sync, or
-/// later; images are as long as what was written makes them, and none grows beyond its drive; behind a sink that failed no line is played;
-/// the requests are those of a cache of the size that was named; a write is ok only where all its blocks can be used, and answered only once it is done; a sink failed only where its count rose;
-/// and units are declared before anything else.
+/// What holds of a script of the cache. At its end the packs hold what the requests left, and after a stop what was there at the last
+/// sync, or something later. Images are as long as what was written makes them, and none grows beyond its drive. No line is played
+/// after a sink failed. The requests are those of a cache of the size that was named. A write is ok only if all its blocks can be used,
+/// and it is answered only once it is done. A sink failed only if its count rose. Units are declared before anything else.
 pub fn cached_rows()
     ensures last_sync_is_forgotten { LastSyncForgotten }
     ensures block_older_than_the_last_sync { BlockOlderThanTheLastSync }

@@ -12,10 +12,11 @@ use pack_geometry::DriveKind;
 use raw_io::{Subsystem, UnitSetup};
 use std::alloc::Global;
 
-/// Attaches a unit, with the table of its pack, and makes a driver for it that takes one request at a time. The packs stay.
+/// Attaches a unit, with the table of its pack, and makes a driver for it that takes one request at a time. The packs stay as they
+/// were.
 ///
-/// TooLong comes exactly where the image has more bytes than the blocks of the drive; Store only where the packs' count of faults rose;
-/// Memory where there was none.
+/// `TooLong` comes exactly if the image has more bytes than the blocks of the drive. `Store` comes only if the packs' count of faults
+/// rose, and `Memory` only if there was no memory.
 pub(crate) fn attached<P: Packs>(
     alloc: Global,
     unit: u8,

@@ -29,7 +29,7 @@ fn status_of(answer: Result<(), TransferFault>) -> Status
     }
 }
 
-/// Reads, writes or dumps bytes of a partition.
+/// The commands `raw read`, `raw write` and `dump`: transfers bytes of a partition, as `run_transfer` does, and answers the status.
 pub fn run_bytes<S: Source, P: Packs, O: Sink, T: Sink>(
     alloc: Global,
     transfer: Transfer,

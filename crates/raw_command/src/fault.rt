@@ -6,7 +6,7 @@ use raw_io::RawFault;
 use std::alloc::AllocError;
 use thiserror::Error;
 
-/// Why a transfer did not come to all its bytes, or was not told.
+/// Why a transfer did not complete, or its result was not told.
 #[derive(Clone, Copy, Debug, Error)]
 pub enum TransferFault {
     /// There was no memory. Nothing was transferred.
@@ -21,10 +21,10 @@ pub enum TransferFault {
     /// The image of the unit is longer than its pack. Nothing was transferred.
     #[error("the image has {length} bytes")]
     TooLong { length: u64 },
-    /// The range touches a block that can't be used; so many of its bytes lie before that, and these were transferred.
+    /// The range touches a block that can't be used. The `done` bytes of the range before that block were transferred.
     #[error("a block can't be used, after {done} bytes")]
     Unusable { done: u64 },
-    /// A call on the packs failed.
+    /// A call of the packs failed.
     #[error("the packs failed")]
     Store,
     /// A call of a sink failed.

@@ -6,7 +6,7 @@ use crate::fault::TransferFault;
 use command_parts::{Writing, numbered, plain, too_long};
 use mass_text::LineBuf;
 
-/// What is printed of a fault; nothing where the packs, the source or a sink failed, or there was no memory.
+/// What is printed for a fault. Nothing is if the packs, the source or a sink failed, or if there was no memory.
 #[tactic(auto, unfolding(crate::specs::Endings::fault_text))]
 pub(crate) fn fault_line(unit: u8, fault: TransferFault) -> LineBuf
     ensures { result ≡ fault_text unit fault }
@@ -22,7 +22,7 @@ pub(crate) fn fault_line(unit: u8, fault: TransferFault) -> LineBuf
     }
 }
 
-/// What is printed of so many bytes of a source that were written: `wrote N`, or of a dump `dumped K`.
+/// What is printed after `size` bytes of a source were written: `wrote N`, or `dumped K` for a dump.
 #[tactic(auto, unfolding(crate::specs::Endings::done_text))]
 pub(crate) fn done_line(writing: Writing, size: usize) -> LineBuf
     requires { size ≤ 16777216 }

@@ -70,7 +70,7 @@ fn unit(writing: Writing) -> u8
     }
 }
 
-/// Whether so many bytes are refused: they are too many, or reach beyond the partition.
+/// Whether `size` bytes are refused: they are too many, or reach beyond the partition.
 fn is_beyond(writing: Writing, size: usize) -> bool
     requires { IsPlaced writing }
     ensures { IsTrue result ↔ IsBeyond writing size }
@@ -83,7 +83,7 @@ fn is_beyond(writing: Writing, size: usize) -> bool
     }
 }
 
-/// Reads as many bytes of a partition as the buffer has, and gives those to the sink that come before the first block that can't be used.
+/// Reads as many bytes of a partition as the buffer has, and gives the sink those before the first block that can't be used.
 fn read_to<P: Packs, O: Sink, T: Sink>(
     alloc: Global,
     target: Target,
@@ -112,7 +112,7 @@ fn read_to<P: Packs, O: Sink, T: Sink>(
     }
 }
 
-/// Reads so many bytes of a partition, and gives those to the sink that come before the first block that can't be used.
+/// Reads `size` bytes of a partition, and gives the sink those before the first block that can't be used.
 fn run_read<P: Packs, O: Sink, T: Sink>(
     alloc: Global,
     target: Target,
@@ -185,12 +185,12 @@ fn run_write<S: Source, P: Packs, O: Sink, T: Sink>(
     write_from(alloc, writing, from.as_slice(), packs, out, trace)
 }
 
-/// Transfers bytes of a partition: reads them and gives them to `out`, or writes those of the source, and tells how many; the lines of its
-/// requests go to `trace`.
+/// Transfers bytes of a partition. A read gives them to `out`; a write takes those of the source, and then tells how many they are. The
+/// lines of the requests go to `trace`.
 ///
-/// The checks come in this order: what is written is read from the source, to its end or to one byte more than there may be; `Outside`; the
-/// unit is attached; then the bytes are transferred. Each answer says what it has done (`Ends`). `Memory` comes only before anything is
-/// transferred; `Source`, `Store` and `Sink` only where the count of faults of that object rose.
+/// The steps come in this order. A write first reads its source, to the end or to one byte more than there may be. Then `Outside` is
+/// checked, the unit is attached, and the bytes are transferred. Each answer says what the call has done (`Ends`). `Memory` comes only
+/// before anything is transferred. `Source`, `Store` and `Sink` come only if the count of faults of that object rose.
 pub fn run_transfer<S: Source, P: Packs, O: Sink, T: Sink>(
     alloc: Global,
     transfer: Transfer,

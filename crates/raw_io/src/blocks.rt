@@ -1,4 +1,4 @@
-// Whole blocks of a partition, by requests that are waited for.
+// Whole blocks of a partition, by blocking requests.
 ghost use Rattle.std.specs.Prelude.{◌≡◌, ◌*◌, [], true, false, IsTrue, IfOk, IfErr, OnErr, length};
 ghost use Rattle.driver_laws.specs.answers.Outcome.{stop_in};
 ghost use Rattle.blocking_io.specs.FrontsPasses.{asked, setup_at};
@@ -13,7 +13,7 @@ use blocking_io::{
 };
 use outside_traits::traits::{Packs, Sink};
 
-/// How many blocks of a request were done, of so many.
+/// How many of the `count` blocks of a request were done.
 fn blocks_done(reached: Reached, count: u32) -> u32
     ensures { result ≡ blocks_reached reached count }
 {
@@ -24,7 +24,7 @@ fn blocks_done(reached: Reached, count: u32) -> u32
     }
 }
 
-/// Reads the blocks of a request, and gives them where all can be used: how many come before the first that can't.
+/// Reads the blocks of a request, and gives them if all can be used. Answers how many come before the first one that can't be used.
 fn read_once<P: Packs, T: Sink>(
     subsystem: &mut Subsystem,
     request: Request,
@@ -55,8 +55,8 @@ fn read_once<P: Packs, T: Sink>(
     Ok(blocks_done(reached, request.count))
 }
 
-/// Reads the blocks of a request, and gives those before the first that can't be used: how many they are. Where there is one, they are
-/// read once more, since a read that meets it gives nothing.
+/// Reads the blocks of a request, and gives those before the first one that can't be used. Answers how many they are. If there is such
+/// a block, the blocks before it are read once more, since a read that meets it gives nothing.
 pub(crate) fn get_blocks<P: Packs, T: Sink>(
     subsystem: &mut Subsystem,
     request: Request,
@@ -92,7 +92,7 @@ pub(crate) fn get_blocks<P: Packs, T: Sink>(
     Ok(first)
 }
 
-/// Writes the blocks of a request: how many come before the first that can't be used, and were replaced.
+/// Writes the blocks of a request. Answers how many come before the first one that can't be used; these were replaced.
 pub(crate) fn put_blocks<P: Packs, T: Sink>(
     subsystem: &mut Subsystem,
     request: Request,

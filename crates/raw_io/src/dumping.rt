@@ -23,7 +23,7 @@ use partitions::{Part, part_range};
 /// How many bytes memory has at the most.
 const MEMORY: usize = 8_388_608;
 
-/// Lays bytes over a buffer, and zeros behind them.
+/// Lays bytes over a buffer, followed by zeros.
 fn fill(buffer: &mut [u8], from: &[u8])
     requires { length from.now ≤ length buffer.old }
     ensures { buffer.new ≡ from.now ++ replicate (length buffer.old - length from.now) 0 }
@@ -51,8 +51,8 @@ fn lay_piece(buffer: &mut [u8], memory: &[u8], start: usize)
     fill(buffer, part_of(memory, start, end));
 }
 
-/// Writes a piece of memory, filled up with zeros to whole blocks, from a place on, through a buffer for its blocks: how many bytes come
-/// before the first block that can't be used.
+/// Writes a piece of memory, filled up with zeros to whole blocks, from a place on, through a buffer for its blocks. Answers how many
+/// bytes come before the first block that can't be used.
 fn dump_piece<P: Packs, T: Sink>(
     subsystem: &mut Subsystem,
     piece: Piece,
@@ -85,8 +85,8 @@ fn dump_piece<P: Packs, T: Sink>(
     write_piece(subsystem, piece, part, packs, trace)
 }
 
-/// Writes memory, filled up with zeros to whole blocks, to partition `b` from a place on: how many bytes come before the first block that
-/// can't be used.
+/// Writes memory, filled up with zeros to whole blocks, to partition `b` from a place on. Answers how many bytes come before the first
+/// block that can't be used.
 fn dump_range<P: Packs, T: Sink>(
     subsystem: &mut Subsystem,
     unit: u8,
@@ -125,11 +125,11 @@ fn dump_range<P: Packs, T: Sink>(
     Ok(done)
 }
 
-/// Dumps memory to the end of partition `b` of a unit: its bytes, filled up with zeros to whole blocks, so that they end with the last block
-/// of the partition. The answer is the number of blocks. They are written as `raw_write` writes.
+/// Dumps memory to the end of partition `b` of a unit. The bytes are filled up with zeros to whole blocks, and the last of these is the
+/// last block of the partition. Answers the number of blocks. They are written as `raw_write` writes.
 ///
-/// `Outside` comes exactly where there are more than 8,388,608 bytes; nothing is done then. `Unusable` comes exactly where one of the
-/// blocks can't be used: those before the first such block were replaced. `Store` and `Sink` come as they do for `raw_write`.
+/// `Outside` comes exactly if there are more than 8,388,608 bytes; nothing is done then. `Unusable` comes exactly if one of the blocks
+/// can't be used; the blocks before the first such block were replaced. `Store` and `Sink` come as they do for `raw_write`.
 pub fn dump<P: Packs, T: Sink>(
     subsystem: &mut Subsystem,
     unit: u8,

@@ -1,14 +1,14 @@
-// What a raw transfer is refused or stopped by.
+// What refuses or stops a raw transfer.
 use blocking_io::Stop;
 use thiserror::Error;
 
-/// Why a raw transfer did not come to all its bytes.
+/// Why a raw transfer did not complete.
 #[derive(Clone, Copy, Debug, Drop, Error)]
 pub enum RawFault {
-    /// Its range reaches beyond the partition. Nothing was done.
+    /// The range reaches beyond the partition. Nothing was done.
     #[error("the range reaches beyond the partition")]
     Outside,
-    /// Its range touches a block that can't be used; so many of its bytes lie before that, and these were done.
+    /// The range touches a block that can't be used. The `done` bytes of the range before that block were transferred.
     #[error("a block can't be used, after {done} bytes")]
     Unusable { done: u64 },
     /// A call on the packs failed.

@@ -8,7 +8,7 @@ use blocking_io::Request;
 use pack_geometry::DriveKind;
 use partitions::{Part, part_range};
 
-/// The blocks that a piece of a range touches, and the piece in them: `size` bytes behind the first `skip`.
+/// The blocks that a piece of a range touches, and the piece in them: `size` bytes that follow the first `skip`.
 #[derive(Clone, Copy)]
 pub(crate) struct Piece {
     pub(crate) request: Request,
@@ -16,7 +16,7 @@ pub(crate) struct Piece {
     pub(crate) size: usize,
 }
 
-/// Whether a range of so many bytes from place `at` on, below 2^40, reaches beyond its partition.
+/// Whether a range of `size` bytes that begins at byte `at` of a partition, below 2^40, reaches beyond that partition.
 pub fn is_outside(kind: DriveKind, part: Part, at: u64, size: usize) -> bool
     requires { at < 2 ^ 40 }
     ensures { IsTrue result ↔ IsOutside kind part at size }
@@ -25,7 +25,7 @@ pub fn is_outside(kind: DriveKind, part: Part, at: u64, size: usize) -> bool
     at > bytes || size as u64 > bytes - at
 }
 
-/// A request for so many blocks of a partition, from one on.
+/// A request for `count` blocks of a partition, from `block` on.
 fn whole_blocks(unit: u8, part: Part, block: u32, count: u32, write: bool) -> Request
     ensures { result ≡ record { id = 0; unit = unit; part = part; block = block; count = count; write = write; offset = 0; last = 512 } }
 {

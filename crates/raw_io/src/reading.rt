@@ -93,13 +93,14 @@ fn read_range<P: Packs, T: Sink>(
     Ok(done)
 }
 
-/// Reads the bytes of a partition of a unit from place `at` on, below 2^40, into a buffer: as many as that has. They are read through the
-/// driver, at line 1 and with id 0, in requests of at most 127 whole blocks, each waited for before the next one; the driver is to be
-/// ready, made for one outstanding request at least, and its tables those of the packs. Behind an Ok and `Unusable` it is ready again.
+/// Reads the bytes of a unit's partition from byte `at` on, below 2^40, until the buffer is full. The bytes are read through the
+/// driver, at line 1 and with id 0, in requests of at most 127 whole blocks, each of which is answered before the next one is
+/// submitted. The driver must be ready and made for at least one outstanding request, and its tables must be those of the packs. It is
+/// ready again after Ok and `Unusable`.
 ///
-/// `Outside` comes exactly where the range reaches beyond the partition; nothing is done then. `Unusable` comes exactly where it touches
-/// a block that can't be used: the bytes before that were given, and the rest of the buffer is as it was. No block of the packs changes.
-/// `Store` and `Sink` come only where the count of faults of the packs or of the trace rose; no further call may follow then.
+/// `Outside` comes exactly if the range reaches beyond the partition; nothing is done then. `Unusable` comes exactly if the range
+/// touches a block that can't be used; the bytes before that block were given, and the rest of the buffer is as it was. No block of the
+/// packs changes. `Store` and `Sink` come only if the count of faults of the packs or of the trace rose; no call may follow then.
 pub fn raw_read<P: Packs, T: Sink>(
     subsystem: &mut Subsystem,
     unit: u8,

@@ -139,13 +139,13 @@ fn write_range<P: Packs, T: Sink>(
     Ok(done)
 }
 
-/// Writes bytes over those of a partition of a unit, from place `at` on, below 2^40: through the driver, as `raw_read` reads. A block that
-/// is covered in part is read first, and written back whole.
+/// Writes bytes to a unit's partition from byte `at` on, below 2^40, through the driver, as `raw_read` reads. A block that the range
+/// covers in part is read first and written back whole.
 ///
-/// `Outside` comes exactly where the range reaches beyond the partition; nothing is done then. `Unusable` comes exactly where it touches
-/// a block that can't be used: the bytes before that were replaced. Every other byte of every data block stays. `Store` and `Sink` come
-/// only where the count of faults of the packs or of the trace rose; a front of the range's blocks was replaced then, each whole, and no
-/// further call may follow.
+/// `Outside` comes exactly if the range reaches beyond the partition; nothing is done then. `Unusable` comes exactly if the range
+/// touches a block that can't be used; the bytes before that block were replaced. Every other byte of every data block stays. `Store`
+/// and `Sink` come only if the count of faults of the packs or of the trace rose; a front of the range's blocks was replaced then, each
+/// of them whole, and no call may follow.
 pub fn raw_write<P: Packs, T: Sink>(
     subsystem: &mut Subsystem,
     unit: u8,

@@ -12,7 +12,7 @@ use crate::watches::add_watches;
 use hp_exercise::script_of;
 use outside_traits::traits::NoMemory;
 
-/// Does what a line says with a program, and puts behind the page what is to be shown; `NoMemory` where memory runs out.
+/// Does what a line says with a program, and adds to the page what is to be shown. `NoMemory` if memory runs out.
 pub fn perform<P: Program>(
     program: &P,
     stage: &mut Stage,
@@ -41,7 +41,7 @@ pub fn perform<P: Program>(
     Ok(())
 }
 
-/// Sets the stage where a line says so.
+/// Sets the stage, if a line says so.
 fn arrange(stage: &mut Stage, verb: Verb, rest: &str) {
     match verb {
         Verb::Fail => set_fault(stage, rest),
@@ -71,7 +71,7 @@ fn show(stage: &Stage, page: &mut Text, verb: Verb, rest: &str) {
     }
 }
 
-/// Begins a row on a stage where nothing stands.
+/// Begins a row on an empty stage.
 fn begin(stage: &mut Stage, page: &mut Text, name: &str) {
     *stage = Stage::new(stage.alloc);
     page.add_between("== ", name, "\n");
@@ -123,7 +123,7 @@ fn set_unit(packs: &mut RowPacks, verb: Verb, rest: &str) {
     }
 }
 
-/// The first bytes of some as a block; all behind them is 0.
+/// The first bytes of some as a block, followed by zeros.
 fn front_of(content: &[u8]) -> [u8; 512] {
     let mut bytes = [0u8; 512];
     let count = content.len().min(512);

@@ -1,5 +1,6 @@
-//! A stage on which rows are played: packs, source and sinks of which calls fail, the lines that set them up and run the commands of a
-//! program on them, and what is shown of that. For tests alone: that it does no harm and ends is all that is proved.
+//! A stage on which rows are played: packs, source and sinks whose calls can be made to fail; the lines that set them up and run the
+//! commands of a program on them; and what is shown of the result. It is for tests alone: all that is proved is that it does no harm
+//! and ends.
 #![tactic(auto)]
 
 mod directives;

@@ -28,8 +28,8 @@ pub(crate) struct Unit {
     pub(crate) length: u64,
 }
 
-/// The packs of 32 units. Those calls fail that are to fail, and those that write or mark where there is no room. They tell nothing.
-/// Where memory runs out they lack what found no room, and are short from then on.
+/// The packs of 32 units. A call fails if it is one that is set to fail, or if it writes or marks where there is no room. They do not
+/// tell what they hold. If memory runs out, they lack what found no room, and are short from then on.
 #[derive(Drop)]
 pub struct RowPacks {
     /// The tracks with a block that something was done to, 32 blocks each.
@@ -73,7 +73,7 @@ impl RowPacks {
         self.units = units;
     }
 
-    /// Whether the first so many blocks of a unit, and how long its image is, are the same on other packs.
+    /// Whether the blocks of a unit, as far as there is room on either side, and the length of its image are the same on other packs.
     fn has_same(&self, other: &RowPacks, unit: u8) -> bool {
         let room = self.units[unit as usize % 32]
             .room
@@ -151,7 +151,7 @@ impl RowPacks {
         self.keep(unit, block, Block { bytes, is_marked });
     }
 
-    /// Makes a call, which fails where it is one that is to fail.
+    /// Makes a call, which fails if it is one that is to fail.
     fn called(&mut self, operation: Operation) -> Result<(), StoreFailed> {
         if is_last(&mut self.fails[operation as usize]) {
             return Err(StoreFailed);
@@ -159,7 +159,7 @@ impl RowPacks {
         Ok(())
     }
 
-    /// The same where a block is to be changed, for which there may be no room.
+    /// The same for a call that changes a block. There may be no room for that block.
     fn called_at(&mut self, operation: Operation, unit: u8, block: u32) -> Result<(), StoreFailed> {
         if u64::from(block) < self.units[unit as usize % 32].room {
             return self.called(operation);

@@ -118,7 +118,7 @@ impl Scene {
         MemSink::new(self.alloc, room, Vec::from_slice(self.alloc, &[fail])?)
     }
 
-    /// Runs the words of a command; `NoMemory` where a stream finds no room in memory.
+    /// Runs the words of a command. `NoMemory` if a stream finds no room in memory.
     fn run_words<P: Program>(
         &mut self,
         program: &P,

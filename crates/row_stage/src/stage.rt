@@ -4,7 +4,7 @@ use crate::texts::Text;
 use crate::watches::Watch;
 use std::alloc::Global;
 
-/// What stands for the next steps of a row. Where memory runs out it lacks what found no room, and is short from then on.
+/// What is kept for the next steps of a row. If memory runs out, the stage lacks what found no room, and is short from then on.
 #[derive(Drop)]
 pub struct Stage {
     pub(crate) alloc: Global,
@@ -18,7 +18,7 @@ pub struct Stage {
     pub(crate) source: Text,
     pub(crate) faults: Faults,
     pub(crate) watches: Vec<Watch>,
-    /// The texts of the watched blocks, one behind the other.
+    /// The texts of the watched blocks, one after another.
     pub(crate) texts: Text,
     /// What is printed once the sync has ended.
     pub(crate) answer: Text,
@@ -26,7 +26,7 @@ pub struct Stage {
 }
 
 impl Stage {
-    /// A stage where nothing stands.
+    /// Creates an empty stage.
     pub fn new(alloc: Global) -> Stage {
         Stage {
             alloc,
@@ -59,7 +59,7 @@ impl Stage {
         }
     }
 
-    /// Puts a word behind those of the command, where `""` is an empty one.
+    /// Adds a word to those of the command; `""` is an empty word.
     fn add_word(&mut self, word: &str) {
         let mut kept = String::new(self.alloc);
         if word != "\"\"" {

@@ -13,7 +13,7 @@ fn wanted(operation: Operation) -> u8 {
     }
 }
 
-/// What of the texts of a run that stopped is not as in the whole run; "" where all is.
+/// What is wrong with the texts of a run that stopped, compared with the whole run; "" if nothing is.
 fn texts_amiss(whole: &Scene, left: &Scene) -> &'static str {
     if !whole.out.bytes().starts_with(left.out.bytes()) {
         return "its text is no front";
@@ -24,7 +24,7 @@ fn texts_amiss(whole: &Scene, left: &Scene) -> &'static str {
     ""
 }
 
-/// Whether a run that stopped printed the answers of the requests that it traced the ends of; the last of them may be missing where no
+/// Whether a run that stopped printed the answers of the requests that it traced the ends of. The last of them may be missing if no
 /// call of the packs failed.
 fn has_answers(left: &Scene) -> bool {
     let answers = times(left.out.bytes(), b"ans ");
@@ -32,7 +32,7 @@ fn has_answers(left: &Scene) -> bool {
     answers == ends || answers < ends && left.status != 6
 }
 
-/// What does not hold of a run that stopped; "" where all does.
+/// What does not hold for a run that stopped; "" if everything does.
 fn amiss(stage: &Stage, wanted: u8, is_play: bool) -> &'static str {
     let left = &stage.left;
     if left.status != wanted {
@@ -68,7 +68,7 @@ fn end_of(stage: &Stage) -> &'static str {
     "it goes on and ends otherwise"
 }
 
-/// What does not hold of the same command once more, over the packs that a run left that stopped; "" where all does.
+/// What does not hold if the same command runs once more over the packs that a run left that stopped; "" if everything does.
 fn amiss_again<P: Program>(program: &P, stage: &mut Stage) -> &'static str {
     stage.run_again(program);
     if stage.left.status == 0 && has_whole_packs(stage) {
@@ -77,7 +77,8 @@ fn amiss_again<P: Program>(program: &P, stage: &mut Stage) -> &'static str {
     "it ends otherwise where it is run again"
 }
 
-/// What does not hold of a run in which a call fails, nor once more behind it; "" where all does, and "done" where that call is not made.
+/// What does not hold for a run in which a call fails, or for one more run after it; "" if everything does, and "done" if that call is
+/// not made.
 fn stopped_at<P: Program>(
     program: &P,
     stage: &mut Stage,
@@ -95,8 +96,8 @@ fn stopped_at<P: Program>(
     }
 }
 
-/// Runs the command with each call of an operation failing in turn, until it is not made: how many are made, and the first thing that
-/// does not hold; "" where all does.
+/// Runs the command with each call of an operation failing in turn, until that call is not made. Answers how many calls are made, and
+/// the first thing that does not hold; "" if everything does.
 fn each_call<P: Program>(
     program: &P,
     stage: &mut Stage,
@@ -114,7 +115,7 @@ fn each_call<P: Program>(
     (1000, "it does not end")
 }
 
-/// Shows an operation of which calls are made, and what does not hold where one of them fails.
+/// Shows an operation of which calls are made, and what does not hold if one of them fails.
 fn show_stop(page: &mut Text, name: &str, count: u64, word: &str) {
     if count > 0 {
         page.add_between(" ", name, "");
@@ -125,8 +126,8 @@ fn show_stop(page: &mut Text, name: &str, count: u64, word: &str) {
     }
 }
 
-/// Runs a command with each call of each operation failing in turn, and shows the operations of which calls are made. What does not
-/// hold stands behind them.
+/// Runs a command with each call of each operation failing in turn, and shows the operations of which calls are made, each followed by
+/// what does not hold.
 pub(crate) fn stops<P: Program>(program: &P, stage: &mut Stage, page: &mut Text, line: &str) {
     page.add("each call fails in turn:");
     stage.set_words(line);

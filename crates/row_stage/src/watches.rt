@@ -6,11 +6,13 @@ use crate::texts::{Text, holds, small_number, span, split};
 /// What a watched block is to hold in a run that stops, beside a run that does not.
 #[derive(Clone, Copy)]
 pub(crate) enum Rule {
-    /// What the whole run leaves there, where the trace has the text; else what it held at first, but for one block of all.
+    /// What the whole run leaves there if the trace has the text; otherwise what it held at first, except for at most one of all
+    /// blocks.
     Told,
-    /// What the whole run leaves there, where the watched blocks before it do; else what it held at first. Nothing is printed.
+    /// What the whole run leaves there if the watched blocks before it hold that too; otherwise what it held at first. Nothing is
+    /// printed.
     Order,
-    /// One of the bytes of the text throughout; none of those before `synced`, where the answer behind the sync is printed.
+    /// One of the bytes of the text throughout; and none of those before `synced` if the answer after the sync is printed.
     Left,
 }
 
@@ -96,7 +98,7 @@ fn is_left(stage: &Stage, watch: &Watch) -> bool {
     fills.contains(&bytes[0]) && bytes == [bytes[0]; 512]
 }
 
-/// Whether a watched block is as its rule says; `is_front` where those before it are as the whole run leaves them.
+/// Whether a watched block is as its rule says. `is_front` says whether those before it are as the whole run leaves them.
 fn is_right(stage: &Stage, watch: &Watch, is_front: bool) -> bool {
     match watch.rule {
         Rule::Told => is_new(stage, watch) || is_old(stage, watch) && !is_told(stage, watch),
@@ -113,7 +115,7 @@ fn is_untold(stage: &Stage, watch: &Watch) -> bool {
     matches!(watch.rule, Rule::Told) && !is_old(stage, watch) && !is_told(stage, watch)
 }
 
-/// What of the packs of a run that stopped is not as the rules of the watched blocks say; "" where all is.
+/// What does not agree between the packs of a run that stopped and the rules of the watched blocks; "" if everything does.
 pub(crate) fn packs_amiss(stage: &Stage) -> &'static str {
     let mut untold = 0u32;
     let mut is_front = true;

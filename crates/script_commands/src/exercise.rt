@@ -95,11 +95,11 @@ fn play_and_print<O: Sink, T: Sink>(
     Ok(())
 }
 
-/// The command `exercise`: plays the script of a number over empty packs in memory, and prints its tally on `out`. Its lines go to
-/// `trace`; nobody reads its answers.
+/// The command `exercise`: plays the script of a number over empty packs in memory, and prints its tally on `out`. The lines of the run
+/// go to `trace`; its answers are not printed.
 ///
-/// OutOfMemory comes only before the first line is played, with both sinks as they were. SinkFailed comes only where the count of faults
-/// of `out` or of `trace` rose.
+/// `OutOfMemory` comes only before the first line is played, with both sinks as they were. `SinkFailed` comes only if the count of
+/// faults of `out` or of `trace` rose.
 pub fn run_exercise<O: Sink, T: Sink>(
     alloc: Global,
     number: u64,

@@ -18,7 +18,8 @@ use script_reader::grammar_law;
 use script_reader::meaning::meaning_law;
 use std::alloc::Global;
 
-/// Reads a script from the source and plays it over the packs.
+/// The command `play`: reads a script from the source and plays it over the packs. The answers go to `out`, and the lines of the run to
+/// `trace`.
 pub fn run_play<S: Source, P: Packs, O: Sink, T: Sink>(
     alloc: Global,
     script: &mut S,

@@ -7,7 +7,7 @@ pub enum LineFault {
     /// There was no memory.
     #[error("there is no memory")]
     Memory,
-    /// It is faulty.
+    /// The line is faulty.
     #[error("the line is faulty: {0:?}")]
     Kind(ScriptKind),
 }

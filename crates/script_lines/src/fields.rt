@@ -7,14 +7,14 @@ use crate::kinds::ScriptKind;
 use hex::FromHex;
 use mass_text::{Fields, NumberFault, Radix, number};
 
-/// The next field. A missing one is a fault of words.
+/// Takes the next field. `Word` if there is none.
 pub fn need<'a>(fields: &mut Fields<'a>) -> Result<&'a [u8], ScriptKind>
     ensures { MatchResult result (λ text. fields.old ≡ text.now ∷ fields.new) (λ kind. (fields.old ≡ []) × (kind ≡ ScriptKind.Word)) }
 {
     fields.next().ok_or(ScriptKind::Word)
 }
 
-/// A decimal number from `low` to `high`.
+/// Reads a decimal number from `low` to `high`. `Number` otherwise.
 pub fn number_field(field: &[u8], low: u32, high: u32) -> Result<u32, ScriptKind>
     ensures value { result ≡ number_field low high field.now }
     ensures bound { IfOk result (λ n. n ≤ high) }
@@ -25,7 +25,7 @@ pub fn number_field(field: &[u8], low: u32, high: u32) -> Result<u32, ScriptKind
     }
 }
 
-/// How many blocks, 1 to 127.
+/// Reads a count of blocks, 1 to 127. `Count` for a number out of this range, and `Number` for a field that is no number.
 pub fn count_field(field: &[u8]) -> Result<u32, ScriptKind>
     ensures value { result ≡ count_field field.now }
     ensures bound { IfOk result (λ n. n ≤ 127) }
@@ -38,7 +38,7 @@ pub fn count_field(field: &[u8]) -> Result<u32, ScriptKind>
     }
 }
 
-/// Two hexadecimal digits.
+/// Reads a byte, as two hexadecimal digits. `Data` otherwise.
 pub fn byte_field(field: &[u8]) -> Result<u8, ScriptKind>
     ensures { result ≡ byte_field field.now }
 {
@@ -46,7 +46,7 @@ pub fn byte_field(field: &[u8]) -> Result<u8, ScriptKind>
     Ok(byte)
 }
 
-/// The number of a sequence, up to 255.
+/// Reads the start of a sequence, 0 to 255 in decimal. `Data` otherwise.
 pub fn seq_field(field: &[u8]) -> Result<u8, ScriptKind>
     ensures { result ≡ seq_field field.now }
 {
@@ -61,7 +61,7 @@ fn are_digits(field: &[u8]) -> bool
     field.iter().all(|byte| byte.is_ascii_hexdigit())
 }
 
-/// Whether a field is 1,024 hexadecimal digits for each of `count` blocks.
+/// Checks that a field is 1,024 hexadecimal digits for each of `count` blocks. `Data` otherwise.
 pub fn check_digits(count: u32, field: &[u8]) -> Result<(), ScriptKind>
     requires { count ≤ 127 }
     ensures { MatchResult result (λ _. digits_field count field.now ≡ Ok field.now) (λ kind. digits_field count field.now ≡ Err kind) }
@@ -76,7 +76,7 @@ pub fn check_digits(count: u32, field: &[u8]) -> Result<(), ScriptKind>
     }
 }
 
-/// A place of a word, up to 4127.
+/// Reads a place of noise, 0 to 4127 in decimal. `Bits` otherwise.
 pub fn place_field(field: &[u8]) -> Result<u16, ScriptKind>
     ensures value { result ≡ place_field field.now }
     ensures bound { IfOk result (λ place. place ≤ 4127) }

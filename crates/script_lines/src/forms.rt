@@ -22,7 +22,7 @@ use pack_geometry::{blocks, geometry_of};
 use std::alloc::Global;
 use trace_replay::NoiseSpan;
 
-/// What a line says, as it is read: the digits of a write are those of the line at a place of the text.
+/// What a line says, as it is read. The digits of a write are named by the place of their line in the text.
 pub type Read = Statement<Span, Held>;
 
 /// What a line says of noise.
@@ -56,7 +56,7 @@ fn start(known: &Known, fields: &mut Fields) -> Result<Request, ScriptKind>
     })
 }
 
-/// A number, with no field behind it.
+/// A number, with no field after it.
 fn alone(value: u16, fields: &mut Fields) -> Result<u16, ScriptKind>
     ensures { Parses (ends value) fields.old result fields.new }
 {
@@ -129,7 +129,7 @@ fn tail(start: &Request, fields: &mut Fields) -> Result<Request, ScriptKind>
     }
 }
 
-/// `DIGITS`, behind `hex`, on the line that stands at `span`.
+/// `DIGITS`, after `hex`, on the line at `span`.
 fn spelled(count: u32, span: Span, fields: &mut Fields) -> Result<Content<Span>, ScriptKind>
     requires { count ≤ 127 }
     ensures { Parses (mapped (content_by {C = List ℕ} (λ _. span)) (next (field (digits_field count)) (λ digits. gives (Content.Hex digits)))) fields.old result fields.new }
@@ -286,7 +286,7 @@ fn adapter_alone(verb: Verb, fields: &mut Fields) -> Result<Read, ScriptKind>
     }
 }
 
-/// What the fields behind a word say, where it is no noise.
+/// What the fields after a word say, for any word except `noise`.
 fn form(known: &Known, verb: Verb, span: Span, fields: &mut Fields) -> Result<Read, ScriptKind>
     requires { verb ≢ Verb.Noise }
     ensures { Parses (mapped (read_of span) (form_of (known_in known.now) verb)) fields.old result fields.new }
@@ -306,7 +306,7 @@ fn form(known: &Known, verb: Verb, span: Span, fields: &mut Fields) -> Result<Re
     }
 }
 
-/// What is wrong with a word, whatever the fields behind it.
+/// What is wrong with a word, whatever fields follow it.
 fn too_late(known: &Known, verb: Verb) -> Option<ScriptKind>
     ensures { result ≡ too_late (known_in known.now) verb }
 {
@@ -319,7 +319,7 @@ fn too_late(known: &Known, verb: Verb) -> Option<ScriptKind>
     None
 }
 
-/// What was read, where no field is left.
+/// What was read, if no field is left.
 fn ended(read: Read, fields: &mut Fields) -> Result<Read, LineFault>
     ensures { Answers result (none_left (read, fields.old)) }
 {
@@ -329,7 +329,7 @@ fn ended(read: Read, fields: &mut Fields) -> Result<Read, LineFault>
     }
 }
 
-/// What all the fields behind a word say, where it is no noise.
+/// What all the fields after a word say, for any word except `noise`.
 fn whole(known: &Known, verb: Verb, span: Span, fields: &mut Fields) -> Result<Read, LineFault>
     requires { verb ≢ Verb.Noise }
     ensures { Answers result (changed (read_of span) (whole (form_of (known_in known.now) verb) fields.old)) }
@@ -361,7 +361,7 @@ fn held(alloc: Global, struck: Struck) -> Result<Read, LineFault>
     }
 }
 
-/// What all the fields behind the word of a noise say, with its places where they stay.
+/// What all the fields after the word of a noise say, with its places stored.
 fn noise(alloc: Global, known: &Known, fields: &mut Fields) -> Result<Read, LineFault>
     ensures { (span : Span) → Answers result (changed (read_of span) (whole (noise_form (known_in known.now)) fields.old)) }
 {
@@ -371,7 +371,7 @@ fn noise(alloc: Global, known: &Known, fields: &mut Fields) -> Result<Read, Line
     }
 }
 
-/// What all the fields behind any word say.
+/// What all the fields after any word say.
 fn all_fields(
     alloc: Global,
     known: &Known,
@@ -387,7 +387,7 @@ fn all_fields(
     }
 }
 
-/// What a line with this word says.
+/// Reads what a line with this word says. Otherwise answers the kind of the line's first fault, or that there was no memory.
 pub fn said(
     alloc: Global,
     known: &Known,

@@ -2,7 +2,7 @@ use fire_code::Noise;
 use std::alloc::{AllocFailed, Global};
 use std::marker::Model;
 
-/// The places of a noise, where they stay while what a line says is handed on.
+/// The places of a noise, stored so that they stay put while what a line says is handed on.
 #[derive(Drop)]
 pub struct Held {
     noise: Box<Noise>,
@@ -21,7 +21,7 @@ impl Held {
     ghost use Rattle.std.specs.Prelude.{◌≡◌, IfOk};
     ghost use Rattle.std.specs.Box.{box_value};
 
-    /// Puts a noise there.
+    /// Stores a noise.
     pub fn new(alloc: Global, noise: Noise) -> Result<Held, AllocFailed<Noise>>
         ensures { IfOk result (λ held. held ≡ noise) }
     {
@@ -29,7 +29,7 @@ impl Held {
         Ok(Held { noise })
     }
 
-    /// The noise that is there.
+    /// The noise that is stored.
     pub fn into_noise(self) -> Box<Noise>
         ensures { box_value result ≡ self }
     {

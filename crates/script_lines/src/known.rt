@@ -15,8 +15,8 @@ const MOST_REQUESTS: u32 = 65_536;
 /// The largest number of noises in a script.
 const MOST_NOISES: u32 = 4_096;
 
-/// What the lines so far said of units and ids, and how many requests and noises there were. The ids from `low` up to
-/// `next` came one after another; the others are in the tree.
+/// What the lines so far said about units and ids, and how many requests and noises they brought. The ids from `low` up to `next` came
+/// one after another; the other ids are in the tree.
 #[derive(Drop)]
 pub struct Known {
     kinds: [Option<DriveKind>; 256],
@@ -39,7 +39,7 @@ fn unit_number(field: &[u8]) -> Result<u8, ScriptKind>
 }
 
 impl Known {
-    /// Before the first line.
+    /// What is known before the first line.
     pub fn new(alloc: Global) -> Known
         ensures kinds { (u : ℕ) → (known_in result).kinds u ≡ None }
         ensures used { (id : ℕ) → (known_in result).used id ≡ false }
@@ -65,7 +65,7 @@ impl Known {
         self.later
     }
 
-    /// Whether a line with this word would be one request or one noise too many.
+    /// Whether a line with this word would bring one request or one noise too many.
     pub fn is_full(&self, verb: Verb) -> bool
         ensures { result ≡ is_full (known_in self.now) verb }
     {
@@ -178,7 +178,7 @@ impl Known {
         self.learn_id(id)
     }
 
-    /// Takes in what a line says.
+    /// Records what a line says.
     pub fn learn<D, N>(&mut self, statement: &Statement<D, N>) -> Result<(), AllocFailed<u32>>
         requires requests { (known_in self.old).requests < 1000000 }
         requires noises { (known_in self.old).noises < 1000000 }

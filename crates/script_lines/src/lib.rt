@@ -1,16 +1,16 @@
-//! What one line of a script says, behind what the lines before it said.
+//! What one line of a script says, given what the lines before it said.
 //!
-//! What is proved: `said`: what the fields behind a word say, or the kind of the first fault, just as the form of that word has
-//! it; `Known` is what the lines so far leave known of units, ids, requests and noises.
+//! What is proved: `said` gives what the fields after a word say, or the kind of the first fault, exactly as the form of that word
+//! defines them. `Known` is what the lines so far tell about units, ids, requests and noises.
 //!
-//! Only tested, in `hpsim_rows`: worked values, beside their proofs.
+//! Only tested, in `hpsim_rows`: worked values, in addition to their proofs.
 //!
-//! The words and numbers of a script's line, what can be wrong with one, and the text that says so.
+//! The crate also reads the words and numbers of a line, names what can be wrong with a line, and writes the text that says so.
 //!
-//! What is proved: each field is read exactly: its value, or the kind of its fault; the text of a refusal is just `refused line
-//! L KIND`. `is_word`, `offset_in` and `fault_in` read words that traces have too.
+//! What is proved: each field is read exactly: the answer is its value, or the kind of its fault. The text of a refusal is exactly
+//! `refused line L KIND`. `is_word`, `offset_in` and `fault_in` read words that also occur in traces.
 //!
-//! Only tested, in `hpsim_rows`: worked values, beside their proofs.
+//! Only tested, in `hpsim_rows`: worked values, in addition to their proofs.
 #![tactic(auto)]
 
 mod fault;

@@ -1,4 +1,4 @@
-// Fields that are read off the front of a line: each is one field, and a missing one is a fault of words.
+// Fields that are taken from the front of a line. Each function takes one field, and answers `Word` if there is none.
 ghost use Rattle.std.specs.Prelude.{◌≤◌, IfOk};
 ghost use Rattle.script_lines.specs.Fields.{number_field, count_field, kind_field, part_field, offset_field, fault_field, byte_field, seq_field, digits_field, changed};
 ghost use Rattle.script_lines.specs.Known.{new_unit_field, unit_field, id_field};
@@ -16,7 +16,7 @@ use pack_geometry::DriveKind;
 use partitions::Part;
 use trace_replay::FaultKind;
 
-/// The next field: a decimal number from `low` to `high`. `Word` where there is none.
+/// Takes the next field, a decimal number from `low` to `high`. `Word` if there is no field.
 #[tactic(auto, using(crate::proofs::FieldLaws::field_read))]
 pub fn next_number(fields: &mut Fields, low: u32, high: u32) -> Result<u32, ScriptKind>
     ensures value { Parses (field (number_field low high)) fields.old result fields.new }
@@ -28,7 +28,7 @@ pub fn next_number(fields: &mut Fields, low: u32, high: u32) -> Result<u32, Scri
     }
 }
 
-/// The next field: how many blocks, 1 to 127. `Word` where there is none.
+/// Takes the next field, a count of blocks, 1 to 127. `Word` if there is no field.
 #[tactic(auto, using(crate::proofs::FieldLaws::field_read))]
 pub fn next_count(fields: &mut Fields) -> Result<u32, ScriptKind>
     ensures value { Parses (field count_field) fields.old result fields.new }
@@ -51,7 +51,7 @@ pub(crate) fn part(fields: &mut Fields) -> Result<Part, ScriptKind>
     }
 }
 
-/// The next field: a kind of drive. `Word` where there is none.
+/// Takes the next field, a kind of drive. `Word` if there is no field.
 #[tactic(auto, using(crate::proofs::FieldLaws::field_read))]
 pub fn next_kind(fields: &mut Fields) -> Result<DriveKind, ScriptKind>
     ensures { Parses (field kind_field) fields.old result fields.new }
@@ -84,7 +84,7 @@ pub(crate) fn fault(fields: &mut Fields) -> Result<FaultKind, ScriptKind>
     }
 }
 
-/// The next field: a byte, as two hexadecimal digits. `Word` where there is none.
+/// Takes the next field, a byte as two hexadecimal digits. `Word` if there is no field.
 #[tactic(auto, using(crate::proofs::FieldLaws::field_read))]
 pub fn next_byte(fields: &mut Fields) -> Result<u8, ScriptKind>
     ensures { Parses (field byte_field) fields.old result fields.new }

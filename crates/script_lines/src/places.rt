@@ -28,7 +28,7 @@ fn places_from(first: u16, fields: &mut Fields) -> Result<Noise, ScriptKind>
     }
 }
 
-/// The places of a noise: 1 to 64 numbers up to 4127 in strictly ascending order, which take all that is left.
+/// Reads the places of a noise: 1 to 64 numbers up to 4127, in strictly ascending order. They take up the rest of the line.
 pub fn places(fields: &mut Fields) -> Result<Noise, ScriptKind>
     ensures { Parses places_form fields.old result fields.new }
 {

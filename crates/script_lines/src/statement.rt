@@ -2,15 +2,15 @@ use pack_geometry::DriveKind;
 use partitions::Part;
 use trace_replay::{FaultKind, NoiseSpan};
 
-/// Where a line stands in the text of a script, in bytes: from `start` up to `end`. A text has at most 16 MiB.
+/// The place of a line in the text of a script, in bytes: from `start` up to but not including `end`. A text has at most 16 MiB.
 #[derive(Clone, Copy)]
 pub struct Span {
     pub start: u32,
     pub end: u32,
 }
 
-/// What a line asks of blocks: `count` of them, 1 to 127, from `block` of a unit's partition on. The first byte stands
-/// `offset` bytes into its frame, 0 to 511, and `last` bytes of the last block are asked for, 1 to 512.
+/// The blocks that a line asks for: `count` of them, 1 to 127, from `block` of a unit's partition on. The first byte lies `offset`
+/// bytes into its frame, 0 to 511. `last` bytes of the last block are asked for, 1 to 512.
 #[derive(Clone, Copy)]
 pub struct Request {
     pub id: u32,
@@ -25,7 +25,7 @@ pub struct Request {
 /// What a write writes.
 #[derive(Drop)]
 pub enum Content<D> {
-    /// This byte, again and again.
+    /// This byte, repeated.
     Fill(u8),
     /// Byte t of block j is the sum of this number, j and t, modulo 256.
     Seq(u8),
@@ -33,7 +33,7 @@ pub enum Content<D> {
     Hex(D),
 }
 
-/// What a line says. `D` is how the digits of a write are named, and `N` how the places of a noise are.
+/// What a line says. `D` names the digits of a write, and `N` names the places of a noise.
 #[derive(Drop)]
 pub enum Statement<D, N> {
     /// A drive is declared.
@@ -74,21 +74,21 @@ pub enum Statement<D, N> {
         span: NoiseSpan,
         places: N,
     },
-    /// A fault is armed so many times, 1 to 1000.
+    /// A fault is armed for `times` times, 1 to 1000.
     Fault {
         unit: u8,
         what: FaultKind,
         times: u32,
     },
-    /// A drive goes off line.
+    /// A drive goes offline.
     Offline {
         unit: u8,
     },
-    /// A drive comes on line.
+    /// A drive comes online.
     Online {
         unit: u8,
     },
-    /// A drive is locked against writing.
+    /// A drive is write-locked.
     Lock {
         unit: u8,
     },
@@ -100,7 +100,7 @@ pub enum Statement<D, N> {
     Drain,
 }
 
-/// A line that says something, with its number from 1.
+/// A line that says something, with its number, counted from 1.
 #[derive(Drop)]
 pub struct Line<D, N> {
     pub number: u32,

@@ -18,7 +18,7 @@ pub fn is_word(field: &[u8], word: &[u8]) -> bool
     field == word
 }
 
-/// The word at the front of a line, where it is one of the first seven.
+/// The word at the front of a line, if it is one of the first seven.
 fn first_verb(word: &[u8]) -> Option<Verb>
     ensures { result ≡ named verb_word first_verbs word.now }
 {
@@ -41,7 +41,7 @@ fn first_verb(word: &[u8]) -> Option<Verb>
     }
 }
 
-/// The word at the front of a line, where it is one of the others.
+/// The word at the front of a line, if it is one of the others.
 fn later_verb(word: &[u8]) -> Option<Verb>
     ensures { result ≡ named verb_word later_verbs word.now }
 {
@@ -64,7 +64,7 @@ fn later_verb(word: &[u8]) -> Option<Verb>
     }
 }
 
-/// The word at the front of a line.
+/// Reads the word at the front of a line. `Word` if it is not one of them.
 pub fn verb(word: &[u8]) -> Result<Verb, ScriptKind>
     ensures { result ≡ some_or ScriptKind.Word (named verb_word all_verbs word.now) }
 {
@@ -74,14 +74,14 @@ pub fn verb(word: &[u8]) -> Result<Verb, ScriptKind>
     }
 }
 
-/// A kind of drive.
+/// Reads a kind of drive. `Word` if the field names none.
 pub fn kind_field(word: &[u8]) -> Result<DriveKind, ScriptKind>
     ensures { result ≡ kind_field word.now }
 {
     kind_of(word).ok_or(ScriptKind::Word)
 }
 
-/// A partition's letter.
+/// Reads a partition's letter. `Word` if the field names none.
 pub fn part_field(word: &[u8]) -> Result<Part, ScriptKind>
     ensures { result ≡ part_field word.now }
 {
@@ -91,7 +91,7 @@ pub fn part_field(word: &[u8]) -> Result<Part, ScriptKind>
     part_of(word[0]).ok_or(ScriptKind::Word)
 }
 
-/// The offset of the heads that a word names.
+/// The offset of the heads that a word names. None if it names none.
 pub fn offset_in(word: &[u8]) -> Option<OffsetCode>
     ensures { result ≡ named offset_word offsets word.now }
 {
@@ -112,7 +112,7 @@ pub fn offset_in(word: &[u8]) -> Option<OffsetCode>
     }
 }
 
-/// The kind of fault that a word names.
+/// The kind of fault that a word names. None if it names none.
 pub fn fault_in(word: &[u8]) -> Option<FaultKind>
     ensures { result ≡ named fault_word faults word.now }
 {
@@ -131,14 +131,14 @@ pub fn fault_in(word: &[u8]) -> Option<FaultKind>
     }
 }
 
-/// An offset of the heads.
+/// Reads an offset of the heads. `Word` if the field names none.
 pub fn offset_field(word: &[u8]) -> Result<OffsetCode, ScriptKind>
     ensures { result ≡ offset_field word.now }
 {
     offset_in(word).ok_or(ScriptKind::Word)
 }
 
-/// A kind of fault.
+/// Reads a kind of fault. `Word` if the field names none.
 pub fn fault_field(word: &[u8]) -> Result<FaultKind, ScriptKind>
     ensures { result ≡ fault_field word.now }
 {

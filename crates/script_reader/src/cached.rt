@@ -1,8 +1,8 @@
-//! Scripts of the cache: what their lines say, and the reader of a whole one.
+//! Scripts of the cache: what their lines say, and the reader of a whole script.
 //!
-//! What is proved: `read_cached`: Ok gives just the lines that the bytes spell by the grammar, and a refusal its first fault, by line
-//! and kind; `cached_grammar_law`: one of both, and never both. What a script holds is always what some bytes spell. Only tested:
-//! that memory suffices.
+//! What is proved: `read_cached`: Ok gives exactly the lines that the bytes spell by the grammar, and a refusal names the first fault,
+//! by line and kind. `cached_grammar_law`: any bytes have a script or a fault, and never both. What a script holds is always what some
+//! bytes spell. Only tested: that memory suffices.
 
 mod forms;
 mod kind;

@@ -19,7 +19,7 @@ fn part(text: &[u8], span: Span) -> &[u8]
     &text[start..end]
 }
 
-/// Passes over a field, where there is one.
+/// Passes over a field, if there is one.
 fn skip(fields: &mut Fields)
     ensures { fields.new ≡ drop 1 fields.old }
 {
@@ -29,7 +29,7 @@ fn skip(fields: &mut Fields)
     }
 }
 
-/// The next field, or nothing where there is none.
+/// The next field, or nothing if there is none.
 fn field_or_nothing<'a>(fields: &mut Fields<'a>) -> &'a [u8]
     ensures { result.now ≡ slice_index_or fields.old 0 [] }
 {
@@ -39,7 +39,7 @@ fn field_or_nothing<'a>(fields: &mut Fields<'a>) -> &'a [u8]
     }
 }
 
-/// The eighth field of a line, or nothing where it has fewer.
+/// The eighth field of a line, or nothing if the line has fewer fields.
 #[tactic(auto, using(crate::proofs::DataLaws::drop_more, crate::proofs::DataLaws::eighth_of))]
 fn eighth(line: &[u8]) -> &[u8]
     ensures { result.now ≡ slice_index_or (pieces line.now) 7 [] }
@@ -51,7 +51,7 @@ fn eighth(line: &[u8]) -> &[u8]
     field_or_nothing(&mut fields)
 }
 
-/// Puts one byte everywhere.
+/// Fills `into` with one byte.
 pub fn fill(byte: u8, into: &mut [u8])
     ensures { IsFilled byte into.new }
 {
@@ -83,7 +83,7 @@ pub(crate) fn sequence(first: u8, into: &mut [u8])
     ascend(next, &mut into[start..]);
 }
 
-/// Puts the bytes that the digits of a line say; false exactly where there are not two digits for each byte.
+/// Puts the bytes that the digits of a line say. False exactly if there are not two digits for each byte.
 pub(crate) fn decode(text: &[u8], span: Span, into: &mut [u8]) -> bool
     ensures { IsDecoded (slice_index_or (pieces (slice_range text.now span.start span.end)) 7 []) (length into.old) result into.new }
 {

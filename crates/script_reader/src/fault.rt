@@ -8,7 +8,7 @@ pub enum ReadFault {
     /// There was no memory.
     #[error("there is no memory")]
     Memory,
-    /// The first faulty line, counted from 1, and its fault; the line is 0 where the script is too long.
+    /// The first faulty line, counted from 1, and its fault. The line is 0 if the script is too long.
     #[error("line {line} is refused")]
     Refused { line: u64, kind: ScriptKind },
 }

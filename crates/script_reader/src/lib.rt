@@ -1,11 +1,11 @@
-//! Scripts: the words of their lines, and the reader of a whole script; and of one of the cache (`cached`).
+//! Scripts: the words of their lines, the reader of a whole script, and the reader of a script of the cache (`cached`).
 //!
-//! What is proved: `read_script`: Ok gives just the lines that the bytes spell by the grammar, and a refusal its first fault,
-//! by line and kind; `grammar_law`: one of both, and never both, for any list of words that are played. `read_back_law`: the
-//! text of well-formed statements spells just those, and what any text spells is well formed. `Script::data` gives the bytes
-//! that a write writes.
+//! What is proved: `read_script`: Ok gives exactly the lines that the bytes spell by the grammar, and a refusal names the first fault,
+//! by line and kind. `grammar_law`: any bytes have a script or a fault, and never both, for any list of words that are played.
+//! `read_back_law`: the text of well-formed statements spells exactly those statements, and what any text spells is well formed.
+//! `Script::data` gives the bytes that a write writes.
 //!
-//! Only tested, in `hpsim_rows`: worked values, beside their proofs.
+//! Only tested, in `hpsim_rows`: worked values, in addition to their proofs.
 #![tactic(auto)]
 
 pub mod cached;

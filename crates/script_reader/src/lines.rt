@@ -32,7 +32,7 @@ fn find_feed(bytes: &[u8]) -> Option<usize>
     None
 }
 
-/// The first piece of a text that is not empty, and what comes after it.
+/// The first piece of a text that is not empty, and the text that follows it.
 pub fn first_piece(bytes: &[u8]) -> (&[u8], &[u8])
     requires { 0 < length bytes.now }
     ensures line { pieces_of bytes.now ≡ result.0.now ∷ pieces_of result.1.now }
@@ -46,7 +46,7 @@ pub fn first_piece(bytes: &[u8]) -> (&[u8], &[u8])
     }
 }
 
-/// A piece without the CR at its very end.
+/// A piece without the CR at its very end, if it has one there.
 pub fn without_cr(piece: &[u8]) -> &[u8]
     ensures value { result.now ≡ without_cr piece.now }
     ensures front { result.now ≡ take (length result.now) piece.now }

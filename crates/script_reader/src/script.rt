@@ -37,10 +37,10 @@ const MOST_LINES: u32 = 1_000_000;
 /// The longest line, in bytes.
 const LONGEST_LINE: usize = 140_000;
 
-/// A line as a script holds it: the digits of a write are those of the line at a place of the text.
+/// A line as a script holds it. The digits of a write are named by the place of their line in the text.
 pub type Stored = Line<Span, Box<Noise>>;
 
-/// A statement, where one was read.
+/// A statement, if one was read.
 fn some_read(read: Result<Read, LineFault>) -> Result<Option<Read>, LineFault>
     ensures { result ≡ and_then read (λ r. Ok (Some r)) }
 {
@@ -50,7 +50,7 @@ fn some_read(read: Result<Read, LineFault>) -> Result<Option<Read>, LineFault>
     }
 }
 
-/// What fields say, on the line at `span` of the text; None where there is none.
+/// What fields say, on the line at `span` of the text. None if there is no field.
 fn entry(
     alloc: Global,
     known: &Known,
@@ -68,7 +68,7 @@ fn entry(
     }
 }
 
-/// What line number `number` says, at `span` of the text; None where it is passed over.
+/// What line number `number` says, at `span` of the text. None if the line is passed over.
 fn line_says(
     alloc: Global,
     known: &Known,
@@ -123,7 +123,7 @@ fn kept(read: Read) -> Statement<Span, Box<Noise>>
     }
 }
 
-/// Puts line number `number` behind the others.
+/// Adds line number `number` after the others.
 fn put_behind(
     number: u32,
     statement: Statement<Span, Box<Noise>>,
@@ -159,7 +159,7 @@ fn store(
     }
 }
 
-/// Stores what was read of line number `number`, where it says something.
+/// Stores what was read of line number `number`, if it says something.
 fn store_some(
     number: u32,
     read: Option<Read>,
@@ -180,7 +180,7 @@ fn store_some(
     }
 }
 
-/// The lines that were read, and the number of the line behind the last.
+/// The lines that were read, and the number of the line after the last one.
 #[derive(Drop)]
 struct Lines {
     lines: Vec<Stored>,
@@ -242,7 +242,7 @@ fn read_lines(alloc: Global, text: &[u8]) -> Result<Lines, ReadFault>
     }
 }
 
-/// A script: its text, its lines that say something, and how many lines it has in all.
+/// A script: its text, those of its lines that say something, and the number of all its lines.
 #[derive(Drop)]
 pub struct Script {
     text: Vec<u8>,
@@ -258,9 +258,9 @@ impl Model for Script {
     ghost view = { λ s. record { text = s.text.items; lines = s.lines.items; count = s.count } };
 }
 
-/// Reads a script from its bytes. It is refused exactly where the bytes spell none, with the first fault: Refused at
-/// line 0 as ScriptLong for more than 16 MiB; else the first line that is faulty, and its kind. Memory tells only
-/// that there was none.
+/// Reads a script from its bytes. It is refused exactly if the bytes spell no script. The refusal names the first fault: `ScriptLong`
+/// at line 0 if there are more than 16 MiB, and otherwise the first faulty line with its kind. `Memory` comes only if there was no
+/// memory.
 pub fn read_script(alloc: Global, bytes: Vec<u8>) -> Result<Script, ReadFault>
     ensures ok { IfOk result (λ script. Spells all_verbs bytes.items (lines_in script) script.count) }
     ensures text { IfOk result (λ script. script.text ≡ bytes.items) }
@@ -290,15 +290,14 @@ impl Script {
         self.lines.as_slice()
     }
 
-    /// How many lines there are in all, those that are passed over among them.
+    /// The number of all lines, including those that are passed over.
     pub fn count(&self) -> u32
         ensures { result ≡ self.now.count }
     {
         self.count
     }
 
-    /// Puts what a write writes, in whole blocks: `into` has 512 bytes for each. False exactly where the digits are not two
-    /// for each byte.
+    /// Puts what a write writes into `into`, in whole blocks of 512 bytes. False exactly if the digits are not two for each byte.
     pub fn data(&self, content: &Content<Span>, into: &mut [u8]) -> bool
         ensures { IsData (content_by (digits_at self.now.text) content.now) (length into.old) result into.new }
     {
@@ -316,8 +315,8 @@ impl Script {
     }
 }
 
-/// The law of the grammar, for any words that are played: bytes spell one list of lines, or have one first fault,
-/// never both and never neither.
+/// The law of the grammar, for any words that are played: any bytes spell exactly one list of lines or have exactly one first fault,
+/// and never both.
 pub fn grammar_law()
     ensures one_script { (played : List Verb) (bytes : List ℕ) (lines others : List Numbered) (count other : ℕ) → Spells played bytes lines count → Spells played bytes others other → (lines ≡ others) × (count ≡ other) }
     ensures no_fault { (played : List Verb) (bytes : List ℕ) (lines : List Numbered) (count : ℕ) → Spells played bytes lines count → (number : ℕ) (kind : ScriptKind) → ¬ IsRefused played bytes number kind }
@@ -325,7 +324,7 @@ pub fn grammar_law()
     ensures some { (played : List Verb) (bytes : List ℕ) → ((lines : List Numbered) × (count : ℕ) × Spells played bytes lines count) ⊎ ((number : ℕ) × (kind : ScriptKind) × IsRefused played bytes number kind) }
 {}
 
-/// The law of printed lines: the text of well-formed statements spells just those, one on each line; and what any text
+/// The law of printed lines: the text of well-formed statements spells exactly those statements, one on each line; and what any text
 /// spells is well formed.
 pub fn read_back_law()
     ensures back { (statements : List Said) → AreWell (known_of {D = List ℕ} {N = List ℕ} []) statements → length statements ≤ 1000000 → length (text_of statements) ≤ 16777216 → Spells all_verbs (text_of statements) (numbered 1 statements) (length statements) }

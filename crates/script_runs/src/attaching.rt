@@ -23,9 +23,9 @@ use script_reader::meaning::meaning_law;
 use script_reader::{Script, Statement, Stored};
 use std::alloc::Global;
 
-/// Attaches a unit, one of the 32, with the table of its pack. The packs stay.
+/// Attaches a unit, one of the 32, with the table of its pack. The packs stay as they were.
 ///
-/// TooLong comes where its image has more bytes than the blocks of its drive, and Store only where the packs' count of faults rose.
+/// `TooLong` comes if its image has more bytes than the blocks of its drive, and `Store` only if the packs' count of faults rose.
 pub(crate) fn attach_unit<P: Packs>(
     unit: u8,
     kind: DriveKind,
@@ -76,10 +76,10 @@ fn attach_line<P: Packs>(
     }
 }
 
-/// Attaches the units that a script declares, in the order of their lines, with the tables of their packs. The packs stay.
+/// Attaches the units that a script declares, in the order of their lines, with the tables of their packs. The packs stay as they were.
 ///
-/// TooLong comes for the first of them whose image has more bytes than the blocks of its drive; Store only where the packs' count
-/// of faults rose; Memory where there was none.
+/// `TooLong` names the first unit whose image has more bytes than the blocks of its drive. `Store` comes only if the packs' count of
+/// faults rose, and `Memory` only if there was no memory.
 pub fn attach_units<P: Packs>(
     alloc: Global,
     script: &Script,

@@ -41,10 +41,11 @@ fn attach_declared<P: Packs>(
     }
 }
 
-/// Attaches the units that a script of the cache declares, in the order of their lines, with the tables of their packs. The packs stay.
+/// Attaches the units that a script of the cache declares, in the order of their lines, with the tables of their packs. The packs stay
+/// as they were.
 ///
-/// TooLong comes for the first of them whose image has more bytes than the blocks of its drive; Store only where the packs' count
-/// of faults rose; Memory where there was none.
+/// `TooLong` names the first unit whose image has more bytes than the blocks of its drive. `Store` comes only if the packs' count of
+/// faults rose, and `Memory` only if there was no memory.
 pub fn attach_cached<P: Packs>(
     alloc: Global,
     script: &CachedScript,

@@ -1,5 +1,5 @@
-//! Where the answers of a script of the cache are written: what is gathered for their sink, and room for the blocks of a read and for
-//! their lines.
+//! The desk at which the answers of a script of the cache are written: the text that is gathered for their sink, and room for the
+//! blocks of a read and for the lines of these blocks.
 
 ghost use Rattle.std.specs.Prelude.{ℕ, ◌≡◌, ◌<◌, ◌≤◌, [], IfOk, OnOk, length, take, slice_index_or};
 ghost use Rattle.outside_traits.specs.Puts.{Puts};
@@ -19,7 +19,7 @@ const ANSWER_ROOM: u32 = 16384;
 /// How many blocks a request has at most.
 const MOST_BLOCKS: usize = 127;
 
-/// Text that is gathered for a sink, the blocks of a read, and the line of one.
+/// Text that is gathered for a sink, the blocks of a read, and the line of one block.
 #[derive(Drop)]
 pub struct Desk {
     pub gather: Gather,
@@ -28,7 +28,7 @@ pub struct Desk {
 }
 
 impl Desk {
-    /// A desk at which nothing is gathered yet.
+    /// Creates a desk at which nothing is gathered yet.
     pub fn new(alloc: Global) -> Result<Desk, NoMemory>
         ensures gather { IfOk result (λ desk. desk.gather ≡ []) }
         ensures blocks { IfOk result (λ desk. length desk.blocks.items ≡ 127) }
@@ -53,7 +53,7 @@ fn gather_block<O: Sink>(k: u32, desk: &mut Desk, out: &mut O) -> Result<(), Sin
     desk.gather.put(desk.line.as_bytes(), out)
 }
 
-/// Gathers the lines of the first blocks at the desk, so many.
+/// Gathers the lines of the first `count` blocks at the desk.
 fn gather_blocks<O: Sink>(count: u32, desk: &mut Desk, out: &mut O) -> Result<(), SinkFailed>
     requires { count ≤ length desk.old.blocks.items }
     ensures gathers { Gathers O.tells O.taken O.faults out.old out.new desk.old.gather desk.new.gather result (block_texts 0 (take count desk.old.blocks.items)) }
@@ -66,7 +66,7 @@ fn gather_blocks<O: Sink>(count: u32, desk: &mut Desk, out: &mut O) -> Result<()
     Ok(())
 }
 
-/// Gathers what is said behind the line of an answer: the blocks of a read.
+/// Gathers what follows the line of an answer: the blocks of a read.
 fn gather_rest<O: Sink>(kind: AnswerKind, desk: &mut Desk, out: &mut O) -> Result<(), SinkFailed>
     requires { (count last : ℕ) → kind ≡ AnswerKind.ReadOk count last → count ≤ length desk.old.blocks.items }
     ensures gathers { Gathers O.tells O.taken O.faults out.old out.new desk.old.gather desk.new.gather result (rest_text kind desk.old.blocks.items) }
@@ -79,7 +79,8 @@ fn gather_rest<O: Sink>(kind: AnswerKind, desk: &mut Desk, out: &mut O) -> Resul
     }
 }
 
-/// Writes the answer to the request of an id, which came at a line. Nothing is gathered at the desk before and behind it.
+/// Writes the answer to the request with an id, which came at a line. Nothing may be gathered at the desk before the call, and nothing
+/// is after Ok.
 pub fn write_answer<O: Sink>(
     line: u64,
     id: u32,

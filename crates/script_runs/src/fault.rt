@@ -12,7 +12,7 @@ pub enum PlayFault {
     /// The image of a unit is longer than its pack. Nothing was played.
     #[error("the image of unit {unit} has {length} bytes")]
     TooLong { unit: u8, length: u64 },
-    /// A call on the packs failed.
+    /// A call of the packs failed.
     #[error("the packs failed")]
     Store,
     /// A call of a sink failed.

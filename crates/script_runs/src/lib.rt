@@ -1,14 +1,15 @@
-//! What stands before a script is played: its units, why it may not be played to its end, and what is known of its run.
+//! What is settled before a script is played: its units, why it may not be played to its end, and what is known of its run.
 //!
-//! What is proved: each script has just one run that is legal (`one`), and what stands where a run stops (`stops`), by laws.
-//! `attach_units`, `attach_cached`: the setups are those that the script's lines declare, each table is valid, and where
-//! the packs tell it is that of the pack (`IsSet`); TooLong comes for the first image that is too long, and where none comes no image is
-//! (`IsLongFor`, `IsTooLong`). The packs stay, and Store comes only where they failed.
+//! What is proved: laws say that each script has exactly one legal run (`one`), and what is left where a run stops (`stops`).
+//! `attach_units` and `attach_cached` give the setups that the script's lines declare. Each table is valid, and if the packs tell, it
+//! is the table of its pack (`IsSet`). `TooLong` comes for the first image that is too long; if it does not come, no image is too long
+//! (`IsLongFor`, `IsTooLong`). The packs stay, and `Store` comes only if they failed.
 //!
-//! `desk`: `write_answer` gives the sink just the line of an answer, with those of the blocks of a read (`Puts`, `said_text`).
+//! `desk`: `write_answer` gives the sink exactly the line of an answer, followed by those of the blocks of a read (`Puts`,
+//! `said_text`).
 //!
-//! Defined in `specs/` beside these: what each `PlayFault` tells of packs and sinks (`Rise`, `HaveTold`, `AreUntouched`), and images that
-//! are too long for their drives (`NamesTooLong`).
+//! Also defined in `specs/`: what each `PlayFault` tells of packs and sinks (`Rise`, `HaveTold`, `AreUntouched`), and images that are
+//! too long for their drives (`NamesTooLong`).
 #![tactic(auto)]
 
 mod attaching;
