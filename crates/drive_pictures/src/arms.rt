@@ -24,7 +24,7 @@ pub struct Arm {
     pub path: Option<Path>,
 }
 
-/// A path, and a cylinder where the arm was seen behind it.
+/// A path, and a cylinder where the arm was seen after it.
 fn path_with(path: Option<Path>, cylinder: u32) -> Option<Path>
     ensures { result ≡ path_with path cylinder }
 {
@@ -44,7 +44,7 @@ fn path_with(path: Option<Path>, cylinder: u32) -> Option<Path>
     }
 }
 
-/// A path, and one behind it.
+/// A path, and another one after it.
 pub(crate) fn join_paths(path: Option<Path>, behind: Option<Path>) -> Option<Path>
     ensures { result ≡ paths_joined path behind }
 {
@@ -63,7 +63,7 @@ pub(crate) fn join_paths(path: Option<Path>, behind: Option<Path>) -> Option<Pat
 }
 
 impl Arm {
-    /// Before the run: on cylinder 0.
+    /// An arm before the run: on cylinder 0.
     pub fn new() -> Arm
         ensures { result ≡ new_arm }
     {
@@ -75,7 +75,7 @@ impl Arm {
         }
     }
 
-    /// The arm is seen where it is, and goes to a cylinder.
+    /// Notes the arm where it is, and sends it to a cylinder.
     pub(crate) fn send(&mut self, target: u32)
         ensures { self.new ≡ sent target self.old }
     {
@@ -83,7 +83,7 @@ impl Arm {
         self.target = target;
     }
 
-    /// The arm is at a cylinder, and has moved over those between.
+    /// Brings the arm to a cylinder; it has moved over those between.
     pub(crate) fn reach(&mut self, cylinder: u32)
         ensures { self.new ≡ reached cylinder self.old }
     {

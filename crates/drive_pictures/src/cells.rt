@@ -8,7 +8,7 @@ use crate::counts::plus;
 use crate::letters::Letter;
 use crate::marks::Mark;
 
-/// Behind how many events each letter stands; behind the others the drive is idle.
+/// After how many events each letter stands; after the others the drive is idle.
 #[derive(Clone, Copy)]
 pub struct Tally {
     pub seeks: u64,
@@ -23,8 +23,8 @@ pub struct Tally {
     pub moved: u64,
 }
 
-/// A drive in a column: its letters; where its arm was seen, and where it is behind the last event; the most requests that
-/// wait; the gravest mark and signal, the widest offset in hundreds, the highest number of a try; and its condition behind any
+/// A drive in a column: its letters; where its arm was seen, and where it is after the last event; the most requests that
+/// wait; the gravest mark and signal, the widest offset in hundreds, the highest number of a try; and its condition after any
 /// event.
 #[derive(Clone, Copy)]
 pub struct Cell {
@@ -59,7 +59,7 @@ impl Tally {
         }
     }
 
-    /// An event more, behind which a letter stands.
+    /// Counts one more event, after which a letter stands.
     pub fn count(&mut self, letter: Letter)
         ensures { self.new ≡ tallied letter self.old }
     {
@@ -80,7 +80,7 @@ impl Tally {
 }
 
 impl Cell {
-    /// Of no event.
+    /// A cell of no event.
     pub fn new() -> Cell
         ensures { result ≡ new_cell }
     {

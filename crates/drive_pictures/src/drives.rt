@@ -1,4 +1,4 @@
-//! What is known of a drive behind a moment, and what each moment does to it.
+//! What is known of a drive after a moment, and what each moment does to the drive.
 
 ghost use Rattle.std.specs.Prelude.{◌≡◌, ◌<◌};
 ghost use Rattle.drive_pictures.specs.Arms.{sent};
@@ -27,7 +27,7 @@ pub struct Seen {
     pub tried: u32,
 }
 
-/// Events by what a drive did behind them: it was on its way, was ready and waited for its adapter, or held it.
+/// Events, counted by what a drive did after them: it was on its way, was ready and waited for its adapter, or held its adapter.
 #[derive(Clone, Copy)]
 pub struct Times {
     pub way: u64,
@@ -36,7 +36,7 @@ pub struct Times {
 }
 
 /// The requests of a drive: how many joined, were served, and wait; the event of the last end; the cylinder of the last that
-/// joined, and how far the arm would have moved from request to request as asked.
+/// joined, and how far the arm would have moved from request to request in the order asked.
 #[derive(Clone, Copy)]
 pub struct Queue {
     pub joined: u64,
@@ -50,7 +50,7 @@ pub struct Queue {
 /// A drive.
 #[derive(Clone, Copy)]
 pub struct Drive {
-    /// Its kind, where a script declares it.
+    /// Its kind, if a script declares the drive.
     pub kind: Option<DriveKind>,
     /// What it does.
     pub letter: Letter,
@@ -66,9 +66,9 @@ pub struct Drive {
     pub since: Times,
     /// All events.
     pub all: Times,
-    /// It is offline.
+    /// Whether it is offline.
     pub offline: bool,
-    /// It is locked against writing.
+    /// Whether it is locked against writing.
     pub locked: bool,
     /// What was seen of it in the column at hand.
     pub cell: Cell,
@@ -108,7 +108,7 @@ impl Seen {
 }
 
 impl Times {
-    /// No event.
+    /// Times of no event.
     pub fn new() -> Times
         ensures { result ≡ blank }
     {
@@ -119,7 +119,7 @@ impl Times {
         }
     }
 
-    /// An event more, behind which a letter stands.
+    /// Counts one more event, after which a letter stands.
     fn count(&mut self, letter: Letter)
         ensures { self.new ≡ counted letter self.old }
     {
@@ -184,7 +184,7 @@ pub fn cylinder_blocks(kind: DriveKind) -> u32
 }
 
 impl Drive {
-    /// Before the run, of a kind where a script declares one.
+    /// A drive before the run, with its kind if a script declares one.
     pub fn new(kind: Option<DriveKind>) -> Drive
         ensures { result ≡ new_drive kind }
     {
@@ -216,7 +216,7 @@ impl Drive {
         }
     }
 
-    /// The request at a place is in hand.
+    /// Whether the request at a place is in hand.
     pub(crate) fn is_in_hand(&self, place: usize) -> bool
         ensures { result ≡ is_at self.now.trial.hand place }
     {
@@ -226,14 +226,14 @@ impl Drive {
         }
     }
 
-    /// A mark is shown unless a graver one is.
+    /// Shows a mark, unless a graver one is shown.
     pub fn mark(&mut self, mark: Mark)
         ensures { self.new ≡ marked mark self.old }
     {
         self.seen.mark = self.seen.mark.later(mark);
     }
 
-    /// Where the drive was there, its arm is at the block's cylinder.
+    /// If the drive was there, its arm is at the block's cylinder.
     fn reach_block(&mut self, verdict: Moved, block: u32)
         ensures { self.new ≡ record self.old { arm = verdict_arm verdict self.old.kind block self.old.arm } }
     {
@@ -312,7 +312,7 @@ impl Drive {
         }
     }
 
-    /// A line of the trace, but an end, for the request at a place.
+    /// Takes in a line of the trace, except an end, for the request at a place.
     pub fn tell(&mut self, place: usize, deed: &Told)
         ensures { self.new ≡ tells place deed.now self.old }
     {
@@ -320,7 +320,7 @@ impl Drive {
         self.say(deed);
     }
 
-    /// A line of the script changes the drive.
+    /// Changes the drive as a line of the script says.
     pub fn change(&mut self, change: Change)
         ensures { self.new ≡ changed change self.old }
     {
@@ -348,7 +348,7 @@ impl Drive {
         self.mark(mark);
     }
 
-    /// A request joins, at its first block's cylinder.
+    /// A request joins, with the cylinder of its first block.
     pub fn join(&mut self, cylinder: u32)
         ensures { self.new ≡ joined cylinder self.old }
     {
@@ -364,7 +364,7 @@ impl Drive {
         self.queue.last = cylinder;
     }
 
-    /// A request that no script asked for is first seen.
+    /// A request for which no script asked is seen for the first time.
     pub fn meet(&mut self)
         ensures { self.new ≡ met self.old }
     {
@@ -429,7 +429,7 @@ impl Drive {
         self.all.count(letter);
     }
 
-    /// Another begins.
+    /// Another event begins.
     pub fn begin_event(&mut self)
         ensures { self.new ≡ unseen self.old }
     {

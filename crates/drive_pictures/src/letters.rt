@@ -1,16 +1,16 @@
-//! The letters of a drive: what it does behind an event, until the next.
+//! The letters of a drive: what it does after an event, until the next event.
 
 ghost use Rattle.std.specs.Prelude.{◌≡◌};
 ghost use Rattle.drive_pictures.specs.Letters.{is_positioning, is_on_its_way, is_holding, is_moving};
 
-/// What a drive does behind an event, until the next.
+/// What a drive does after an event, until the next event.
 #[derive(Clone, Copy, PartialEq, Eq)]
 pub enum Letter {
     /// Nothing.
     Idle,
     /// Its arm moves.
     Seeks,
-    /// Its arm is there, and it turns to a sector.
+    /// Its arm has reached the cylinder, and it turns to a sector.
     Turns,
     /// It recalibrates.
     Recalibrates,
@@ -31,7 +31,7 @@ pub enum Letter {
 }
 
 impl Letter {
-    /// A seek, a search, a recalibration or an offset is under way.
+    /// Whether a seek, a search, a recalibration or an offset is under way.
     pub fn is_positioning(self) -> bool
         ensures { result ≡ is_positioning self }
     {
@@ -41,7 +41,7 @@ impl Letter {
         }
     }
 
-    /// It positions, or has arrived and is not attended.
+    /// Whether it positions, or has arrived and is not attended yet.
     pub(crate) fn is_on_its_way(self) -> bool
         ensures { result ≡ is_on_its_way self }
     {
@@ -55,7 +55,7 @@ impl Letter {
         }
     }
 
-    /// It holds its adapter.
+    /// Whether it holds its adapter.
     pub(crate) fn is_holding(self) -> bool
         ensures { result ≡ is_holding self }
     {
@@ -65,7 +65,7 @@ impl Letter {
         }
     }
 
-    /// Its sectors move.
+    /// Whether its sectors move.
     pub fn is_moving(self) -> bool
         ensures { result ≡ is_moving self }
     {

@@ -1,4 +1,4 @@
-//! What is seen of one drive and of one request of a run: the moments that are seen, where an event begins, and what each moment
+//! What is seen of one drive and of one request of a run: the moments that are seen, which of them begin an event, and what each moment
 //! does to a drive and to a request.
 //!
 //! What is proved: each change of a `Drive` and of a `Request` is the one that the definition names, and leaves the rest as it

@@ -5,7 +5,7 @@ ghost use Rattle.drive_pictures.specs.Marks.{weight_of, later, is_trouble, mark_
 
 use hardware_table::Moved;
 
-/// What happened at a drive in an event. The last is the gravest.
+/// What happened at a drive in an event. The last of these marks is the gravest.
 #[derive(Clone, Copy)]
 pub enum Mark {
     /// Nothing.
@@ -50,7 +50,7 @@ pub enum Mark {
     MarkedSector,
     /// A fault struck.
     Fault,
-    /// A sector can't be repaired.
+    /// A sector cannot be repaired.
     Hard,
     /// A sector was tried offline.
     TriedOffline,
@@ -59,7 +59,7 @@ pub enum Mark {
 }
 
 impl Mark {
-    /// The place of a mark among all, from the lightest.
+    /// The place of a mark among all marks, counted from the lightest.
     pub fn weight(self) -> u32
         ensures { result ≡ weight_of self }
     {
@@ -91,7 +91,7 @@ impl Mark {
         }
     }
 
-    /// Of both the graver.
+    /// The graver of two marks.
     pub fn later(self, other: Mark) -> Mark
         ensures { result ≡ later self other }
     {
@@ -102,7 +102,7 @@ impl Mark {
         }
     }
 
-    /// A sector could not be moved, or a request was stopped.
+    /// Whether a sector could not be moved, or a request was stopped.
     pub(crate) fn is_trouble(self) -> bool
         ensures { result ≡ is_trouble self }
     {

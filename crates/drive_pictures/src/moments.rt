@@ -1,4 +1,4 @@
-//! What is seen of a run, one after another: the lines of the script as they are played, and the lines of the trace.
+//! What is seen of a run, in order: the lines of the script as they are played, and the lines of the trace.
 
 ghost use Rattle.std.specs.Prelude.{◌≡◌};
 ghost use Rattle.drive_pictures.specs.Events.{line_of, begins, begins_at, begins_by, is_end_of_wait, is_idle};
@@ -18,8 +18,8 @@ pub enum Play {
     Other,
 }
 
-/// A line of the script is played; a line of the trace says a deed at a unit for the request of an id; an event found nothing
-/// to do. Each has the number of the script's line.
+/// A line of the script is played, a line of the trace tells a deed at a unit for the request of an id, or an event found nothing
+/// to do. Each moment has the number of the script's line.
 #[derive(Clone, Copy)]
 pub enum Moment {
     /// A line of the script is played.
@@ -27,7 +27,7 @@ pub enum Moment {
         line: u32,
         play: Play,
     },
-    /// A deed, at a unit for the request of an id.
+    /// A deed at a unit, for the request of an id.
     Told {
         line: u32,
         unit: u8,
@@ -40,7 +40,7 @@ pub enum Moment {
     },
 }
 
-/// The number of the script's line.
+/// The number of the script's line to which a moment belongs.
 pub fn line_of(moment: &Moment) -> u32
     ensures { result ≡ line_of moment.now }
 {
@@ -51,7 +51,7 @@ pub fn line_of(moment: &Moment) -> u32
     }
 }
 
-/// A positioning ended, or a sector was tried.
+/// Whether a positioning ended, or a sector was tried.
 fn is_end_of_wait(deed: &Told) -> bool
     ensures { result ≡ is_end_of_wait deed.now }
 {
@@ -61,7 +61,7 @@ fn is_end_of_wait(deed: &Told) -> bool
     }
 }
 
-/// A deed begins an event behind another on the same line: a positioning ends, a sector is tried, or an adapter is attended.
+/// Whether a deed begins an event after another on the same line: a positioning ends, a sector is tried, or an adapter is attended.
 fn begins_by(before: &Told, deed: &Told, same_adapter: bool) -> bool
     ensures { result ≡ begins_by before.now deed.now same_adapter }
 {
@@ -72,7 +72,7 @@ fn begins_by(before: &Told, deed: &Told, same_adapter: bool) -> bool
     }
 }
 
-/// A moment begins an event behind another of the same line.
+/// Whether a moment begins an event after another moment of the same line.
 fn begins_at(before: &Moment, moment: &Moment) -> bool
     ensures { result ≡ begins_at before.now moment.now }
 {
@@ -90,7 +90,7 @@ fn begins_at(before: &Moment, moment: &Moment) -> bool
     }
 }
 
-/// A moment begins an event behind another, or behind none.
+/// Whether a moment begins an event, after another moment or after none.
 pub fn begins(before: Option<Moment>, moment: &Moment) -> bool
     ensures { result ≡ begins before moment.now }
 {
@@ -106,7 +106,7 @@ pub fn begins(before: Option<Moment>, moment: &Moment) -> bool
     }
 }
 
-/// A moment finds nothing to do.
+/// Whether a moment finds nothing to do.
 pub fn is_idle(moment: &Moment) -> bool
     ensures { result ≡ is_idle moment.now }
 {

@@ -12,7 +12,7 @@ use trace_lines::Told;
 /// How a request was answered, as far as the trace tells.
 #[derive(Clone, Copy, PartialEq, Eq)]
 pub enum Outcome {
-    /// Not yet.
+    /// It is not answered yet.
     Open,
     /// All of its blocks are done.
     Ok,
@@ -20,9 +20,9 @@ pub enum Outcome {
     Eof,
     /// It reached beyond its partition.
     Partition,
-    /// Its frames were not there.
+    /// There were too few frames for it.
     Frames,
-    /// It was refused as it was submitted, and no script says why.
+    /// It was refused when it was submitted, and no script says why.
     Refused,
     /// A block is marked and has no replacement, or the replacement is marked.
     Unforwarded,
@@ -32,7 +32,7 @@ pub enum Outcome {
     Fault,
     /// The drive was locked.
     Locked,
-    /// It was stopped, and the trace does not tell by what.
+    /// It was stopped, and the trace does not tell what stopped it.
     Stopped,
 }
 
@@ -43,35 +43,35 @@ pub struct Request {
     pub id: u32,
     /// Its unit.
     pub unit: u8,
-    /// It writes.
+    /// Whether it writes.
     pub write: bool,
-    /// The line at which it was asked for.
+    /// The line of the script at which it was asked for.
     pub line: u32,
-    /// The cylinder of its first block, where it joined.
+    /// The cylinder of its first block, if it joined.
     pub cylinder: Option<u32>,
-    /// Why it was refused as it was submitted.
+    /// Why it was refused when it was submitted, if it was.
     pub why: Option<Outcome>,
-    /// The frames that it was lent.
+    /// How many frames it was lent.
     pub needed: u64,
     /// The event in which it was asked for.
     pub asked: u64,
     /// The event from which on it was in hand.
     pub in_hand: Option<u64>,
-    /// The event of its end, and the line.
+    /// The event and the line of its end.
     pub ended: Option<u64>,
     pub ended_line: u32,
-    /// The how many-th of its unit to join, and to be served; 0 for neither.
+    /// Its number among the requests of its unit that joined, and among those that were served, from 1; 0 if it did not.
     pub rank: u64,
     pub turn: u64,
-    /// Events in hand.
+    /// The events while it was in hand.
     pub times: Times,
-    /// The sectors that moved.
+    /// How many of its sectors moved.
     pub done: u64,
     /// The verdict of its last sector.
     pub verdict: Option<Moved>,
     /// Its answer.
     pub outcome: Outcome,
-    /// A sector could not be moved as it was, a try failed, or it was stopped.
+    /// Whether a sector of it could not be moved as it was, a try failed, or the request was stopped.
     pub trouble: bool,
 }
 
@@ -83,7 +83,7 @@ fn later_event(event: u64, other: u64) -> u64
 }
 
 impl Request {
-    /// As it is asked for, at an event and a line.
+    /// A request when it is asked for, at an event and a line.
     pub fn new(event: u64, line: u32, unit: u8, id: u32, write: bool) -> Request
         ensures { result ≡ new_request event line unit id write }
     {
@@ -109,7 +109,7 @@ impl Request {
         }
     }
 
-    /// The events that it waited.
+    /// How many events it waited.
     pub fn queued(&self) -> u64
         ensures { result ≡ queued self.now }
     {
@@ -119,7 +119,7 @@ impl Request {
         }
     }
 
-    /// It was served, and not as the how many-th it joined.
+    /// Whether it was served, and its number among those served is not its number among those that joined.
     pub fn is_out_of_order(&self) -> bool
         ensures { result ≡ is_out_of_order self.now }
     {
@@ -130,14 +130,14 @@ impl Request {
         }
     }
 
-    /// It is in hand from its asking on, or from the end before it.
+    /// It is in hand from the event that asks for it, or from the end of the request before it.
     fn start(&mut self, free: u64)
         ensures { self.new ≡ started free self.old }
     {
         self.in_hand = Some(later_event(self.asked, free));
     }
 
-    /// Its sector was tried.
+    /// Takes in that a sector of it was tried.
     fn try_sector(&mut self, verdict: Moved)
         ensures { self.new ≡ tried verdict self.old }
     {
@@ -151,7 +151,7 @@ impl Request {
         }
     }
 
-    /// What a line of the trace says of it.
+    /// Takes in what a line of the trace says of it.
     fn hear(&mut self, deed: &Told)
         ensures { self.new ≡ heard deed.now self.old }
     {
@@ -163,7 +163,7 @@ impl Request {
         }
     }
 
-    /// A line of the trace, but an end, at its drive as that was before.
+    /// Takes in a line of the trace, except an end, with its drive as that was before the line.
     pub fn tell(&mut self, place: usize, drive: &Drive, deed: &Told)
         ensures { self.new ≡ tells place drive.now deed.now self.old }
     {
@@ -200,7 +200,7 @@ impl Request {
         }
     }
 
-    /// Its answer, by its drive as that is before the end.
+    /// Its answer, judged by its drive as that is before the end.
     pub fn answer(&self, drive: &Drive) -> Outcome
         ensures { result ≡ answer drive.now self.now }
     {
@@ -211,7 +211,7 @@ impl Request {
         }
     }
 
-    /// It was refused as it was submitted, or another is in hand.
+    /// Whether it was refused when it was submitted, or another request is in hand.
     pub fn is_refused(&self, place: usize, drive: &Drive) -> bool
         ensures { result ≡ is_refused place drive.now self.now }
     {
@@ -224,7 +224,7 @@ impl Request {
         }
     }
 
-    /// It ends at an event and a line as one that was refused.
+    /// Ends it, at an event and a line, as a request that was refused.
     pub fn refuse(&mut self, event: u64, line: u32)
         ensures { self.new ≡ refused event line self.old }
     {
@@ -238,7 +238,7 @@ impl Request {
         self.trouble = true;
     }
 
-    /// It ends at an event and a line, in hand at its drive, as that was before.
+    /// Ends it, at an event and a line, while it is in hand at its drive, with the drive as that was before.
     pub fn end(&mut self, event: u64, line: u32, drive: &Drive)
         ensures { self.new ≡ ended event line drive.now self.old }
     {
@@ -254,7 +254,7 @@ impl Request {
         self.turn = plus(drive.queue.served, 1);
     }
 
-    /// Behind the last event one that has not ended is open.
+    /// After the last event, a request that has not ended is open.
     pub fn leave(&mut self, events: u64)
         ensures { self.new ≡ left events self.old }
     {

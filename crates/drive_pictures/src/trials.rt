@@ -19,7 +19,7 @@ pub struct Trial {
 }
 
 impl Trial {
-    /// The request at a place is in hand: it wants nothing yet, unless it was in hand.
+    /// Takes the request at a place in hand. It wants nothing yet, unless it was in hand before.
     pub(crate) fn take(&mut self, place: usize)
         ensures { self.new ≡ in_hand place self.old }
     {
@@ -47,7 +47,7 @@ impl Trial {
         }
     }
 
-    /// A segment of so many sectors begins.
+    /// A segment of `count` sectors begins.
     pub(crate) fn begin(&mut self, count: u32)
         ensures { self.new ≡ wanted count self.old }
     {
@@ -76,7 +76,7 @@ impl Trial {
     }
 }
 
-/// The letter behind a sector's verdict, with so many sectors left.
+/// The letter after a sector's verdict, if `left` sectors are left.
 pub(crate) fn verdict_letter(verdict: Moved, left: u32) -> Letter
     ensures { result ≡ verdict_letter verdict left }
 {

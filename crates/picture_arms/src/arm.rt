@@ -1,4 +1,4 @@
-//! The arm of a drive over the events; the requests that wait, as lines at their cylinders; dotted, the order in which they came.
+//! The arm of a drive over the events; the requests that wait, as lines at their cylinders; and, dotted, the order in which they came.
 
 ghost use Rattle.std.specs.Prelude.{◌≡◌, ◌≤◌, ◌∷◌, [], ◌++◌, length, fold, IfSome, IfOk, OnOk};
 ghost use Rattle.picture_arms.specs.Arms.{level_at, level_of, known_with, known_of, is_asked_here, asked_at, with_link, links_to, with_waiting, with_asked, with_wait, lowest_highest, path_points, column_points, way_points, with_way, first_behind, place_of_turn, served_with, served_at, is_served_here, with_served, with_ids, with_bounds, with_arm};
@@ -25,7 +25,7 @@ fn level_of(lane: &Lane, y: u32, request: &Request) -> u32
     level(lane, y, request.cylinder.unwrap_or(0))
 }
 
-/// A request more, if it is of a drive and joined, and few are shown.
+/// One more request, if it is of a drive and joined, and few are shown.
 #[tactic(auto, unfolding(crate::specs::Arms::known_with))]
 fn put_known(
     known: &mut Vec<Request>,
@@ -41,7 +41,7 @@ fn put_known(
     Ok(())
 }
 
-/// The requests of a drive that joined, where few are shown.
+/// The requests of a drive that joined, if few are shown.
 fn known_of(alloc: Global, scene: &Scene<'_, '_>, unit: u8) -> Result<Vec<Request>, AllocError>
     ensures { IfOk result (λ known. known.items ≡ known_of scene.now unit) }
 {
@@ -52,7 +52,7 @@ fn known_of(alloc: Global, scene: &Scene<'_, '_>, unit: u8) -> Result<Vec<Reques
     Ok(known)
 }
 
-/// A request was asked for in the events that are shown.
+/// Whether a request was asked for in the events that are shown.
 fn is_asked_here(scene: &Scene<'_, '_>, request: &Request) -> bool
     ensures { result ≡ is_asked_here scene.now request.now }
 {
@@ -66,7 +66,7 @@ fn asked_at(scene: &Scene<'_, '_>, lane: &Lane, request: &Request, y: u32) -> Po
     at(scene.at(request.asked), level_of(lane, y, request))
 }
 
-/// A line from a request to the one that came behind it, if this waits.
+/// A line from a request to the one that came after it, if the later one waits.
 fn draw_link(
     out: &mut Markup<'_>,
     scene: &Scene<'_, '_>,
@@ -180,7 +180,7 @@ fn draw_waits(
     Ok(())
 }
 
-/// The points of a path, where it has a lowest and a highest cylinder.
+/// The points of a path, if it has a lowest and a highest cylinder.
 fn put_range(
     out: &mut Markup<'_>,
     lane: &Lane,
@@ -212,7 +212,7 @@ fn put_path(out: &mut Markup<'_>, lane: &Lane, path: Path, x: u32, y: u32) -> Re
     put_range(out, lane, path, x, y)
 }
 
-/// The points of a column, where the arm was seen.
+/// The points of a column, if the arm was seen in it.
 #[tactic(auto, unfolding(crate::specs::Arms::column_points))]
 fn put_column(
     out: &mut Markup<'_>,
@@ -267,7 +267,7 @@ fn draw_path(
     out.polyline("p", start)
 }
 
-/// The place of the first request of a turn behind one, if there is such.
+/// The place of the first request with a later turn, if there is one.
 fn first_behind(served: &[Request], turn: u64) -> Option<usize>
     ensures fits { IfSome result (λ place. place ≤ length served.now) }
     ensures place { result ≡ first_behind turn served.now }
@@ -275,7 +275,7 @@ fn first_behind(served: &[Request], turn: u64) -> Option<usize>
     served.iter().position(|other| turn < other.turn)
 }
 
-/// Where one of a turn stands among requests that stand by their turns.
+/// The place of a request with a turn, among requests that are in the order of their turns.
 #[tactic(auto, unfolding(crate::specs::Arms::place_of_turn))]
 fn place_of_turn(served: &[Request], turn: u64) -> usize
     ensures fits { result ≤ length served.now }
@@ -287,7 +287,7 @@ fn place_of_turn(served: &[Request], turn: u64) -> usize
     }
 }
 
-/// A request more, by its turn.
+/// One more request, at the place of its turn.
 #[tactic(auto, unfolding(crate::specs::Arms::served_with))]
 fn put_served(served: &mut Vec<Request>, request: &Request) -> Result<(), AllocError>
     ensures { OnOk result (served.new.items ≡ served_with served.old.items request.now) }
@@ -297,7 +297,7 @@ fn put_served(served: &mut Vec<Request>, request: &Request) -> Result<(), AllocE
     Ok(())
 }
 
-/// The requests by their turns.
+/// The requests in the order of their turns.
 fn by_turn(alloc: Global, known: &[Request]) -> Result<Vec<Request>, AllocError>
     ensures { IfOk result (λ served. served.items ≡ fold served_with [] known.now) }
 {
@@ -308,14 +308,14 @@ fn by_turn(alloc: Global, known: &[Request]) -> Result<Vec<Request>, AllocError>
     Ok(served)
 }
 
-/// A request was served in the events that are shown.
+/// Whether a request was served in the events that are shown.
 fn is_served_here(scene: &Scene<'_, '_>, request: &Request) -> bool
     ensures { result ≡ is_served_here scene.now request.now }
 {
     request.turn > 0 && scene.ended(request) < scene.sheet.window.last
 }
 
-/// The id of a request, where it was served and there is room; and from where there is room behind it.
+/// The id of a request where it was served, if there is room. The result is from where there is room after it.
 #[tactic(auto, unfolding(crate::specs::Arms::with_served))]
 fn draw_id(
     out: &mut Markup<'_>,
@@ -338,7 +338,7 @@ fn draw_id(
     }
 }
 
-/// The ids of the requests that were served, in this order, where there is room.
+/// The ids of the requests that were served, in the order of their turns, as far as there is room.
 #[tactic(auto, unfolding(crate::specs::Arms::with_ids))]
 fn draw_served(
     out: &mut Markup<'_>,

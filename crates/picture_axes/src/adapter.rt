@@ -17,21 +17,21 @@ use picture_sheet::holding;
 use run_picture::Column;
 use std::alloc::{AllocError, Global};
 
-/// A drive is one of the adapter.
+/// Whether a drive is one of the adapter's.
 fn is_on(lane: &Lane, adapter: u8) -> bool
     ensures { result ≡ is_on adapter lane.now }
 {
     lane.unit / 8 == adapter
 }
 
-/// The events of a column behind which a drive holds its adapter.
+/// After how many events of a column a drive holds its adapter.
 fn held_by(column: &Column, lane: &Lane) -> u64
     ensures { result ≡ held_by column.now lane.now }
 {
     holding(&cell_at(column, lane.unit).tally)
 }
 
-/// A drive of the adapter holds it in a column.
+/// Whether a drive of the adapter holds it in a column.
 #[tactic(auto, unfolding(crate::specs::Adapters::holds))]
 fn holds(column: &Column, lane: &Lane, adapter: u8) -> bool
     ensures { result ≡ holds column.now adapter lane.now }
@@ -39,7 +39,7 @@ fn holds(column: &Column, lane: &Lane, adapter: u8) -> bool
     is_on(lane, adapter) && held_by(column, lane) > 0
 }
 
-/// The events behind which a drive more holds the adapter.
+/// The events after which the adapter is held, with those of one more drive.
 #[tactic(auto, unfolding(crate::specs::Adapters::with_held))]
 fn with_held(column: &Column, lane: &Lane, adapter: u8, sum: u64) -> u64
     ensures { result ≡ with_held column.now adapter sum lane.now }
@@ -51,7 +51,7 @@ fn with_held(column: &Column, lane: &Lane, adapter: u8, sum: u64) -> u64
     }
 }
 
-/// The events of a column behind which a drive of the adapter holds it.
+/// After how many events of a column a drive of the adapter holds it.
 fn held(column: &Column, lanes: &[Lane], adapter: u8) -> u64
     ensures { result ≡ held_in lanes.now adapter column.now }
 {
@@ -62,7 +62,7 @@ fn held(column: &Column, lanes: &[Lane], adapter: u8) -> u64
     sum
 }
 
-/// The same drives hold the adapter as often in both columns.
+/// Whether the same drives hold the adapter equally often in both columns.
 #[tactic(auto, unfolding(crate::specs::Adapters::is_same_held))]
 fn is_same_held(column: &Column, next: &Column, lanes: &[Lane], adapter: u8) -> bool
     ensures { result ≡ is_same_held lanes.now adapter column.now next.now }
@@ -70,7 +70,7 @@ fn is_same_held(column: &Column, next: &Column, lanes: &[Lane], adapter: u8) -> 
     lanes.iter().all(|lane| !is_on(lane, adapter) || held_by(column, lane) == held_by(next, lane))
 }
 
-/// The number of the second column, where that of the first is given.
+/// The number of the second column; that of the first is given.
 fn next_key(columns: &[Column], lanes: &[Lane], adapter: u8, key: u64) -> u64
     ensures { result ≡ next_number (is_same_held lanes.now adapter) key columns.now }
 {
@@ -86,7 +86,7 @@ fn next_key(columns: &[Column], lanes: &[Lane], adapter: u8, key: u64) -> u64
     }
 }
 
-/// Numbers, one a column, that are equal where columns side by side are held the same.
+/// A number for each column. Neighbouring columns have equal numbers if the adapter is held alike in them.
 fn held_keys(
     alloc: Global,
     columns: &[Column],
@@ -111,7 +111,7 @@ fn comma(first: bool) -> &'static str
     if first { "" } else { ", " }
 }
 
-/// Puts a drive's unit, if it holds the adapter; and whether the next is the first.
+/// Puts a drive's unit, if it holds the adapter. The result is whether the next one is the first.
 #[tactic(auto, unfolding(crate::specs::Adapters::with_holder))]
 fn put_holder(
     out: &mut Markup<'_>,
@@ -186,7 +186,7 @@ pub(crate) fn middle_of(scene: &Scene<'_, '_>, stretch: Stretch) -> u32
     add(scene.frame.x(stretch.from), scene.width(stretch) / 2)
 }
 
-/// The unit in a bar, where a column is one event and there is room.
+/// The unit in a bar, if a column is one event and there is room.
 fn draw_unit(
     out: &mut Markup<'_>,
     scene: &Scene<'_, '_>,
@@ -273,7 +273,7 @@ fn draw_hold(
     }
 }
 
-/// The stretches in which the same drives hold the adapter as often.
+/// The stretches in which the same drives hold the adapter equally often.
 fn held_stretches(
     alloc: Global,
     columns: &[Column],
@@ -319,7 +319,7 @@ fn draw_held(
     draw_holds(out, scene, held.as_slice(), adapter, y)
 }
 
-/// The events of the run behind which a drive of the adapter holds it, of those that are shown.
+/// After how many of the events that are shown a drive of the adapter holds it.
 fn all_held(scene: &Scene<'_, '_>, adapter: u8) -> u64
     ensures { result ≡ all_held scene.now adapter }
 {

@@ -15,7 +15,7 @@ const AXIS: u32 = 276;
 /// How many bytes of a line are drawn.
 const ROOM: usize = 20;
 
-/// Puts, where a line found nothing to do, that it did, as far as there is room.
+/// If a line found nothing to do, puts that it did, as far as there is room.
 fn put_idle(out: &mut Markup<'_>, idle: bool, room: usize) -> Result<(), AllocError>
     ensures stands { OnOk result (out.new.stands ≡ out.old.stands) }
     ensures text { OnOk result (out.new.text ≡ with_idle idle room out.old.text) }
@@ -40,7 +40,7 @@ fn put_words<'a>(out: &mut Markup<'a>, head: &Head, words: &'a [u8]) -> Result<(
     put_idle(out, head.idle, room.saturating_sub(shown.len()))
 }
 
-/// The text of the script's line at which a column begins, where it is known.
+/// The text of the script's line at which a column begins, if it is known.
 fn words_at<'a>(scene: &Scene<'_, 'a>, column: usize) -> &'a [u8]
     ensures { result.now ≡ words_at scene.now.sheet.now column }
 {
@@ -91,7 +91,7 @@ fn draw_bar(out: &mut Markup<'_>, scene: &Scene<'_, '_>, stretch: Stretch) -> Re
     }
 }
 
-/// A line of the script, where there is room; and from where there is room behind it.
+/// A line of the script, if there is room. The result is from where there is room after it.
 #[tactic(auto, unfolding(crate::specs::Axes::with_stretch))]
 fn draw_stretch<'a>(
     out: &mut Markup<'a>,
@@ -114,7 +114,7 @@ fn draw_stretch<'a>(
     }
 }
 
-/// The lines over some stretches, where there is room.
+/// The lines over some stretches, as far as there is room.
 #[tactic(auto, unfolding(crate::specs::Axes::with_stretches))]
 fn draw_stretches<'a>(
     out: &mut Markup<'a>,
@@ -132,7 +132,7 @@ fn draw_stretches<'a>(
     Ok(())
 }
 
-/// The script, written upwards over the first column of each of its lines, where there is room.
+/// The script, written upwards over the first column of each of its lines, as far as there is room.
 #[tactic(auto, unfolding(crate::specs::Axes::with_lines))]
 pub fn draw_lines<'a>(
     alloc: Global,
@@ -148,7 +148,7 @@ pub fn draw_lines<'a>(
     draw_stretches(out, scene, lines.as_slice(), height)
 }
 
-/// The number of a column's first event, where there is room; and from where there is room behind it.
+/// The number of a column's first event, if there is room. The result is from where there is room after it.
 #[tactic(auto, unfolding(crate::specs::Axes::with_event))]
 fn draw_event(
     out: &mut Markup<'_>,
@@ -170,7 +170,7 @@ fn draw_event(
     }
 }
 
-/// The numbers of the events, where there is room.
+/// The numbers of the events, as far as there is room.
 #[tactic(auto, unfolding(crate::specs::Axes::with_events))]
 pub fn draw_events(out: &mut Markup<'_>, scene: &Scene<'_, '_>, y: u32) -> Result<(), AllocError>
     ensures stands { OnOk result (out.new.stands ≡ out.old.stands) }

@@ -11,7 +11,7 @@ use picture_scene::{
 };
 use std::alloc::{AllocError, Global};
 
-/// The number in a bar, where there is room.
+/// The number in a bar, if there is room.
 fn draw_many(
     out: &mut Markup<'_>,
     scene: &Scene<'_, '_>,

@@ -28,7 +28,7 @@ impl Model for ChartLine {
     ghost invariant = { λ line. IsChartLine line.text.items };
 }
 
-/// A byte as it is printed; one that is not printing is a question mark.
+/// A byte as it is printed; a byte that does not print becomes a question mark.
 fn plain(byte: u8) -> u8
     ensures value { result ≡ plain_of byte }
     ensures plain { is_plain result ≡ true }
@@ -39,7 +39,7 @@ fn plain(byte: u8) -> u8
     }
 }
 
-/// A text where it fits into so many characters, else a plus.
+/// A text, if it fits into `width` characters, and otherwise a plus.
 fn fitting(text: &[u8], width: usize) -> &[u8]
     ensures { result.now ≡ fitted width text.now }
 {
@@ -56,7 +56,7 @@ impl ChartLine {
         }
     }
 
-    /// Puts a byte, where there is room.
+    /// Puts a byte, if there is room.
     pub fn put_byte(&mut self, byte: u8)
         ensures { self.new ≡ with_text self.old (byte ∷ []) }
     {
@@ -65,7 +65,7 @@ impl ChartLine {
         }
     }
 
-    /// Puts the front of some bytes for which there is room.
+    /// Puts the front of some bytes, as far as there is room.
     pub fn put(&mut self, bytes: &[u8])
         ensures { self.new ≡ with_text self.old bytes.now }
     {
@@ -101,7 +101,7 @@ impl ChartLine {
         self.put_blanks(count);
     }
 
-    /// Puts a text at the left of so many characters; a plus where it does not fit.
+    /// Puts a text at the left of `width` characters; a plus if it does not fit.
     pub fn put_left(&mut self, text: &[u8], width: usize)
         ensures { self.new ≡ with_text self.old (at_left width text.now) }
     {
@@ -110,7 +110,7 @@ impl ChartLine {
         self.put_blanks(width.saturating_sub(text.len()));
     }
 
-    /// Puts a text at the right of so many characters; a plus where it does not fit.
+    /// Puts a text at the right of `width` characters; a plus if it does not fit.
     pub fn put_right(&mut self, text: &[u8], width: usize)
         ensures { self.new ≡ with_text self.old (at_right width text.now) }
     {
@@ -119,7 +119,7 @@ impl ChartLine {
         self.put(text);
     }
 
-    /// Puts a number at the right of so many characters.
+    /// Puts a number at the right of `width` characters.
     fn put_number_right(&mut self, number: u64, width: usize)
         ensures { self.new ≡ with_text self.old (at_right width (decimal number)) }
     {
@@ -127,7 +127,7 @@ impl ChartLine {
         self.put_right(buffer.format(number).as_bytes(), width);
     }
 
-    /// Puts a number at the right of so many characters, behind a blank.
+    /// Puts a number at the right of `width` characters, after a blank.
     pub fn put_count(&mut self, number: u64, width: usize)
         ensures { self.new ≡ with_text self.old (32 ∷ at_right width (decimal number)) }
     {
@@ -135,7 +135,7 @@ impl ChartLine {
         self.put_number_right(number, width);
     }
 
-    /// Puts a number at the left of so many characters.
+    /// Puts a number at the left of `width` characters.
     pub fn put_event(&mut self, number: u64, width: usize)
         ensures { self.new ≡ with_text self.old (at_left width (decimal number)) }
     {
@@ -143,7 +143,7 @@ impl ChartLine {
         self.put_left(buffer.format(number).as_bytes(), width);
     }
 
-    /// Nothing stands on it but blanks.
+    /// Whether it has nothing except blanks.
     pub fn is_blank(&self) -> bool
         ensures { result ≡ is_blank self.now }
     {

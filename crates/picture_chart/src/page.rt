@@ -14,7 +14,7 @@ use std::alloc::{AllocError, Global};
 /// The columns of a panel.
 const PANEL: usize = 72;
 
-/// Puts words, and the number behind them.
+/// Puts words, and the number after them.
 fn put_phrase(line: &mut ChartLine, phrase: &Phrase)
     ensures { line.new ≡ with_phrase line.old phrase.now }
 {
@@ -22,7 +22,7 @@ fn put_phrase(line: &mut ChartLine, phrase: &Phrase)
     line.put_number(phrase.number);
 }
 
-/// Puts the third phrase of a sentence, where it has one.
+/// Puts the third phrase of a sentence, if it has one.
 fn put_third(line: &mut ChartLine, third: Option<Phrase>)
     ensures { line.new ≡ with_third line.old third }
 {

@@ -11,7 +11,7 @@ use picture_sheet::{Sheet, cell_at, holding, lead, letter_sign, mark_sign, top_o
 use run_picture::Column;
 use std::alloc::AllocError;
 
-/// How many columns a number of an event has.
+/// How many columns the number of an event has.
 const STEP: usize = 12;
 
 /// The first byte of a sign.
@@ -109,7 +109,7 @@ struct Numbers {
     strip: ChartLine,
 }
 
-/// The digit of a line's number at a place, where another line begins.
+/// The digit of a line's number at a place, if another line begins.
 #[tactic(auto, unfolding(crate::specs::Signs::line_sign))]
 fn line_byte(place: u64, before: u32, line: u32) -> u8
     ensures { result ≡ line_sign place before line }
@@ -123,7 +123,7 @@ fn line_byte(place: u64, before: u32, line: u32) -> u8
     }
 }
 
-/// A column more.
+/// One more column.
 #[tactic(auto, unfolding(crate::specs::Panels::with_number))]
 fn put_number(numbers: &mut Numbers, place: u64, column: &Column)
     ensures { numbers.new ≡ with_number place numbers.old column.now }
@@ -180,14 +180,14 @@ fn put_lines(page: &mut Vec<ChartLine>, columns: &[Column]) -> Result<(), AllocE
     put_row(page, line_of(b"line"), line_strip(columns, 1))
 }
 
-/// The drive that holds an adapter behind most of a column's events so far, as a sign, and how many these are.
+/// The drive that holds an adapter after most of a column's events so far, as a sign, and how many events these are.
 #[derive(Clone, Copy)]
 struct Holder {
     most: u64,
     sign: u8,
 }
 
-/// A drive more.
+/// One more drive.
 #[tactic(auto, unfolding(crate::specs::Signs::with_holder))]
 fn with_holder(column: &Column, adapter: u8, holder: Holder, unit: u8) -> Holder
     ensures { result ≡ with_holder column.now adapter holder unit }
@@ -203,7 +203,7 @@ fn with_holder(column: &Column, adapter: u8, holder: Holder, unit: u8) -> Holder
     }
 }
 
-/// Who holds an adapter behind most of a column's events.
+/// Who holds an adapter after most of a column's events.
 #[tactic(auto, unfolding(crate::specs::Signs::holder_sign))]
 fn holder_byte(column: &Column, units: &[u8], adapter: u8) -> u8
     ensures { result ≡ holder_sign units.now adapter column.now }
@@ -304,7 +304,7 @@ fn put_unit_of(
     }
 }
 
-/// Puts the rows of an adapter and its drives, where it has some.
+/// Puts the rows of an adapter and its drives, if it has some.
 #[tactic(auto, unfolding(crate::specs::Panels::with_adapter))]
 fn put_adapter(
     page: &mut Vec<ChartLine>,
@@ -326,7 +326,7 @@ fn put_adapter(
     Ok(())
 }
 
-/// Puts the number of an event, if its column is a twelfth one.
+/// Puts the number of an event, at every twelfth column.
 #[tactic(auto, unfolding(crate::specs::Panels::with_event))]
 fn put_event(line: &mut ChartLine, sheet: &Sheet<'_>, from: usize, place: usize)
     requires { from + place < 2 ^ 64 }
@@ -338,7 +338,7 @@ fn put_event(line: &mut ChartLine, sheet: &Sheet<'_>, from: usize, place: usize)
     }
 }
 
-/// The numbers of the events of so many columns, from the column of a place on.
+/// The numbers of the events of `count` columns, from the column at a place on.
 fn event_line(sheet: &Sheet<'_>, from: usize, count: usize) -> ChartLine
     requires { from + count < 2 ^ 64 }
     ensures { result ≡ events_to sheet.now from count }
@@ -350,7 +350,7 @@ fn event_line(sheet: &Sheet<'_>, from: usize, count: usize) -> ChartLine
     line
 }
 
-/// Puts a panel of some columns, of which the first has a place.
+/// Puts a panel of some columns; the place of the first one is given.
 #[tactic(auto, unfolding(crate::specs::Panels::with_panel))]
 pub fn put_panel(
     page: &mut Vec<ChartLine>,

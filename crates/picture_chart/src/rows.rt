@@ -27,7 +27,7 @@ pub fn line_with(text: &[u8], number: u64) -> ChartLine
     line
 }
 
-/// A label, as long as labels are.
+/// A label, filled up to the length of labels.
 pub fn filled(label: ChartLine) -> ChartLine
     ensures { result ≡ filled label }
 {
@@ -44,7 +44,7 @@ pub fn put_line(page: &mut Vec<ChartLine>, line: ChartLine) -> Result<(), AllocE
     Ok(())
 }
 
-/// Puts a row; one with nothing on it is left out.
+/// Puts a row; a row with nothing on it is left out.
 #[tactic(auto, unfolding(crate::specs::Rows::with_row))]
 pub fn put_row(
     page: &mut Vec<ChartLine>,

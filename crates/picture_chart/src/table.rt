@@ -21,7 +21,7 @@ fn names_line() -> ChartLine
     )
 }
 
-/// Puts the cylinder of a request, where it joined.
+/// Puts the cylinder of a request, if the request joined.
 fn put_cylinder(line: &mut ChartLine, cylinder: Option<u32>)
     ensures { line.new ≡ with_text line.old (cylinder_text cylinder) }
 {
@@ -31,7 +31,7 @@ fn put_cylinder(line: &mut ChartLine, cylinder: Option<u32>)
     }
 }
 
-/// A star where a request was served out of order.
+/// A star if a request was served out of order.
 fn star(request: &Request) -> u8
     ensures { result ≡ star request.now }
 {
@@ -42,7 +42,7 @@ fn star(request: &Request) -> u8
     }
 }
 
-/// Puts how a request went, and the how many-th of its unit it was served.
+/// Puts how a request went, and its number among the served requests of its unit.
 #[tactic(auto, unfolding(crate::specs::Tables::with_times))]
 fn put_times(line: &mut ChartLine, request: &Request)
     ensures { line.new ≡ with_times request.now line.old }
@@ -75,7 +75,7 @@ fn request_line(request: &Request) -> ChartLine
     line
 }
 
-/// Puts how many requests there are, where not all are listed.
+/// Puts how many requests there are, if not all of them are listed.
 fn put_count(page: &mut Vec<ChartLine>, few: bool, count: usize) -> Result<(), AllocError>
     ensures { OnOk result (page.new.items ≡ with_count few count page.old.items) }
 {
@@ -86,7 +86,7 @@ fn put_count(page: &mut Vec<ChartLine>, few: bool, count: usize) -> Result<(), A
     }
 }
 
-/// Puts the requests that are listed, and where they are not all, how many there are.
+/// Puts the requests that are listed, and if these are not all, how many requests there are.
 #[tactic(auto, unfolding(crate::specs::Tables::with_table))]
 pub(crate) fn put_table(page: &mut Vec<ChartLine>, shown: &Shown) -> Result<(), AllocError>
     ensures { OnOk result (page.new.items ≡ with_table shown.now.listed.items shown.now.few shown.now.count page.old.items) }

@@ -79,7 +79,7 @@ fn draw_condition(
     }
 }
 
-/// Those of some stretches in which a drive is offline, or is locked.
+/// The stretches, of those that are given, in which a drive is offline, or is locked.
 fn draw_stretches(
     out: &mut Markup<'_>,
     scene: &Scene<'_, '_>,

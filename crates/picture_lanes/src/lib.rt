@@ -1,7 +1,7 @@
-//! A drive of a run over the columns: the requests in hand or asked for, how it moved, its marks, and its totals.
+//! A drive of a run over the columns: its requests in hand or asked for, how it moved, its marks, and its totals.
 //!
-//! What is proved: `draw_unit` writes just a drive (`specs/Lanes.antt`, `specs/Totals.antt`), leaves the elements that are open as
-//! they were, and the lines of the run that it tells in tooltips are those that speak of the drive, each once.
+//! What is proved: `draw_unit` writes exactly a drive (`specs/Lanes.antt`, `specs/Totals.antt`) and leaves the elements that are open as
+//! they were. The lines of the run that it tells in tooltips are those that speak of the drive, each once.
 #![tactic(auto)]
 
 mod conditions;

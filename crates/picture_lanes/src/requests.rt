@@ -12,7 +12,7 @@ use picture_scene::{
 use picture_sheet::is_shown;
 use std::alloc::{AllocError, Global};
 
-/// A time so wide, as a bracket.
+/// A time as a bracket, `width` wide.
 fn draw_bracket(out: &mut Markup<'_>, x: u32, width: u32, y: u32) -> Result<(), AllocError>
     ensures stands { OnOk result (out.new.stands ≡ out.old.stands) }
     ensures text { OnOk result (out.new.text ≡ with_bracket x width y out.old.text) }
@@ -26,7 +26,7 @@ fn draw_bracket(out: &mut Markup<'_>, x: u32, width: u32, y: u32) -> Result<(), 
     }
 }
 
-/// The id of a request, where there is room.
+/// The id of a request, if there is room.
 fn draw_id(out: &mut Markup<'_>, x: u32, width: u32, y: u32, id: u64) -> Result<(), AllocError>
     ensures stands { OnOk result (out.new.stands ≡ out.old.stands) }
     ensures text { OnOk result (out.new.text ≡ with_id x width y id out.old.text) }
@@ -60,7 +60,7 @@ fn draw_time(
     }
 }
 
-/// The requests in hand, where a column is one event.
+/// The requests in hand, if a column is one event.
 #[tactic(auto, unfolding(crate::specs::Lanes::with_in_hand))]
 fn draw_in_hand(
     out: &mut Markup<'_>,
@@ -78,7 +78,7 @@ fn draw_in_hand(
     Ok(())
 }
 
-/// The most of some numbers.
+/// The greatest of some numbers.
 fn most_of(keys: &[u64]) -> u64
     ensures { result ≡ most_of keys.now }
 {
@@ -148,7 +148,7 @@ fn draw_counts(
     Ok(())
 }
 
-/// The requests that wait, of which so many do in each column.
+/// The requests that wait; `keys` has how many wait in each column.
 #[tactic(auto, unfolding(crate::specs::Lanes::with_counts))]
 fn draw_asked(
     alloc: Global,
@@ -167,7 +167,7 @@ fn draw_asked(
     draw_counts(out, scene, asked.as_slice(), unit, most, y)
 }
 
-/// The requests that wait, where a column is several events.
+/// The requests that wait, if a column is several events.
 #[tactic(auto, unfolding(crate::specs::Lanes::with_waiting))]
 fn draw_waiting(
     alloc: Global,

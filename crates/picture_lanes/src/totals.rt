@@ -8,7 +8,7 @@ use picture_markup::Markup;
 use picture_scene::{Scene, add, at};
 use std::alloc::AllocError;
 
-/// A request is of a unit.
+/// Whether a request is of a unit.
 #[tactic(auto, unfolding(crate::specs::Totals::is_of_unit))]
 fn is_of_unit(request: &Request, unit: u8) -> bool
     ensures { result ≡ is_of_unit unit request.now }
@@ -16,7 +16,7 @@ fn is_of_unit(request: &Request, unit: u8) -> bool
     request.unit == unit
 }
 
-/// A request of a unit was answered ok.
+/// Whether a request of a unit was answered ok.
 #[tactic(auto, unfolding(crate::specs::Totals::is_ok_of_unit))]
 fn is_ok_of_unit(request: &Request, unit: u8) -> bool
     ensures { result ≡ is_ok_of_unit unit request.now }
@@ -118,7 +118,7 @@ fn draw_answered(
     draw_total(out, beside, add(y, 13), longest, "events queued at most")
 }
 
-/// The events behind which a drive was on its way, was ready, or held its adapter.
+/// The events after which a drive was on its way, was ready, or held its adapter.
 #[tactic(auto, unfolding(crate::specs::Totals::with_events))]
 fn draw_events(out: &mut Markup<'_>, beside: u32, all: Times, y: u32) -> Result<(), AllocError>
     ensures stands { OnOk result (out.new.stands ≡ out.old.stands) }
@@ -145,7 +145,7 @@ fn draw_moves(
     draw_total(out, beside, add(y, 52), as_asked, "in the order asked")
 }
 
-/// What a drive did in the whole run, where there is one.
+/// What a drive did in the whole run, if there is one.
 fn draw_times(
     out: &mut Markup<'_>,
     beside: u32,

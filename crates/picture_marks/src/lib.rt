@@ -1,7 +1,7 @@
 //! What happened at a drive of a run, over the columns: its marks and signals, with their tooltips.
 //!
-//! What is proved: `draw_marks` writes just the marks of a drive (`specs/Marks.antt`), leaves the elements that are open as they
-//! were, and the lines of the run that it tells in tooltips are those that speak of the drive, each once.
+//! What is proved: `draw_marks` writes exactly the marks of a drive (`specs/Marks.antt`) and leaves the elements that are open as they
+//! were. The lines of the run that it tells in tooltips are those that speak of the drive, each once.
 #![tactic(auto)]
 
 mod marks;

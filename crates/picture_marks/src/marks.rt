@@ -1,4 +1,4 @@
-//! What happened at a drive: above the marks, below them the signals. What is no trouble is drawn where columns have room for it.
+//! What happened at a drive: the marks, and the signals below them. A mark that is no trouble is drawn if columns have room for it.
 
 ghost use Rattle.std.specs.Prelude.{◌≡◌, ◌≤◌, ◌∷◌, [], ◌||◌, true, length, IfSome, IfOk, OnOk};
 ghost use Rattle.picture_markup.specs.Nesting.{in_title, told};
@@ -35,7 +35,7 @@ enum Shape {
     Hollow,
 }
 
-/// A shape that is drawn where there is room.
+/// A shape that is drawn if there is room.
 fn where_roomy(shape: Shape, roomy: bool) -> Shape
     ensures { result ≡ where_roomy roomy shape }
 {
@@ -151,14 +151,14 @@ fn draw_shapes(
     out.rect("o", at(sub(x, width / 2), y), width, 22, None)
 }
 
-/// A shape is drawn at all.
+/// Whether a shape is drawn at all.
 fn is_drawn(shape: Shape) -> bool
     ensures { result ≡ is_drawn shape }
 {
     !matches!(shape, Shape::Nothing)
 }
 
-/// Something is drawn for a column.
+/// Whether something is drawn for a column.
 #[tactic(auto, unfolding(crate::specs::Marks::has_shape))]
 fn has_shape(cell: &Cell, roomy: bool) -> bool
     ensures { result ≡ has_shape cell.now roomy }
@@ -166,7 +166,7 @@ fn has_shape(cell: &Cell, roomy: bool) -> bool
     is_drawn(mark_shape(cell.mark, roomy)) || is_drawn(signal_shape(cell.signal, roomy))
 }
 
-/// Behind how many of the lines the first of a column behind one stands, if there is such.
+/// How many lines come before the first one of a later column, if there is such a line.
 fn first_behind(notes: &[Note<'_>], column: usize) -> Option<usize>
     ensures fits { IfSome result (λ place. place ≤ length notes.now) }
     ensures place { result ≡ first_behind column notes.now }
@@ -186,7 +186,7 @@ fn count_to(notes: &[Note<'_>], column: usize) -> usize
     }
 }
 
-/// Some of the lines speak of a unit.
+/// Whether some of the lines speak of a unit.
 fn speaks_of(notes: &[Note<'_>], unit: u8) -> bool
     ensures { result ≡ is_spoken_of unit notes.now }
 {
@@ -201,7 +201,7 @@ fn put_feed(out: &mut Markup<'_>, first: bool) -> Result<(), AllocError>
     if first { Ok(()) } else { out.feed() }
 }
 
-/// A line, if it speaks of the unit, below another or first; and whether the next is the first.
+/// A line, if it speaks of the unit, below another one or as the first. The result is whether the next one is the first.
 #[tactic(auto, unfolding(crate::specs::Marks::with_note))]
 fn tell_note<'a>(
     out: &mut Markup<'a>,
@@ -258,7 +258,7 @@ fn draw_tip<'a>(
     end_group(out)
 }
 
-/// A column has a tooltip: it tells lines, or shows marks.
+/// Whether a column has a tooltip: it tells lines, or shows marks.
 fn has_tip(tells: bool, shows: bool) -> bool
     ensures { result ≡ (tells || shows) }
 {

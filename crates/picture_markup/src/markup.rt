@@ -29,7 +29,7 @@ impl<'a> Model for Markup<'a> {
 }
 
 impl<'a> Markup<'a> {
-    /// Of no piece.
+    /// A drawing of no piece.
     pub fn new(alloc: Global) -> Markup<'a>
         ensures { result ≡ empty }
     {
@@ -49,7 +49,7 @@ impl<'a> Markup<'a> {
         Ok(())
     }
 
-    /// Some pieces, none of them a line through many points.
+    /// Puts some pieces, none of which is a line through many points.
     pub fn put_all(&mut self, pieces: &[Piece<'a>]) -> Result<(), AllocError>
         requires { have_points 0 pieces.now ≡ true }
         ensures stands { OnOk result (self.new.stands ≡ fold drawn_with self.old.stands pieces.now) }
@@ -59,7 +59,7 @@ impl<'a> Markup<'a> {
         Ok(())
     }
 
-    /// An element starts.
+    /// Starts an element.
     pub fn start(&mut self, start: Start) -> Result<(), AllocError>
         ensures stands { OnOk result (self.new.stands ≡ started (element_of start) self.old.stands) }
         ensures text { OnOk result (self.new.text ≡ with_start start self.old.text) }
@@ -67,7 +67,7 @@ impl<'a> Markup<'a> {
         self.put(Piece::Start(start))
     }
 
-    /// The element that started last ends.
+    /// Ends the element that started last.
     pub fn end(&mut self, element: Element) -> Result<(), AllocError>
         ensures stands { OnOk result (self.new.stands ≡ ended element self.old.stands) }
         ensures text { OnOk result (self.new.text ≡ with_end element self.old.text) }
@@ -75,7 +75,7 @@ impl<'a> Markup<'a> {
         self.put(Piece::End(element))
     }
 
-    /// Words.
+    /// Puts words.
     pub fn word(&mut self, word: &'static str) -> Result<(), AllocError>
         ensures stands { OnOk result (self.new.stands ≡ self.old.stands) }
         ensures text { OnOk result (self.new.text ≡ with_words word.now self.old.text) }
@@ -83,7 +83,7 @@ impl<'a> Markup<'a> {
         self.put(Piece::Word(word))
     }
 
-    /// A number.
+    /// Puts a number.
     pub fn number(&mut self, number: u64) -> Result<(), AllocError>
         ensures stands { OnOk result (self.new.stands ≡ self.old.stands) }
         ensures text { OnOk result (self.new.text ≡ self.old.text ++ decimal number) }
@@ -91,7 +91,7 @@ impl<'a> Markup<'a> {
         self.put(Piece::Number(number))
     }
 
-    /// Bytes of the run's own.
+    /// Puts bytes of the run's own.
     pub fn said(&mut self, bytes: &'a [u8]) -> Result<(), AllocError>
         ensures stands { OnOk result (self.new.stands ≡ self.old.stands) }
         ensures text { OnOk result (self.new.text ≡ with_words bytes.now self.old.text) }
@@ -99,7 +99,7 @@ impl<'a> Markup<'a> {
         self.put(Piece::Said(bytes))
     }
 
-    /// A line of the run, in a tooltip.
+    /// Puts a line of the run, in a tooltip.
     pub fn told(&mut self, line: &'a [u8]) -> Result<(), AllocError>
         requires { in_title self.old.stands.within ≡ true }
         ensures stands { OnOk result (self.new.stands ≡ told (line.now ∷ []) self.old.stands) }
@@ -108,7 +108,7 @@ impl<'a> Markup<'a> {
         self.put(Piece::Told(line))
     }
 
-    /// Another line begins.
+    /// Begins another line.
     pub fn feed(&mut self) -> Result<(), AllocError>
         ensures stands { OnOk result (self.new.stands ≡ self.old.stands) }
         ensures text { OnOk result (self.new.text ≡ self.old.text ++ codes "\n") }
@@ -116,7 +116,7 @@ impl<'a> Markup<'a> {
         self.put(Piece::Feed)
     }
 
-    /// A part that is the same in each drawing.
+    /// Puts a part that is the same in each drawing.
     pub fn fixed(&mut self, text: &'static str) -> Result<(), AllocError>
         ensures stands { OnOk result (self.new.stands ≡ self.old.stands) }
         ensures text { OnOk result (self.new.text ≡ self.old.text ++ text.now ++ codes "\n") }
@@ -124,7 +124,7 @@ impl<'a> Markup<'a> {
         self.put(Piece::Fixed(text))
     }
 
-    /// A rectangle, filled with a pattern where one is named.
+    /// Puts a rectangle, filled with a pattern if one is named.
     pub fn rect(
         &mut self,
         class: &'static str,
@@ -145,7 +145,7 @@ impl<'a> Markup<'a> {
         })
     }
 
-    /// A circle.
+    /// Puts a circle.
     pub fn circle(
         &mut self,
         class: &'static str,
@@ -162,7 +162,7 @@ impl<'a> Markup<'a> {
         })
     }
 
-    /// A path.
+    /// Puts a path.
     pub fn path(&mut self, class: &'static str, route: Route) -> Result<(), AllocError>
         ensures stands { OnOk result (self.new.stands ≡ self.old.stands) }
         ensures text { OnOk result (self.new.text ≡ with_path class.now route self.old.text) }
@@ -170,7 +170,7 @@ impl<'a> Markup<'a> {
         self.put(Piece::Path { class, route })
     }
 
-    /// A point for a line through many; and how many there were before.
+    /// Puts a point for a line through many points. The result is how many there were before.
     pub fn point(&mut self, point: Point) -> Result<(), AllocError>
         ensures stands { OnOk result (self.new.stands ≡ self.old.stands) }
         ensures text { OnOk result (self.new.text ≡ self.old.text) }
@@ -187,7 +187,7 @@ impl<'a> Markup<'a> {
         self.points.len()
     }
 
-    /// A line through the points from a place on.
+    /// Puts a line through the points from a place on.
     pub fn polyline(&mut self, class: &'static str, from: usize) -> Result<(), AllocError>
         ensures stands { OnOk result (self.new.stands ≡ self.old.stands) }
         ensures text { OnOk result (self.new.text ≡ with_polyline class.now (slice_range self.old.points from (length self.old.points)) self.old.text) }
@@ -196,7 +196,7 @@ impl<'a> Markup<'a> {
         self.put(Piece::Polyline { class, from, to })
     }
 
-    /// Words at a place.
+    /// Puts words at a place.
     #[tactic(auto, unfolding(crate::specs::Elements::with_label, crate::specs::Elements::with_opened, crate::specs::Elements::with_start))]
     pub fn text(
         &mut self,
@@ -218,7 +218,7 @@ impl<'a> Markup<'a> {
         ])
     }
 
-    /// A number at a place.
+    /// Puts a number at a place.
     #[tactic(auto, unfolding(crate::specs::Elements::with_label_number, crate::specs::Elements::with_opened, crate::specs::Elements::with_start))]
     pub fn text_number(
         &mut self,
@@ -240,7 +240,7 @@ impl<'a> Markup<'a> {
         ])
     }
 
-    /// Words and a number behind them, at a place.
+    /// Puts words and a number after them, at a place.
     #[tactic(auto, unfolding(crate::specs::Elements::with_label_both, crate::specs::Elements::with_opened, crate::specs::Elements::with_start))]
     pub fn text_with(
         &mut self,

@@ -7,7 +7,7 @@ pub enum Element {
     Svg,
     /// A group.
     Group,
-    /// A title: a group's is its tooltip.
+    /// A title; that of a group is the group's tooltip.
     Title,
     /// What the drawing says, in sentences.
     Desc,
@@ -18,7 +18,7 @@ pub enum Element {
 /// The start of an element.
 #[derive(Clone, Copy)]
 pub enum Start {
-    /// The drawing, so wide and high.
+    /// The drawing, with its width and its height.
     Svg { width: u32, height: u32 },
     /// A group.
     Group,
@@ -27,7 +27,7 @@ pub enum Start {
     /// The drawing's title, and its sentences.
     Caption,
     Desc,
-    /// Words of a class, from a place on; and such that are written upwards.
+    /// Words of a class, from a place on; and words that are written upwards.
     Text { class: &'static str, x: u32, y: u32 },
     Upwards { x: u32, y: u32 },
 }
@@ -52,13 +52,13 @@ pub enum Sign {
 pub enum Route {
     /// From a point to another column.
     Across { from: Point, to: u32 },
-    /// So twice, the second time lower.
+    /// Twice from a point to another column, the second time lower.
     TwoAcross { from: Point, to: u32, lower: u32 },
     /// From a point down to a row.
     Down { from: Point, to: u32 },
     /// From a point to another.
     Line { from: Point, to: Point },
-    /// From a point four up, and so far to the right.
+    /// From a point four up, and then `width` to the right.
     Bracket { from: Point, width: u32 },
     /// From a point twelve down.
     Tick { from: Point },
@@ -71,7 +71,7 @@ pub enum Route {
 pub enum Piece<'a> {
     /// An element starts.
     Start(Start),
-    /// It ends.
+    /// An element ends.
     End(Element),
     /// Words, a number, and bytes of the run's own.
     Word(&'static str),
@@ -81,7 +81,7 @@ pub enum Piece<'a> {
     Told(&'a [u8]),
     /// Another line begins.
     Feed,
-    /// A rectangle with its upper left corner, filled with a pattern where one is named.
+    /// A rectangle by its upper left corner, filled with a pattern if one is named.
     Rect {
         class: &'static str,
         corner: Point,
@@ -100,7 +100,7 @@ pub enum Piece<'a> {
         class: &'static str,
         route: Route,
     },
-    /// A line through the points with these places.
+    /// A line through the points at these places.
     Polyline {
         class: &'static str,
         from: usize,

@@ -120,7 +120,7 @@ fn put_part(out: &mut Vec<u8>, part: Part<'_>) -> Result<(), AllocError>
     }
 }
 
-/// Puts parts, one behind another.
+/// Puts parts, one after another.
 fn put_parts(out: &mut Vec<u8>, parts: &[Part<'_>]) -> Result<(), AllocError>
     ensures { OnOk result (out.new.items ≡ fold with_part out.old.items parts.now) }
 {
@@ -187,7 +187,7 @@ fn put_front(out: &mut Vec<u8>) -> Result<(), AllocError>
     put(out, "<svg xmlns=\"http://www.w3.org/2000/svg\"")
 }
 
-/// Puts what stands behind the drawing's box.
+/// Puts what stands after the drawing's box.
 #[tactic(auto, unfolding(crate::specs::Elements::svg_back))]
 fn put_back(out: &mut Vec<u8>) -> Result<(), AllocError>
     ensures { OnOk result (out.new.items ≡ out.old.items ++ svg_back) }
@@ -342,14 +342,14 @@ fn put_path(out: &mut Vec<u8>, class: &str, route: Route) -> Result<(), AllocErr
     put(out, "\"/>\n")
 }
 
-/// Puts a point behind others.
+/// Puts a point after others.
 fn put_next(out: &mut Vec<u8>, point: Point) -> Result<(), AllocError>
     ensures { OnOk result (out.new.items ≡ with_next out.old.items point) }
 {
     put_parts(out, &[Part::Leg(" ", point.x), Part::Leg(",", point.y)])
 }
 
-/// Puts points behind others.
+/// Puts points after others.
 fn put_rest(out: &mut Vec<u8>, points: &[Point]) -> Result<(), AllocError>
     ensures { OnOk result (out.new.items ≡ fold with_next out.old.items points.now) }
 {
@@ -359,7 +359,7 @@ fn put_rest(out: &mut Vec<u8>, points: &[Point]) -> Result<(), AllocError>
     Ok(())
 }
 
-/// Puts points, each behind the first after a blank.
+/// Puts points, with a blank before each one except the first.
 fn put_points(out: &mut Vec<u8>, points: &[Point]) -> Result<(), AllocError>
     ensures { OnOk result (out.new.items ≡ with_points points.now out.old.items) }
 {

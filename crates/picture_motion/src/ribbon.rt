@@ -16,7 +16,7 @@ use picture_sheet::{LETTERS, count_of, letter_sign};
 use run_picture::Column;
 use std::alloc::{AllocError, Global};
 
-/// The letters from below, where a column is several events.
+/// The letters from below, if a column is several events.
 static STACK: [Letter; 10] = [
     Letter::Moves,
     Letter::Retries,
@@ -62,7 +62,7 @@ fn meaning_of(letter: Letter) -> &'static str
     }
 }
 
-/// Each letter of a drive is as often in both columns.
+/// Whether each letter of a drive stands equally often in both columns.
 fn is_as_often(column: &Column, next: &Column, unit: u8) -> bool
     ensures { result ≡ list_all (is_as_often unit column.now next.now) LETTERS }
 {
@@ -73,7 +73,7 @@ fn is_as_often(column: &Column, next: &Column, unit: u8) -> bool
         == count_of(&there, others, *letter))
 }
 
-/// A drive does the same in both columns: of as many events, each letter is as often.
+/// Whether a drive does the same in both columns: they have as many events, and each letter stands equally often.
 #[tactic(auto, unfolding(crate::specs::Ribbons::is_same))]
 fn is_same(column: &Column, next: &Column, unit: u8) -> bool
     ensures { result ≡ is_same unit column.now next.now }
@@ -81,7 +81,7 @@ fn is_same(column: &Column, next: &Column, unit: u8) -> bool
     column.head.events == next.head.events && is_as_often(column, next, unit)
 }
 
-/// The number of the second column, where that of the first is given.
+/// The number of the second column; that of the first is given.
 fn next_key(columns: &[Column], unit: u8, key: u64) -> u64
     ensures { result ≡ next_number (is_same unit) key columns.now }
 {
@@ -97,7 +97,7 @@ fn next_key(columns: &[Column], unit: u8, key: u64) -> u64
     }
 }
 
-/// Numbers, one a column, that are equal where a drive does the same in columns side by side.
+/// A number for each column. Neighbouring columns have equal numbers if a drive does the same in them.
 fn ribbon_keys(alloc: Global, columns: &[Column], unit: u8) -> Result<Vec<u64>, AllocError>
     ensures { IfOk result (λ keys. keys.items ≡ numbered (is_same unit) 0 columns.now) }
 {
@@ -110,7 +110,7 @@ fn ribbon_keys(alloc: Global, columns: &[Column], unit: u8) -> Result<Vec<u64>, 
     Ok(keys)
 }
 
-/// Puts, where a column is several events, behind how many a letter stands.
+/// If a column is several events, puts after how many a letter stands.
 fn put_times(out: &mut Markup<'_>, single: bool, count: u64) -> Result<(), AllocError>
     ensures stands { OnOk result (out.new.stands ≡ out.old.stands) }
     ensures text { OnOk result (out.new.text ≡ with_times single count out.old.text) }
@@ -129,7 +129,7 @@ fn between(first: bool) -> &'static str
     if first { ": " } else { ", " }
 }
 
-/// Puts what a letter says, if it stands behind an event; and whether the next are the first words.
+/// Puts what a letter says, if it stands after an event. The result is whether the next words are the first.
 #[tactic(auto, unfolding(crate::specs::Ribbons::with_meaning))]
 fn put_meaning(
     out: &mut Markup<'_>,
@@ -190,7 +190,7 @@ fn put_meanings(
     put_letters(out, &LETTERS, tally, events, single)
 }
 
-/// The sign of a letter, where a column is one event and there is room.
+/// The sign of a letter, if a column is one event and there is room.
 fn draw_sign(
     out: &mut Markup<'_>,
     scene: &Scene<'_, '_>,
@@ -232,7 +232,7 @@ fn draw_letter(
     draw_sign(out, scene, stretch, letter, y, signed)
 }
 
-/// A letter's part of a stretch, as high as it has events, upon what is below; and the events below the next.
+/// A letter's part of a stretch, as high as it has events, on top of what is below. The result is the events below the next part.
 #[tactic(auto, unfolding(crate::specs::Ribbons::with_part))]
 fn draw_part(
     out: &mut Markup<'_>,
@@ -299,7 +299,7 @@ fn draw_stretch(
     end_group(out)
 }
 
-/// A drive is not idle behind some event of a column.
+/// Whether a drive is not idle after some event of a column.
 #[tactic(auto, unfolding(crate::specs::Ribbons::is_busy))]
 fn is_busy(tally: &Tally, events: u64) -> bool
     ensures { result ≡ is_busy tally.now events }

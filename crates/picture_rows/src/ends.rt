@@ -150,7 +150,7 @@ static ENDS: [End; 19] = [
     },
 ];
 
-/// Whether a command ends so, and prints just this.
+/// Whether a command ends as its row says, and prints exactly the text of that row.
 fn ends_so(alloc: Global, end: &End) -> bool {
     let ended = view_of(alloc, end.line, end.script, end.trace);
     ended.status == end.status && ended.out.as_slice() == end.text
@@ -169,8 +169,8 @@ fn source(alloc: Global, bytes: &[u8], fault: u64) -> Result<MemSource, AllocErr
     Ok(MemSource::new(Vec::from_slice(alloc, bytes)?, faults))
 }
 
-/// What comes where these calls of the script's source, of the trace's, and of the sink fail, of which none has the number 0: the status,
-/// and how much is printed.
+/// What comes if the calls with these numbers of the script's source, of the trace's and of the sink fail; 0 stands for no call: the
+/// status, and how much is printed.
 fn failed(alloc: Global, script: u64, trace: u64, out: u64) -> Option<(u8, usize)> {
     let faults = Vec::from_slice(alloc, &[out]).ok()?;
     let mut out = MemSink::new(alloc, 100_000, faults).ok()?;

@@ -1,6 +1,6 @@
 //! Worked rows of the program that draws: the picture of each run of `examples/` is byte for byte the one that stands beside its
-//! script, by its SHA-256, and charts and refusals are these texts; those of `examples/` are written by `examples/rows.py`. And
-//! outcomes of wrong bodies, each refused by a law.
+//! script, by its SHA-256, and charts and refusals are the texts that stand here. `examples/rows.py` writes those of `examples/`.
+//! Laws state outcomes that a wrong program could produce, and prove that the contracts rule them out.
 #![tactic(auto)]
 
 ghost use Rattle.picture_rows.specs.Outcomes.{ColumnDropsAnEvent, IdleEventLeftOut, AmpersandAsItIs, CoordinateOf20000, WindowFromTheFirstEvent, LeadOfEqualsTheFirst, AllAdaptersTakenTogether, RequestBehindTheWindowShown, LineOfAnotherDrive, StretchEndedAtItsFirstColumn, GroupEndedAroundAnArm, TooltipEndedTwice};
@@ -20,7 +20,7 @@ mod texts;
 #[cfg(test)]
 mod views;
 
-/// A picture may not be drawn so: by its columns, windows, letters, requests and texts.
+/// Refused outcomes of a picture: of its columns, windows, letters, requests and texts.
 pub fn picture_law()
     ensures column_drops_an_event { ColumnDropsAnEvent }
     ensures idle_event_left_out { IdleEventLeftOut }
@@ -36,7 +36,7 @@ pub fn picture_law()
     ensures tooltip_ended_twice { TooltipEndedTwice }
 {}
 
-/// Elements may not be left open so, and lines not be told so.
+/// Refused outcomes of elements that are left open, and of lines that are told.
 pub fn nested_law()
     ensures group_left_open { GroupLeftOpen }
     ensures letters_left_open { LettersLeftOpen }
@@ -46,7 +46,7 @@ pub fn nested_law()
     ensures drive_drawn_twice { DriveDrawnTwice }
 {}
 
-/// Columns may not be shown so: by adapters, drives, axes and charts.
+/// Refused outcomes of how columns are shown: by adapters, drives, axes and charts.
 pub fn shown_law()
     ensures positioning_at_another_adapter { PositioningAtAnotherAdapter }
     ensures arm_of_another_unit { ArmOfAnotherUnit }
@@ -56,7 +56,7 @@ pub fn shown_law()
     ensures row_of_another_unit { RowOfAnotherUnit }
 {}
 
-/// A run may not be seen so, a trace not be refused so, and the program not end so.
+/// Refused outcomes of how a run is seen, how a trace is refused, and how the program ends.
 pub fn runs_law()
     ensures last_play_not_seen { LastPlayNotSeen }
     ensures played_behind_its_lines { PlayedBehindItsLines }
@@ -67,7 +67,7 @@ pub fn runs_law()
     ensures second_fault_refused { SecondFaultRefused }
 {}
 
-/// A plan may not leave out so, and a picture not be headed so.
+/// Refused outcomes of what a plan leaves out, and of what stands at the head of a picture.
 pub fn plan_law()
     ensures request_left_out { RequestLeftOut }
     ensures column_left_out { ColumnLeftOut }

@@ -12,7 +12,7 @@ const ONE: &[u8] =
 const THREE: &[u8] =
     b"# Two drives seek at the same time, while a third transfers.\nunit 0 rp06\nunit 1 rp06\nunit 2 rm03\nread 1 2 c 5 3\nread 2 0 c 4180 2\nwrite 3 1 c 8360 1 fill 33\nmove 0\narrive 1\nmove 0\narrive 0\nmove 0\nattend 0\n";
 
-/// A script, its trace, and what is told of the first faulty line: each kind of refusal, and each two of its neighbours in the order of
+/// A script, its trace, and what is told of the first faulty line: each kind of refusal, and each two neighbours in the order of
 /// the checks.
 static REFUSED: [(&[u8], &[u8], &[u8]); 41] = [
     (
@@ -130,7 +130,7 @@ static REFUSED: [(&[u8], &[u8], &[u8]); 41] = [
     (ONE, b"arrive 4 1 1", b"refused trace line 1 script\n"),
 ];
 
-/// Whether a trace is so refused beside a script.
+/// Whether a trace is refused beside a script with the text that is told.
 fn is_refused(alloc: Global, script: &[u8], trace: &[u8], told: &[u8]) -> bool {
     let ended = view_of(alloc, "text", script, trace);
     ended.status == 3 && ended.out.as_slice() == told
@@ -147,7 +147,7 @@ fn first_faults(rt: HostRuntime) {
 const FORMS: &[u8] =
     b"cmd 1 0 0 search 0 0\ncmd 1 31 4294967295 search 822 31\ncmd 1 0 0 seek 822\ncmd 1 0 0 recal\ncmd 1 0 0 offset +400\ncmd 1 0 0 offset -1200\ncmd 1 0 0 rtc\ncmd 1 0 0 dclr\ncmd 1 0 0 pack\ncmd 1 0 0 rcom 500383 1\ncmd 1 0 0 wcom 0 127\narrive 1 0 0\nsector 1 0 0 0 clean\nsector 1 0 0 7 burst 4128 3777\nsector 1 0 0 7 burst 1 1\nsector 1 0 0 7 ecc\nsector 1 0 0 7 mark\nsector 1 0 0 7 seek\nsector 1 0 0 7 opi\nsector 1 0 0 7 dte\nsector 1 0 0 7 hcrc\nsector 1 0 0 7 late\nsector 1 0 0 7 offline\nintr 1 0 0\ntry 1 0 0 7 1\ntry 1 0 0 7 28\nattn 1 0 0\nend 2 0 0\n";
 
-/// How many lines are read of a trace beside a script of no line.
+/// How many lines of a trace are read beside a script that has no line.
 fn count_of_lines(alloc: Global, trace: &[u8]) -> Option<usize> {
     let Ok(script) = read_script(alloc, Vec::new(alloc)) else {
         return None;

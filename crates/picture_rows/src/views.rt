@@ -11,7 +11,7 @@ pub(crate) struct Ended {
     pub(crate) out: Vec<u8>,
 }
 
-/// The words of a line, which stand between single blanks.
+/// The words of a line, which single blanks separate.
 fn words_of(alloc: Global, line: &str) -> Result<Vec<String>, AllocError> {
     let mut words = Vec::new(alloc);
     for word in line.split(' ') {
@@ -20,7 +20,7 @@ fn words_of(alloc: Global, line: &str) -> Result<Vec<String>, AllocError> {
     Ok(words)
 }
 
-/// The status of the command of a line; 9 where there is no memory for its words.
+/// The status of the command of a line; 9 if there is no memory for its words.
 pub(crate) fn status_of<S: Source, T: Source, O: Sink>(
     alloc: Global,
     line: &str,

@@ -9,15 +9,15 @@ use picture_markup::Point;
 /// The left edge of the columns.
 pub const LEFT: u32 = 160;
 
-/// The right edge of their labels.
+/// The right edge of the labels beside the columns.
 pub const LABEL: u32 = 150;
 
-/// How wide the columns are together at most, and one of them.
+/// How wide all columns are together at most, and one of them.
 const PLOT: u32 = 864;
 
 const WIDEST: u32 = 40;
 
-/// The width of a column, the right edge of the columns, that of what stands beside them, and the width of the picture.
+/// The width of a column, the right edge of the columns, the right edge of what stands beside them, and the width of the picture.
 #[derive(Clone, Copy)]
 pub struct Frame {
     pub column: u32,
@@ -64,7 +64,7 @@ pub fn small(number: u64) -> u32
     number.min(1_000_000) as u32
 }
 
-/// So much of a height as some events are of all.
+/// The part of a height that some events are of all events.
 #[tactic(auto, unfolding(crate::specs::Frames::part_of))]
 pub fn part_of(height: u64, some: u64, all: u64) -> u32
     ensures { result ≡ part_of height some all }
@@ -89,7 +89,7 @@ pub fn width_of(number: u64) -> u32
 }
 
 impl Frame {
-    /// Of so many columns.
+    /// The frame of `columns` columns.
     #[tactic(auto, unfolding(crate::specs::Frames::frame_of))]
     pub fn new(columns: usize) -> Frame
         ensures { result ≡ frame_of columns }

@@ -12,9 +12,9 @@ use std::alloc::{AllocError, Global};
 /// What a number tells of a column.
 #[derive(Clone, Copy)]
 pub enum Key {
-    /// The script's line at which it begins.
+    /// The script's line at which the column begins.
     Line,
-    /// How many drives of an adapter position in it, at most.
+    /// How many drives of an adapter position in the column, at most.
     Together(u8),
     /// How many requests of a unit wait.
     Waiting(u8),
@@ -24,7 +24,7 @@ pub enum Key {
     Lead(u8),
 }
 
-/// A drive is offline, or is locked.
+/// Whether a drive is offline, or whether it is locked.
 pub fn holds(cell: &Cell, offline: bool) -> bool
     ensures { result ≡ holds offline cell.now }
 {

@@ -1,8 +1,8 @@
 //! What is drawn of a run, and where: the width of a column, the drives, stretches of columns, and groups with their tooltips.
 //!
-//! What is proved: each call by its definition: where a column, an event and a drive stand; which stretches of columns are equal,
-//! and by which number of each column (`specs/Keys.antt`); what a column shows of a drive; `lanes_of`: the drives that are drawn are
-//! those of the sheet; and the text of each group, tooltip and sentence. Groups, tooltips and words begin and end as their names
+//! What is proved, for each call by its definition: where a column, an event and a drive stand; which stretches of columns are equal,
+//! and by which number of each column (`specs/Keys.antt`); what a column shows of a drive; that the drives that are drawn are those of
+//! the sheet (`lanes_of`); and the text of each group, tooltip and sentence. Groups, tooltips and words begin and end as their names
 //! say, and no line of the run is told.
 #![tactic(auto)]
 

@@ -13,7 +13,7 @@ use picture_sheet::{Sheet, Shown, cell_at, is_shown, top_of};
 use run_picture::{Column, Head};
 use std::alloc::{AllocError, Global};
 
-/// A drive as it is drawn: its unit and its kind, the highest cylinder, where its arm is before the first column, and how high
+/// A drive as it is drawn: its unit and its kind, its highest cylinder, where its arm is before the first column, and how high
 /// the way of its arm is drawn.
 #[derive(Clone, Copy)]
 pub struct Lane {
@@ -40,7 +40,7 @@ pub struct Stretch {
     pub to: usize,
 }
 
-/// A request is of a unit, and shown.
+/// Whether a request is of a unit, and is shown.
 #[tactic(auto, unfolding(crate::specs::Scenes::is_of))]
 fn is_of(sheet: &Sheet<'_>, unit: u8, request: &Request) -> bool
     ensures { result ≡ is_of sheet.now unit request.now }
@@ -112,7 +112,7 @@ pub fn lanes_of(alloc: Global, sheet: &Sheet<'_>) -> Result<Vec<Lane>, AllocErro
     Ok(lanes)
 }
 
-/// The second of some numbers is the first again.
+/// Whether the second of some numbers is the same as the first.
 fn goes_on(keys: &[u64]) -> bool
     ensures { result ≡ goes_on keys.now }
 {
@@ -122,7 +122,7 @@ fn goes_on(keys: &[u64]) -> bool
     }
 }
 
-/// Puts a stretch, unless it goes on; and where the stretch at hand then begins.
+/// Puts a stretch, unless it goes on. The result is where the stretch at hand then begins.
 fn put_ended(
     stretches: &mut Vec<Stretch>,
     on: bool,
@@ -140,7 +140,7 @@ fn put_ended(
     }
 }
 
-/// The stretches of equal numbers, of which each column has one.
+/// The stretches in which the numbers are equal; each column has one number.
 #[tactic(auto, unfolding(crate::specs::Stretches::stretches_of))]
 pub fn stretches(alloc: Global, keys: &[u64]) -> Result<Vec<Stretch>, AllocError>
     ensures { IfOk result (λ stretches. stretches.items ≡ stretches_of keys.now) }
@@ -155,7 +155,7 @@ pub fn stretches(alloc: Global, keys: &[u64]) -> Result<Vec<Stretch>, AllocError
 }
 
 impl Stretch {
-    /// The same so many columns further.
+    /// The same stretch, `by` columns further.
     pub fn moved(&self, by: usize) -> Stretch
         ensures { result ≡ moved by self.now }
     {
@@ -174,7 +174,7 @@ impl<'s, 'a> Scene<'s, 'a> {
         self.sheet.columns()
     }
 
-    /// The head of a column; of no event behind the last.
+    /// The head of a column; after the last column, a head of no event.
     pub fn head(&self, column: usize) -> Head
         ensures { result ≡ (column_at self.now.sheet.now column).head }
     {
@@ -184,7 +184,7 @@ impl<'s, 'a> Scene<'s, 'a> {
         }
     }
 
-    /// The events of a column.
+    /// How many events a column has.
     #[tactic(auto, unfolding(crate::specs::Scenes::size_of))]
     pub fn size(&self, column: usize) -> u64
         ensures { result ≡ size_of self.now.sheet.now column }
@@ -192,7 +192,7 @@ impl<'s, 'a> Scene<'s, 'a> {
         self.head(column).events
     }
 
-    /// What is seen of a drive in a column of a number.
+    /// What is seen of a drive in the column with a number.
     #[tactic(auto, unfolding(crate::specs::Scenes::cell_in))]
     pub fn cell(&self, unit: u8, column: usize) -> Cell
         ensures { result ≡ cell_in self.now.sheet.now unit column }

@@ -12,7 +12,7 @@ use picture_markup::{Element, Markup, Piece, Point, Start};
 use picture_sheet::{Phrase, Sentence};
 use std::alloc::AllocError;
 
-/// The front of a text for which there is room.
+/// The front of a text, as far as there is room.
 pub fn front(text: &[u8], room: usize) -> &[u8]
     ensures { result.now ≡ take room text.now }
 {
@@ -44,7 +44,7 @@ pub fn end_group(out: &mut Markup<'_>) -> Result<(), AllocError>
     out.end(Element::Group)
 }
 
-/// Words begin, of a class and at a place.
+/// Words of a class begin at a place.
 #[tactic(auto, unfolding(picture_markup::specs::Elements::with_start, picture_markup::specs::Elements::with_opened))]
 pub fn begin_text(out: &mut Markup<'_>, class: &'static str, place: Point) -> Result<(), AllocError>
     ensures stands { OnOk result (out.new.stands ≡ started Text out.old.stands) }
@@ -57,7 +57,7 @@ pub fn begin_text(out: &mut Markup<'_>, class: &'static str, place: Point) -> Re
     })
 }
 
-/// They end.
+/// The words end.
 pub fn end_text(out: &mut Markup<'_>) -> Result<(), AllocError>
     ensures stands { OnOk result (out.new.stands ≡ ended Text out.old.stands) }
     ensures text { OnOk result (out.new.text ≡ with_end Text out.old.text) }
@@ -65,7 +65,7 @@ pub fn end_text(out: &mut Markup<'_>) -> Result<(), AllocError>
     out.end(Element::Text)
 }
 
-/// A group begins, with the events and the lines of a stretch of columns at the head of its tooltip.
+/// A group begins; at the head of its tooltip are the events and the lines of a stretch of columns.
 #[tactic(auto, unfolding(crate::specs::Groups::with_span, crate::specs::Groups::with_group))]
 pub fn begin_span(
     out: &mut Markup<'_>,
@@ -95,7 +95,7 @@ pub fn begin_span(
     ])
 }
 
-/// A group begins, with so many of what words say at the end of its tooltip.
+/// A group begins; at the end of its tooltip are a count and the words for what is counted.
 #[tactic(auto, unfolding(crate::specs::Groups::with_counted))]
 pub fn begin_count(
     out: &mut Markup<'_>,
@@ -116,7 +116,7 @@ pub fn begin_count(
     ])
 }
 
-/// The third phrase of a sentence, where it has one.
+/// The third phrase of a sentence, if it has one.
 fn put_third(out: &mut Markup<'_>, third: Option<Phrase>) -> Result<(), AllocError>
     ensures stands { OnOk result (out.new.stands ≡ out.old.stands) }
     ensures text { OnOk result (out.new.text ≡ with_third third out.old.text) }

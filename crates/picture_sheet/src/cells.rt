@@ -22,7 +22,7 @@ pub static LETTERS: [Letter; 11] = [
     Letter::Moved,
 ];
 
-/// The events of a column behind which a drive positions or has arrived, or is ready.
+/// After how many events of a column a drive positions or has arrived, or is ready.
 fn before_moving(tally: &Tally) -> u64
     ensures { result ≡ waiting tally.now }
 {
@@ -35,7 +35,7 @@ fn before_moving(tally: &Tally) -> u64
         .saturating_add(tally.ready)
 }
 
-/// The events of a column behind which a drive holds its adapter.
+/// After how many events of a column a drive holds its adapter.
 pub fn holding(tally: &Tally) -> u64
     ensures { result ≡ holding tally.now }
 {
@@ -46,7 +46,7 @@ pub fn holding(tally: &Tally) -> u64
         .saturating_add(tally.moved)
 }
 
-/// Behind how many of a column's events, which are so many, a letter stands.
+/// After how many of a column's events a letter stands; the column has `events` of them.
 pub fn count_of(tally: &Tally, events: u64, letter: Letter) -> u64
     ensures { result ≡ count_of tally.now events letter }
 {
@@ -67,7 +67,7 @@ pub fn count_of(tally: &Tally, events: u64, letter: Letter) -> u64
     }
 }
 
-/// Of two letters the one of more events; the second where they are of as many.
+/// The letter of more events, of two; the second one if both are of as many.
 #[tactic(auto, unfolding(crate::specs::Letters::oftener))]
 fn oftener(tally: &Tally, events: u64, letter: Letter, other: Letter) -> Letter
     ensures { result ≡ oftener tally.now events letter other }
@@ -79,7 +79,7 @@ fn oftener(tally: &Tally, events: u64, letter: Letter, other: Letter) -> Letter
     }
 }
 
-/// Of some letters the one of most of a column's events; of several such, the last; idle if none.
+/// The letter of most of a column's events, of some letters: if several have as many, the last of these, and idle if there is none.
 fn oftenest(letters: &[Letter], tally: &Tally, events: u64) -> Letter
     ensures { result ≡ fold (oftener tally.now events) Letter.Idle letters.now }
 {
@@ -90,7 +90,7 @@ fn oftenest(letters: &[Letter], tally: &Tally, events: u64) -> Letter
     lead
 }
 
-/// The letter of most of a column's events; of several such, the last.
+/// The letter of most of a column's events; if several letters have as many, the last of these.
 #[tactic(auto, unfolding(crate::specs::Letters::lead_of))]
 pub fn lead(tally: &Tally, events: u64) -> Letter
     ensures { result ≡ lead_of tally.now events }

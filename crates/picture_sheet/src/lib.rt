@@ -1,10 +1,10 @@
 //! What the pictures of a run show: the events of a window in columns, the drives and the requests that are in them, and the words
-//! for what is seen of both.
+//! for what is seen of drives and requests.
 //!
-//! What is proved: `Sheet`: its title, its columns, at which event each begins and which one an event is in, and the drives that are
-//! shown: those that have requests, by their number; `Shown`: which requests are listed; `top_of`: the highest cylinder of a unit;
-//! behind how many of a column's events a letter stands, and which one leads; `sentences`: which words and numbers they say; and
-//! each word and sign. No call fails but for want of memory.
+//! What is proved: `Sheet`: its title, its columns, at which event each column begins and in which column an event is, and the drives
+//! that are shown, which are those that have requests, by their number; `Shown`: which requests are listed; `top_of`: the highest
+//! cylinder of a unit; after how many of a column's events a letter stands, and which letter leads; `sentences`: which words and
+//! numbers they say; and each word and sign. A call fails only if there is no memory.
 #![tactic(auto)]
 
 mod cells;

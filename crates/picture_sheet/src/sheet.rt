@@ -23,33 +23,33 @@ pub struct Note<'a> {
 /// A run as a picture shows it.
 #[derive(Clone, Copy)]
 pub struct Sheet<'a> {
-    /// What stands above it; empty for none.
+    /// What stands above the picture; empty if there is nothing.
     pub caption: &'a [u8],
     /// The run, finished.
     pub run: &'a Run,
     /// The events that are shown, as the run has them in columns.
     pub window: Window,
-    /// Of each column the text of the script's line at which it begins; empty where it is not known.
+    /// For each column, the text of the script's line at which the column begins; empty if it is not known.
     pub texts: &'a [&'a [u8]],
-    /// Where a column is one event, the lines that speak of a drive, as they came; else none.
+    /// If a column is one event, the lines that speak of a drive, in the order in which they came; otherwise none.
     pub notes: &'a [Note<'a>],
 }
 
-/// Some request is of a unit.
+/// Whether some request is of a unit.
 fn has_request(requests: &[Request], unit: u8) -> bool
     ensures { result ≡ has_request requests.now unit }
 {
     requests.iter().any(|request| request.unit == unit)
 }
 
-/// A drive is drawn: something is shown, and some request is of it.
+/// Whether a drive is drawn: something is shown, and some request is of the drive.
 fn is_drawn(sheet: &Sheet<'_>, unit: u8) -> bool
     ensures { result ≡ is_drawn sheet.now unit }
 {
     !sheet.run.columns().is_empty() && has_request(sheet.run.requests(), unit)
 }
 
-/// A drive stands behind others, if it is drawn.
+/// Puts a drive after others, if it is drawn.
 fn push_drawn(sheet: &Sheet<'_>, units: &mut Vec<u8>, unit: u8) -> Result<(), AllocError>
     ensures { OnOk result (units.new.items ≡ units.old.items ++ unit_drawn sheet.now unit) }
 {
@@ -79,7 +79,7 @@ impl<'a> Sheet<'a> {
         self.run.columns()
     }
 
-    /// The first event of a column; for one behind the last, the end.
+    /// The first event of a column; for a column after the last one, the end.
     pub fn head(&self, column: usize) -> u64
         ensures { result ≡ head_of self.now column }
     {
@@ -90,7 +90,7 @@ impl<'a> Sheet<'a> {
             .min(self.window.last)
     }
 
-    /// The column of an event; the first and the last edge for those before and behind.
+    /// The column of an event; for an event before or after those that are shown, the first or the last edge.
     pub fn column_of(&self, event: u64) -> usize
         ensures { result ≡ column_of self.now event }
     {
@@ -99,14 +99,14 @@ impl<'a> Sheet<'a> {
         column.min(columns) as usize
     }
 
-    /// A column is one event.
+    /// Whether a column is one event.
     pub fn is_by_event(&self) -> bool
         ensures { result ≡ (self.now.window.per == 1) }
     {
         self.window.per == 1
     }
 
-    /// The units that have requests, where anything is shown.
+    /// The units that have requests, if anything is shown.
     pub fn units(&self, alloc: Global) -> Result<Vec<u8>, AllocError>
         ensures { IfOk result (λ units. units.items ≡ units_shown self.now) }
     {
@@ -127,7 +127,7 @@ impl<'a> Sheet<'a> {
         }
     }
 
-    /// The word of a drive's kind; none where no script declares it.
+    /// The word of a drive's kind; empty if no script declares the drive.
     pub fn kind_of(&self, unit: u8) -> &'static str
         ensures { result.now ≡ kind_of self.now unit }
     {

@@ -20,7 +20,7 @@ pub struct Shown {
     pub listed: Vec<Request>,
 }
 
-/// A request meets the events that are shown.
+/// Whether a request meets the events that are shown.
 #[tactic(auto, unfolding(crate::specs::Requests::is_shown))]
 pub fn is_shown(sheet: &Sheet<'_>, request: &Request) -> bool
     ensures { result ≡ is_shown sheet.now request.now }
@@ -45,7 +45,7 @@ fn count_shown(sheet: &Sheet<'_>) -> usize
     count
 }
 
-/// A request is listed, if there is room.
+/// Whether a request is listed, if there is room.
 #[tactic(auto, unfolding(crate::specs::Requests::is_listed))]
 fn is_listed(sheet: &Sheet<'_>, few: bool, request: &Request) -> bool
     ensures { result ≡ is_listed sheet.now few request.now }
@@ -53,7 +53,7 @@ fn is_listed(sheet: &Sheet<'_>, few: bool, request: &Request) -> bool
     is_shown(sheet, request) && (few || request.trouble)
 }
 
-/// A request stands behind those that are listed, if it is wanted and there is room.
+/// Puts a request after those that are listed, if it is wanted and there is room.
 #[tactic(auto, unfolding(crate::specs::Requests::listed_with))]
 fn list_request(
     listed: &mut Vec<Request>,
@@ -81,7 +81,7 @@ fn list(alloc: Global, sheet: &Sheet<'_>, few: bool) -> Result<Vec<Request>, All
 }
 
 impl Shown {
-    /// The requests that a sheet shows. Where they are more than 64, the first 64 with trouble are listed.
+    /// The requests that a sheet shows. If there are more than 64, the first 64 with trouble are listed.
     pub fn new(alloc: Global, sheet: &Sheet<'_>) -> Result<Shown, AllocError>
         ensures count { IfOk result (λ shown. shown.count ≡ shown_count sheet.now) }
         ensures few { IfOk result (λ shown. shown.few ≡ is_few (shown_count sheet.now)) }
@@ -115,7 +115,7 @@ fn with_column(unit: u8, top: u32, column: &Column) -> u32
     }
 }
 
-/// The higher of a cylinder and a request's, where it is of a unit and is shown.
+/// The higher of a cylinder and that of a request, if the request is of a unit and is shown.
 #[tactic(auto, unfolding(crate::specs::Requests::with_request))]
 fn with_request(sheet: &Sheet<'_>, unit: u8, top: u32, request: &Request) -> u32
     ensures { result ≡ with_request sheet.now unit top request.now }
@@ -138,7 +138,7 @@ fn top_of_arm(sheet: &Sheet<'_>, unit: u8) -> u32
     top
 }
 
-/// The highest cylinder of a unit: of its arm, and of its requests.
+/// The highest cylinder of a unit, of its arm and of its requests.
 pub fn top_of(sheet: &Sheet<'_>, unit: u8) -> u32
     ensures { result ≡ top_of sheet.now unit }
 {

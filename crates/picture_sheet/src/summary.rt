@@ -1,4 +1,4 @@
-//! The answers at a glance, of a whole run, in sentences.
+//! A whole run at a glance, in sentences.
 
 ghost use Rattle.std.specs.Prelude.{◌≡◌, count_by};
 ghost use Rattle.picture_sheet.specs.Sentences.{was_ok, was_turned, SaysRequests, SaysEvents, SaysPositioning, SaysMoving, SumUp};
@@ -6,14 +6,14 @@ ghost use Rattle.picture_sheet.specs.Sentences.{was_ok, was_turned, SaysRequests
 use crate::sheet::Sheet;
 use drive_pictures::{Outcome, Request};
 
-/// Words, and a number behind them.
+/// Words, and a number after them.
 #[derive(Clone, Copy)]
 pub struct Phrase {
     pub word: &'static str,
     pub number: u64,
 }
 
-/// A sentence: two phrases or three, and its end.
+/// A sentence: two or three phrases, and its end.
 #[derive(Clone, Copy)]
 pub struct Sentence {
     pub first: Phrase,
@@ -22,7 +22,7 @@ pub struct Sentence {
     pub end: &'static str,
 }
 
-/// A request was answered ok.
+/// Whether a request was answered ok.
 #[tactic(auto, unfolding(crate::specs::Sentences::was_ok))]
 fn was_ok(request: &Request) -> bool
     ensures { result ≡ was_ok request.now }
@@ -43,7 +43,7 @@ fn count_ok(requests: &[Request]) -> usize
     count
 }
 
-/// A request was served out of the order asked.
+/// Whether a request was served out of the order asked.
 #[tactic(auto, unfolding(crate::specs::Sentences::was_turned))]
 fn was_turned(request: &Request) -> bool
     ensures { result ≡ was_turned request.now }

@@ -6,7 +6,7 @@ ghost use Rattle.picture_sheet.specs.Words.{kind_word, outcome_word, letter_sign
 use drive_pictures::{Letter, Mark, Outcome};
 use pack_geometry::DriveKind;
 
-/// The word of a drive's kind; none where no script declares it.
+/// The word of a drive's kind; empty if no script declares the drive.
 pub fn kind_word(kind: Option<DriveKind>) -> &'static str
     ensures { result.now ≡ kind_word kind }
 {

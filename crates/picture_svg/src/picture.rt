@@ -33,14 +33,14 @@ fn caption_of<'a>(sheet: &Sheet<'a>) -> &'a [u8]
     front(sheet.title(), CAPTION)
 }
 
-/// Where the next drive stands: the adapter of the one before it, if there is one, and how far below the top.
+/// Where the next drive stands: the adapter of the drive before it, if there is one, and how far below the top it stands.
 #[derive(Clone, Copy)]
 struct Place {
     adapter: Option<u8>,
     y: u32,
 }
 
-/// A drive stands on another adapter than the one before it.
+/// Whether a drive stands on another adapter than the drive before it.
 fn is_first(place: Place, lane: &Lane) -> bool
     ensures { result ≡ is_first place lane.now }
 {
@@ -50,7 +50,7 @@ fn is_first(place: Place, lane: &Lane) -> bool
     }
 }
 
-/// Where a drive stands, below its adapter where it is the first of it.
+/// Where a drive stands: below its adapter, if it is the first one of that adapter.
 fn top_of(place: Place, lane: &Lane) -> u32
     ensures { result ≡ top_of place lane.now }
 {
@@ -86,7 +86,7 @@ fn bottom_of(lanes: &[Lane]) -> u32
     place.y
 }
 
-/// The title and the sentences of the drawing, which no eye sees.
+/// The title and the sentences of the drawing, which are not visible.
 fn draw_names<'a>(
     out: &mut Markup<'a>,
     sheet: &Sheet<'a>,
@@ -152,7 +152,7 @@ fn draw_head<'a>(
     text_sentences(out, 64, third, fourth)
 }
 
-/// The adapter of a drive, where it is the first of it.
+/// The adapter of a drive, if the drive is the first one of that adapter.
 fn draw_first(
     alloc: Global,
     out: &mut Markup<'_>,
@@ -170,7 +170,7 @@ fn draw_first(
     }
 }
 
-/// A drive, below its adapter where it is the first of it; and where the next stands.
+/// A drive, below its adapter if it is the first one of that adapter. The result is where the next drive stands.
 #[tactic(auto, unfolding(crate::specs::Drawings::with_drive))]
 fn draw_drive<'a>(
     alloc: Global,
@@ -187,7 +187,7 @@ fn draw_drive<'a>(
     Ok(below(place, lane))
 }
 
-/// The drives, each first one of an adapter below that.
+/// The drives; the first drive of each adapter stands below that adapter.
 #[tactic(auto, unfolding(crate::specs::Drawings::with_drives))]
 fn draw_drives<'a>(
     alloc: Global,

@@ -49,7 +49,7 @@ fn draw_names(out: &mut Markup<'_>, scene: &Scene<'_, '_>, y: u32) -> Result<(),
     out.text("m q e", at(add(beside, ENDS[5]), y), "turn")
 }
 
-/// The cylinder of a request, where it joined.
+/// The cylinder of a request, if the request joined.
 fn put_cylinder(out: &mut Markup<'_>, cylinder: Option<u32>) -> Result<(), AllocError>
     ensures stands { OnOk result (out.new.stands ≡ out.old.stands) }
     ensures text { OnOk result (out.new.text ≡ with_cylinder cylinder out.old.text) }
@@ -63,7 +63,7 @@ fn put_cylinder(out: &mut Markup<'_>, cylinder: Option<u32>) -> Result<(), Alloc
     }
 }
 
-/// What a request does, and of a unit.
+/// What a request does, as words before its unit.
 fn verb_of(write: bool) -> &'static str
     ensures { result.now ≡ verb_of write }
 {
@@ -118,7 +118,7 @@ fn letter_at(scene: &Scene<'_, '_>, unit: u8, column: usize) -> Letter
     lead(&scene.cell(unit, column).tally, scene.size(column))
 }
 
-/// A stretch in which a letter leads, but for an idle one.
+/// A stretch in which a letter leads, except the idle one.
 fn draw_bar(
     out: &mut Markup<'_>,
     scene: &Scene<'_, '_>,
@@ -138,7 +138,7 @@ fn draw_bar(
     }
 }
 
-/// A stretch in which the drive does the same, so many columns behind the first.
+/// A stretch in which the drive does the same, some columns after the first.
 #[tactic(auto, unfolding(crate::specs::Tables::with_lead))]
 fn draw_lead(
     out: &mut Markup<'_>,
@@ -318,7 +318,7 @@ fn draw_request(
     end_group(out)
 }
 
-/// A request below the one before it; and where it stands.
+/// A request below the one before it. The result is where it stands.
 #[tactic(auto, unfolding(crate::specs::Tables::with_row))]
 fn draw_row(
     alloc: Global,
@@ -335,7 +335,7 @@ fn draw_row(
     Ok(below)
 }
 
-/// How many requests there are, where not all are listed.
+/// How many requests there are, if not all of them are listed.
 fn draw_count(out: &mut Markup<'_>, few: bool, count: u64, y: u32) -> Result<(), AllocError>
     ensures stands { OnOk result (out.new.stands ≡ out.old.stands) }
     ensures text { OnOk result (out.new.text ≡ with_count few count y out.old.text) }

@@ -14,8 +14,8 @@ use partitions::part_range;
 /// The frames of main memory.
 const FRAMES: u64 = 16_384;
 
-/// What is seen of a whole run at a glance: the most drives that positioned behind one event, and the line of the first such
-/// event; the events behind which sectors moved, and those of them behind which a drive positioned.
+/// What is seen of a whole run at a glance: the most drives that positioned after one event, and the line of the first such
+/// event; the events after which sectors moved, and those of them after which a drive positioned.
 #[derive(Clone, Copy)]
 pub struct Glance {
     pub most: usize,
@@ -32,7 +32,7 @@ pub fn frames_of(asked: &Asked) -> u64
     (u64::from(asked.offset) + 512 * blocks + u64::from(asked.last) + 511) / 512
 }
 
-/// The cylinder of a first block, with so many frames lent; or why it is refused.
+/// The cylinder of a request's first block, with `lent` frames lent before; or why the request is refused.
 fn admit_frames(cylinder: u32, asked: &Asked, lent: u64) -> Result<u32, Outcome>
     ensures { result ≡ (if nat_lt 16384 (plus lent (frames_of asked.now)) then Err Outcome.Frames else Ok cylinder) }
 {
@@ -80,7 +80,7 @@ pub fn submit(admitted: Result<u32, Outcome>, frames: u64, drive: &mut Drive, re
     }
 }
 
-/// The frames that are lent then.
+/// How many frames are lent after a request was asked for.
 pub fn lend(admitted: Result<u32, Outcome>, frames: u64, lent: u64) -> u64
     ensures { result ≡ lent_asked admitted frames lent }
 {
@@ -100,7 +100,7 @@ fn end_mark(outcome: Outcome) -> Mark
     }
 }
 
-/// An end, at a drive and the request at a place. The frames are given back.
+/// Takes in an end, at a drive and at the request of a place. The result is how many frames come back.
 fn end(event: u64, line: u32, place: usize, drive: &mut Drive, request: &mut Request) -> u64
     ensures drive { drive.new ≡ drive_after event place End drive.old request.old }
     ensures request { request.new ≡ request_after event line place End drive.old request.old }
@@ -118,7 +118,7 @@ fn end(event: u64, line: u32, place: usize, drive: &mut Drive, request: &mut Req
     request.needed
 }
 
-/// A line of the trace, at a drive and the request at a place. The frames are given back.
+/// Takes in a line of the trace, at a drive and at the request of a place. The result is how many frames come back.
 pub fn act(
     event: u64,
     line: u32,
@@ -141,7 +141,7 @@ pub fn act(
     }
 }
 
-/// A drive positions.
+/// Whether a drive positions.
 #[tactic(auto, unfolding(crate::specs::Positioning::positions))]
 fn positions(drive: &Drive) -> bool
     ensures { result ≡ positions drive.now }
@@ -149,7 +149,7 @@ fn positions(drive: &Drive) -> bool
     drive.letter.is_positioning()
 }
 
-/// Its sectors move.
+/// Whether its sectors move.
 #[tactic(auto, unfolding(crate::specs::Positioning::moves))]
 fn moves(drive: &Drive) -> bool
     ensures { result ≡ moves drive.now }
@@ -157,7 +157,7 @@ fn moves(drive: &Drive) -> bool
     drive.letter.is_moving()
 }
 
-/// The drives that position.
+/// How many drives position.
 pub fn positioning(drives: &[Drive]) -> usize
     ensures { result ≡ positioning drives.now }
 {
@@ -178,7 +178,7 @@ fn moving(drives: &[Drive]) -> bool
 }
 
 impl Glance {
-    /// Before the run.
+    /// A glance before the run.
     pub fn new() -> Glance
         ensures { result ≡ record { most = 0; most_line = 0; moving = 0; both = 0 } }
     {
@@ -190,7 +190,7 @@ impl Glance {
         }
     }
 
-    /// An event ends, with so many drives that position, and with sectors that move or none.
+    /// An event ends: takes in how many drives position then, and whether sectors move.
     pub fn see(&mut self, event: u64, line: u32, drives: &[Drive])
         ensures { self.new ≡ glance_after event line drives.now self.old }
     {
@@ -217,7 +217,7 @@ pub(crate) fn count_events(drives: &mut [Drive])
     }
 }
 
-/// Another begins for each drive.
+/// Another event begins for each drive.
 pub(crate) fn begin_events(drives: &mut [Drive])
     ensures { drives.new ≡ map unseen drives.old }
 {

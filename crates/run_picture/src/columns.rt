@@ -1,4 +1,4 @@
-//! The columns of a picture: the events of a window, equally many to each.
+//! The columns of a picture: the events of a window, equally many in each column.
 
 ghost use Rattle.std.specs.Prelude.{◌≡◌, ◌<◌, map};
 ghost use Rattle.drive_pictures.specs.Drives.{cleared};
@@ -18,8 +18,8 @@ pub struct Window {
     pub per: u64,
 }
 
-/// The head of a column: the lines of its first and its last event, how many events it has, whether its first found nothing to
-/// do, and the most drives of each adapter that positioned behind one of its events.
+/// The head of a column: the lines of its first and its last event, how many events it has, whether its first event found nothing
+/// to do, and the most drives of each adapter that positioned after one of its events.
 #[derive(Clone, Copy)]
 pub struct Head {
     pub line: u32,
@@ -29,7 +29,7 @@ pub struct Head {
     pub together: [usize; 4],
 }
 
-/// A column: its head, and the drives behind its last event, with what was seen of each in it.
+/// A column: its head, and the drives after its last event, with what was seen of each drive in the column.
 #[derive(Clone, Copy)]
 pub struct Column {
     pub head: Head,
@@ -37,7 +37,7 @@ pub struct Column {
 }
 
 impl Window {
-    /// Of a run of so many events those from `first` up to `last`, in at most 216 columns.
+    /// The events from `first` up to `last` of a run of `events` events, in at most 216 columns.
     pub fn new(events: u64, first: u64, last: u64) -> Window
         ensures { result ≡ window_of events first last }
     {
@@ -51,14 +51,14 @@ impl Window {
         }
     }
 
-    /// An event is one of them.
+    /// Whether an event is one of the window's.
     pub fn is_inside(&self, event: u64) -> bool
         ensures { result ≡ is_inside self.now event }
     {
         self.first <= event && event < self.last
     }
 
-    /// An event is the last before them.
+    /// Whether an event is the last one before the window.
     pub fn is_before(&self, event: u64) -> bool
         ensures { result ≡ is_before self.now event }
     {
@@ -83,7 +83,7 @@ fn together(drives: &[Drive; 32], adapter: usize) -> usize
 }
 
 impl Head {
-    /// Of no event.
+    /// A head of no event.
     pub fn new() -> Head
         ensures { result ≡ new_head }
     {
@@ -96,7 +96,7 @@ impl Head {
         }
     }
 
-    /// An event more, at a line.
+    /// Takes in one more event, at a line.
     pub fn add(&mut self, line: u32, idle: bool, drives: &[Drive; 32])
         ensures { self.new ≡ headed line idle drives.now self.old }
     {
@@ -114,7 +114,7 @@ impl Head {
         ];
     }
 
-    /// No event more belongs to the column: it has as many as a column has, or the window ends.
+    /// Whether no further event belongs to the column: it has as many events as a column has, or the window ends.
     pub fn is_full(&self, window: &Window, event: u64) -> bool
         ensures { result ≡ is_full self.now window.now event }
     {

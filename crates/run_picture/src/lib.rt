@@ -1,7 +1,7 @@
-//! The picture of a run: what is known of each drive, adapter and request behind each event, by a fold over the lines of the
+//! The picture of a run: what is known of each drive, adapter and request after each event, by a fold over the lines of the
 //! script as they are played and the lines of the trace; what is seen of the whole run at a glance; and the columns of a picture.
 //!
-//! What is proved: a `Run` is what the definition says behind each moment (`step`) and behind the last (`finish`), whatever
+//! What is proved: a `Run` is what the definition says after each moment (`step`) and after the last one (`finish`), whatever
 //! moments of 32 drives come.
 #![tactic(auto)]
 

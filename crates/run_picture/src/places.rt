@@ -26,7 +26,7 @@ impl Model for Places {
 }
 
 impl Places {
-    /// No id.
+    /// The places of no id.
     pub fn new(alloc: Global) -> Places
         ensures { result ≡ [] }
     {
@@ -36,14 +36,14 @@ impl Places {
         }
     }
 
-    /// The place of an id; None where it has not come.
+    /// The place of an id; `None` if the id has not come.
     pub fn find(&self, id: u32) -> Option<usize>
         ensures { result ≡ place_of self.now id }
     {
         self.places.get(&id).copied()
     }
 
-    /// An id that has not come takes the next place, and the place is given. AllocError tells only that there was no memory.
+    /// Gives the next place to an id that has not come, and returns that place. `AllocError` says only that there was no memory.
     pub fn add(&mut self, id: u32) -> Result<usize, AllocError>
         requires { place_of self.old id ≡ None }
         ensures ids { OnOk result (self.new ≡ self.old ++ id ∷ []) }

@@ -1,4 +1,4 @@
-//! The fold: what is known of a run behind each moment.
+//! The fold: what is known of a run after each moment.
 
 ghost use Rattle.std.specs.Prelude.{◌≡◌, ◌<◌, map, IfOk, OnOk, slice_set};
 ghost use Rattle.run_picture.specs.Fold.{new_known, declared, asked, met_at, place_in, told_at, told, heard, step, finished, request_at, changed_at, column_closed, column_with, window_begun, event_shown, event_counted_in, event_ended, turned_behind, turned, ended_behind, events_in, IsHeard};
@@ -15,8 +15,8 @@ use pack_geometry::DriveKind;
 use std::alloc::{AllocError, Global};
 use std::marker::Model;
 
-/// What is known of a run behind the moments so far. A call that gives AllocError had no memory, and leaves nothing to go on
-/// with.
+/// What is known of a run after the moments so far. A call that gives `AllocError` had no memory, and the run cannot go on after
+/// it.
 #[derive(Drop)]
 pub struct Run {
     drives: [Drive; 32],
@@ -71,7 +71,7 @@ fn put_request(requests: &mut [Request], place: usize, request: Request)
     }
 }
 
-/// Behind the last event each request that has not ended is open.
+/// After the last event, each request that has not ended is open.
 fn leave_all(requests: &mut [Request], events: u64)
     ensures { requests.new ≡ map (left events) requests.old }
 {
@@ -81,7 +81,7 @@ fn leave_all(requests: &mut [Request], events: u64)
 }
 
 impl Run {
-    /// Before the first moment, with no drive declared, and with the events that are shown.
+    /// A run before its first moment, with no drive declared; `window` has the events that are shown.
     pub fn new(alloc: Global, window: Window) -> Run
         ensures { result ≡ new_known window }
     {
@@ -131,7 +131,7 @@ impl Run {
         }
     }
 
-    /// The place of a request, which is met where no script asked for it.
+    /// The place of a request. If no script asked for it, it is met here.
     fn meet(&mut self, line: u32, unit: u8, id: u32) -> Result<usize, AllocError>
         requires { unit < 32 }
         ensures known { OnOk result (self.new ≡ met_at (place_of self.old.ids id) line unit id self.old) }
@@ -185,7 +185,7 @@ impl Run {
         self.drives[usize::from(unit)].change(change);
     }
 
-    /// The column at hand is whole, or goes on.
+    /// Ends the column at hand if it is whole; otherwise it goes on.
     fn close_column(&mut self, full: bool, head: Head) -> Result<(), AllocError>
         ensures { OnOk result (self.new ≡ column_closed full head self.old) }
     {
@@ -202,7 +202,7 @@ impl Run {
         Ok(())
     }
 
-    /// An event of the window is one more of its column.
+    /// Adds an event of the window to its column.
     fn add_to_column(&mut self, last: &Moment) -> Result<(), AllocError>
         ensures { OnOk result (self.new ≡ column_with last.now self.old) }
     {
@@ -265,7 +265,7 @@ impl Run {
         }
     }
 
-    /// The event at hand ends where a moment begins another.
+    /// The event at hand ends if a moment begins another one.
     fn turn_for(&mut self, moment: &Moment) -> Result<(), AllocError>
         ensures { OnOk result (self.new ≡ turned moment.now self.old) }
     {
@@ -307,7 +307,7 @@ impl Run {
         }
     }
 
-    /// A moment more.
+    /// Takes in one more moment.
     pub fn step(&mut self, moment: &Moment) -> Result<(), AllocError>
         requires { IsHeard moment.now }
         ensures { OnOk result (self.new ≡ step self.old moment.now) }
@@ -327,7 +327,7 @@ impl Run {
         }
     }
 
-    /// Behind the last moment.
+    /// Ends the run after its last moment.
     pub fn finish(&mut self) -> Result<(), AllocError>
         ensures { OnOk result (self.new ≡ finished self.old) }
     {
@@ -354,7 +354,7 @@ impl Run {
         &self.drives
     }
 
-    /// The requests, as asked.
+    /// The requests, in the order in which they were asked for.
     pub fn requests(&self) -> &[Request]
         ensures { result.now ≡ self.now.requests }
     {

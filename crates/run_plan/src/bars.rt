@@ -1,4 +1,4 @@
-//! Bars: columns one behind another in which a drive does the same.
+//! Bars: successive columns in which a drive does the same.
 
 ghost use Rattle.std.specs.Prelude.{◌≡◌, ℕ, ◌<◌, ◌≤◌, IsTrue, length, slice_index_or, IfOk};
 ghost use Rattle.run_plan.specs.Bars.{columns_of, numbered};
@@ -6,7 +6,7 @@ ghost use Rattle.run_plan.specs.Bars.{columns_of, numbered};
 use drive_pictures::Letter;
 use std::alloc::{AllocError, Global};
 
-/// A bar: from a column up to the one behind its last a drive does what the letter says.
+/// A bar: from one column up to another, which is not of the bar, a drive does what the letter says.
 #[derive(Clone, Copy)]
 pub struct Bar {
     pub letter: Letter,
@@ -24,14 +24,14 @@ fn letter_in(letters: &[Letter], column: usize) -> Letter
     }
 }
 
-/// Two letters are the same.
+/// Whether two letters are the same.
 fn is_same(letter: Letter, other: Letter) -> bool
     ensures { IsTrue result → letter ≡ other }
 {
     letter == other
 }
 
-/// The column behind the last of those from one on that have its letter.
+/// The column after the bar that begins at `from`: the next one that has another letter, or the end of the columns.
 fn end_of_bar(letters: &[Letter], from: usize) -> usize
     requires { from < length letters.now }
     ensures some { from < result }

@@ -51,7 +51,7 @@ fn put_name(
     put(out, "\"}}")
 }
 
-/// Puts a slice: from one event up to another a drive does what a word says.
+/// Puts a slice: what a drive does, as a word, from one event up to another.
 #[tactic(auto, unfolding(crate::specs::Events::with_slice))]
 fn put_slice(
     out: &mut Vec<u8>,
@@ -70,7 +70,7 @@ fn put_slice(
     put(out, "\"}")
 }
 
-/// A drive does nothing.
+/// Whether a drive does nothing.
 fn is_idle(letter: Letter) -> bool
     ensures { result ≡ is_idle letter }
 {
@@ -186,7 +186,7 @@ fn put_lane(out: &mut Vec<u8>, plan: &Plan, lane: &Lane) -> Result<(), AllocErro
     put_points(out, plan, lane.unit, lane.points.as_slice())
 }
 
-/// Puts the start of an end of a request's span: of an event it has the time and the phase.
+/// Puts the start of the event for one end of a request's span, with its time and its phase.
 #[tactic(auto, unfolding(crate::specs::Events::with_span))]
 fn put_span(
     out: &mut Vec<u8>,
@@ -237,7 +237,7 @@ fn put_request(out: &mut Vec<u8>, request: &Request) -> Result<(), AllocError>
     put(out, "}")
 }
 
-/// Puts the start of the list, with an event that says by what it was written.
+/// Puts the start of the list, with an event that says what wrote it.
 #[tactic(auto, unfolding(crate::specs::Events::front))]
 fn put_front(out: &mut Vec<u8>) -> Result<(), AllocError>
     ensures { OnOk result (out.new.items ≡ out.old.items ++ front) }
@@ -277,9 +277,9 @@ fn put_requests(out: &mut Vec<u8>, rows: &[Request]) -> Result<(), AllocError>
     Ok(())
 }
 
-/// The trace events of a plan, as JSON: one process an adapter, one thread a drive, a slice for each bar that is not idle, a counter
-/// of the arm's cylinder and one of the requests that wait for each column, and a span for each request. Events of the run take a
-/// microsecond each.
+/// The trace events of a plan, as JSON: a process for each adapter, a thread for each drive, a slice for each bar that is not idle, for
+/// each column a counter of the arm's cylinder and one of the requests that wait, and a span for each request. An event of the run
+/// takes a microsecond.
 pub fn events_text(alloc: Global, plan: &Plan) -> Result<Vec<u8>, AllocError>
     ensures { IfOk result (λ text. text.items ≡ events_of plan.now) }
 {

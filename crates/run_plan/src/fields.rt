@@ -6,7 +6,7 @@ ghost use Rattle.run_plan.specs.Fields.{field_text, hundredths, with_field};
 use itoa::Buffer;
 use std::alloc::AllocError;
 
-/// A field of a line: a number, a word, or a number with two digits behind its point, in hundredths.
+/// A field of a line: a number, a word, or a number with two digits after its point, in hundredths.
 #[derive(Clone, Copy)]
 pub(crate) enum Field {
     Number(u64),
@@ -59,7 +59,7 @@ fn put_next(out: &mut Vec<u8>, field: Field) -> Result<(), AllocError>
     put_field(out, field)
 }
 
-/// Puts fields, each behind a tab.
+/// Puts fields, each after a tab.
 fn put_others(out: &mut Vec<u8>, others: &[Field]) -> Result<(), AllocError>
     ensures { OnOk result (out.new.items ≡ fold (λ text f. with_field text (field_text f)) out.old.items others.now) }
 {

@@ -10,8 +10,8 @@ use crate::fields::Field;
 use drive_pictures::{Outcome, Request, plus};
 use std::alloc::{AllocError, Global};
 
-/// What some requests come to: how many, how many ok, and served out of the order asked; the events that they waited, summed up;
-/// twice the median, and the most of one.
+/// What some requests come to: how many they are, how many were answered ok, and how many were served out of the order asked; the sum
+/// of the events that they waited, twice their median, and the most that one waited.
 #[derive(Clone, Copy)]
 pub struct Figures {
     pub requests: u64,
@@ -32,7 +32,7 @@ pub(crate) fn of_unit(alloc: Global, rows: &[Request], unit: u8) -> Result<Vec<R
         .collect(alloc)
 }
 
-/// A request was answered ok.
+/// Whether a request was answered ok.
 fn was_ok(request: &Request) -> bool
     ensures { result ≡ was_ok request.now }
 {
@@ -77,7 +77,7 @@ fn sum_of(waits: &[u64]) -> u64
     sum
 }
 
-/// The number at a place; 0 where there is none.
+/// The number at a place; 0 if there is none.
 fn at(waits: &[u64], place: usize) -> u64
     ensures { result ≡ slice_index_or waits.now place 0 }
 {

@@ -10,15 +10,15 @@ use picture_sheet::{Sheet, cell_at, lead};
 use run_picture::Column;
 use std::alloc::{AllocError, Global};
 
-/// Behind the last event of a column: the cylinder of an arm; and in it the most requests that waited.
+/// Two numbers of a column: the cylinder of an arm after its last event, and the most requests that waited in it.
 #[derive(Clone, Copy)]
 pub struct Point {
     pub cylinder: u32,
     pub waiting: u64,
 }
 
-/// A drive: its unit and its kind, empty where no script declares it; its bars, one behind another; a point for each column; and
-/// of the whole run how many cylinders its arm moved over, and how many it would have moved over in the order asked.
+/// A drive: its unit and its kind, which is empty if no script declares it; its bars, in order; a point for each column; and for
+/// the whole run how many cylinders its arm moved over, and how many it would have moved over in the order asked.
 #[derive(Drop)]
 pub struct Lane {
     pub unit: u8,

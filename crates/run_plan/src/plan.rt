@@ -22,9 +22,9 @@ use std::alloc::{AllocError, Global};
 pub struct Plan {
     /// The events that are shown, in columns.
     pub window: Window,
-    /// The requests that meet them, as asked.
+    /// The requests that meet these events, in the order in which they were asked for.
     pub rows: Vec<Request>,
-    /// The drives that have requests, by their number.
+    /// The drives that have requests, in ascending order of their number.
     pub lanes: Vec<Lane>,
 }
 
@@ -48,7 +48,7 @@ fn lanes_of(alloc: Global, sheet: &Sheet<'_>) -> Result<Vec<Lane>, AllocError>
     lanes_for(alloc, sheet, units.as_slice())
 }
 
-/// The plan of a run: of the events, drives and requests that a sheet shows.
+/// The plan of a run: the events, drives and requests that a sheet shows.
 pub fn plan_of(alloc: Global, sheet: &Sheet<'_>) -> Result<Plan, AllocError>
     ensures { IfOk result (λ plan. Plans sheet.now plan) }
 {
@@ -62,7 +62,7 @@ pub fn plan_of(alloc: Global, sheet: &Sheet<'_>) -> Result<Plan, AllocError>
 }
 
 impl Plan {
-    /// The event at which a column begins, and at which the one before it ends.
+    /// The event at which a column begins, and at which the column before it ends.
     pub fn edge(&self, column: usize) -> u64
         ensures { result ≡ edge_of self.now.window column }
     {
@@ -74,9 +74,9 @@ impl Plan {
     }
 }
 
-/// The requests of a plan, a line each behind the names of its fields, with tabs between them: id, unit, whether it reads or writes,
-/// the cylinder of its first block, the line at which it was asked for, its answer, and the events for which it was queued, on the
-/// way, ready, and transferring.
+/// The requests of a plan as a table: a line with the names of the fields, and then a line for each request, with tabs between fields:
+/// id, unit, whether it reads or writes, the cylinder of its first block, the line at which it was asked for, its answer, and the
+/// events for which it was queued, on the way, ready, and transferring.
 pub fn requests_text(alloc: Global, plan: &Plan) -> Result<Vec<u8>, AllocError>
     ensures { IfOk result (λ text. text.items ≡ requests_of plan.now.rows.items) }
 {
@@ -88,7 +88,7 @@ pub fn requests_text(alloc: Global, plan: &Plan) -> Result<Vec<u8>, AllocError>
     Ok(out)
 }
 
-/// Puts what requests come to behind the name of their line, and how far arms moved.
+/// Puts what requests come to, after the name of their line, and how far arms moved.
 #[tactic(auto, unfolding(crate::specs::Figures::with_figures))]
 fn put_figures(
     out: &mut Vec<u8>,
@@ -156,7 +156,7 @@ fn put_drive(
     )
 }
 
-/// What the requests of each drive come to, and those of all, a line each behind the names of its fields, with tabs between them.
+/// A summary as a table: a line with the names of the fields, and then a line for the requests of each drive, and one for those of all.
 pub fn summary_text(alloc: Global, plan: &Plan) -> Result<Vec<u8>, AllocError>
     ensures { IfOk result (λ text. IsSummary plan.now text.items) }
 {

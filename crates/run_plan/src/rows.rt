@@ -10,7 +10,7 @@ use drive_pictures::Request;
 use picture_sheet::{Sheet, is_shown, outcome_word};
 use std::alloc::{AllocError, Global};
 
-/// The requests that meet the events that are shown, as asked.
+/// The requests that meet the events that are shown, in the order in which they were asked for.
 pub(crate) fn rows_of(alloc: Global, sheet: &Sheet<'_>) -> Result<Vec<Request>, AllocError>
     ensures { IfOk result (λ rows. rows.items ≡ filter (is_shown sheet.now) sheet.now.run.now.requests) }
 {
@@ -30,7 +30,7 @@ pub(crate) fn op_word(write: bool) -> &'static str
     if write { "write" } else { "read" }
 }
 
-/// The cylinder of a request; empty where it did not join.
+/// The cylinder of a request; empty if the request did not join.
 fn cylinder_field(cylinder: Option<u32>) -> Field
     ensures { field_text result ≡ cylinder_text cylinder }
 {

@@ -14,7 +14,7 @@ fn without_front(text: &[u8]) -> &[u8]
     rest
 }
 
-/// A text without the blanks behind it.
+/// A text without the blanks after it.
 fn without_back(text: &[u8]) -> &[u8]
     ensures { result.now ≡ without_back text.now }
 {
@@ -25,7 +25,7 @@ fn without_back(text: &[u8]) -> &[u8]
     rest
 }
 
-/// What stands behind `#` on a line, without the blanks around it; empty where the line is none such.
+/// What stands after `#` on a line, without the blanks around it; empty if the line does not begin with `#`.
 fn caption_in(line: &[u8]) -> &[u8]
     ensures { result.now ≡ caption_in line.now }
 {
@@ -35,7 +35,7 @@ fn caption_in(line: &[u8]) -> &[u8]
     without_back(without_front(&line[1..]))
 }
 
-/// What stands behind `#` on the first line of a script, without the blanks around it; empty where that line is none such.
+/// What stands after `#` on the first line of a script, without the blanks around it; empty if that line does not begin with `#`.
 pub fn caption_of(script: &[u8]) -> &[u8]
     ensures { result.now ≡ caption_of script.now }
 {

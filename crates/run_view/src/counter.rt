@@ -3,7 +3,7 @@ use crate::{Seen, Watcher};
 use drive_pictures::{Moment, begins, plus};
 use std::alloc::AllocError;
 
-/// The last moment so far, and how many events began behind the first.
+/// The last moment so far, and how many events began after the first one.
 #[derive(Clone, Copy)]
 pub(crate) struct Counter {
     before: Option<Moment>,
@@ -42,7 +42,7 @@ impl Counter {
         self.event
     }
 
-    /// A moment more.
+    /// Takes in one more moment.
     pub(crate) fn count(&mut self, moment: &Moment)
         ensures { self.new ≡ counted self.old moment.now }
     {

@@ -1,15 +1,15 @@
 //! What a picture shows of a run: the fold over all its lines, the events that are shown, the texts at the heads of columns, and the
 //! lines that name a drive.
 //!
-//! What is proved: `view_run`: the run is `run_from` over just the moments of the script and of the trace, the window is of the
+//! What is proved: `view_run`: the run is `run_from` over exactly the moments of the script and of the trace, the window is of the
 //! run's own events, the notes are the lines that name a drive, each in the column of its event, and the texts are those of the
-//! columns' lines; or a refusal says the first fault of the trace. `caption_of`: what stands behind `#` on the script's first line,
+//! columns' lines; or a refusal names the first fault of the trace. `caption_of`: what stands after `#` on the script's first line,
 //! without the blanks around it.
 //!
 //! The lines of a run, one after another: those of its script as they are played, each before the lines of its trace, each with
 //! its text and the drive that it names.
 //!
-//! What is proved: `watch_run`: whoever watches a run sees just its lines, in order, or a refusal says the first fault of the
+//! What is proved: `watch_run`: whoever watches a run sees exactly its lines, in order, or a refusal names the first fault of the
 //! trace. `plays_of` gives the script as it is played.
 #![tactic(auto)]
 

@@ -13,7 +13,7 @@ use drive_pictures::{Change, Moment, Play};
 use script_reader::{Script, Statement, Stored, first_piece, read_back_law, without_cr};
 use std::alloc::{AllocError, Global};
 
-/// What a line of a script does that can be seen; None where it declares a drive.
+/// What a line of a script does that can be seen; `None` if it declares a drive.
 fn play_of(line: &Stored) -> Option<Play>
     ensures { result ≡ play_of line.now.statement }
 {
@@ -81,7 +81,7 @@ fn names_of(line: &Stored) -> Option<u8>
     }
 }
 
-/// What stands in a text behind its first lines, so many.
+/// What stands in a text after its first `count` lines.
 fn skip(text: &[u8], count: u32) -> &[u8]
     ensures { pieces_of result.now ≡ drop count (pieces_of text.now) }
 {
@@ -95,7 +95,7 @@ fn skip(text: &[u8], count: u32) -> &[u8]
     rest
 }
 
-/// Where line number `number` of a text begins. Behind line number `next - 1` stands `rest`.
+/// Where line number `number` of a text begins. `rest` is what comes after line number `next - 1`.
 fn line_at<'a>(text: &'a [u8], rest: &'a [u8], next: u32, number: u32) -> &'a [u8]
     requires { pieces_of rest.now ≡ drop (next - 1) (pieces_of text.now) }
     ensures { pieces_of result.now ≡ drop (number - 1) (pieces_of text.now) }
@@ -107,7 +107,7 @@ fn line_at<'a>(text: &'a [u8], rest: &'a [u8], next: u32, number: u32) -> &'a [u
     }
 }
 
-/// The first line of a text, without CR at its end; empty where there is none.
+/// The first line of a text, without CR at its end; empty if there is none.
 pub fn first_text(text: &[u8]) -> &[u8]
     ensures { result.now ≡ slice_index_or (lines_of text.now) 0 [] }
 {
@@ -140,7 +140,7 @@ fn push_line<'a>(plays: &mut Vec<Seen<'a>>, line: &Stored, text: &'a [u8]) -> Re
     }
 }
 
-/// The last drain is played, behind all lines of a script that has any.
+/// The last drain is played, after all lines of a script that has any.
 #[tactic(auto, unfolding(crate::specs::Plays::drain_text))]
 fn push_drain(plays: &mut Vec<Seen<'_>>, count: u32) -> Result<(), AllocError>
     requires { count < 2 ^ 32 - 1 }
@@ -161,7 +161,7 @@ fn push_drain(plays: &mut Vec<Seen<'_>>, count: u32) -> Result<(), AllocError>
     Ok(())
 }
 
-/// A script as it is played, with its own text. AllocError tells only that there was no memory.
+/// A script as it is played, with its own text. `AllocError` says only that there was no memory.
 pub fn plays_of<'a>(
     alloc: Global,
     script: &Script,
@@ -186,7 +186,7 @@ pub fn plays_of<'a>(
     Ok(plays)
 }
 
-/// The law of scripts: each drive that one names is one of 32, and its lines are so few that the last drain has a number.
+/// The law of scripts: each drive that a script names is one of 32, and a script has so few lines that its last drain has a number.
 pub fn script_law()
     ensures units { (text : List ℕ) (lines : List Kept) (count : ℕ) → Spells all_verbs text (map (seen text) lines) count → HaveUnits lines }
     ensures few { (text : List ℕ) (lines : List Kept) (count : ℕ) → Spells all_verbs text (map (seen text) lines) count → count < 2 ^ 32 - 1 }

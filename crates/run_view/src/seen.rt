@@ -14,10 +14,10 @@ pub trait Watcher<'a> {
     ghost use Rattle.std.specs.Prelude.{◌≡◌, OnOk};
     ghost use Rattle.run_view.specs.Saids.{Said, said_of, IsHeardAt};
 
-    /// What it knows behind one more line.
+    /// What the watcher knows after one more line.
     ghost step: { Self → Said → Self };
 
-    /// Sees a line. AllocError tells only that there was no memory.
+    /// Sees a line. `AllocError` says only that there was no memory.
     fn see(&mut self, seen: &Seen<'a>) -> Result<(), AllocError>
         requires { IsHeardAt (said_of seen.now) }
         ensures { OnOk result (self.new ≡ step self.old (said_of seen.now)) };

@@ -18,13 +18,13 @@ use trace_reader::{TraceFault, grammar_law};
 /// What a picture shows of a run.
 #[derive(Drop)]
 pub struct View<'a> {
-    /// The run, behind its last line.
+    /// The run, after its last line.
     pub run: Run,
     /// The events that are shown.
     pub window: Window,
-    /// Of each column the text of the script's line at which it begins; empty where that line is not played.
+    /// For each column, the text of the script's line at which the column begins; empty if that line is not played.
     pub texts: Vec<&'a [u8]>,
-    /// Where a column is one event, the lines that name a drive, in order.
+    /// If a column is one event: the lines that name a drive, in order.
     pub notes: Vec<Note<'a>>,
 }
 
@@ -36,7 +36,7 @@ fn play_at<'a>(plays: &[Seen<'a>], at: usize) -> Seen<'a>
     plays[at]
 }
 
-/// The text of what is played of a line; empty where nothing is.
+/// The text of what is played of a line; empty if nothing is.
 fn text_of<'a>(plays: &[Seen<'a>], line: u32) -> &'a [u8]
     ensures { result.now ≡ played_text (map said_of plays.now) line }
 {
@@ -87,9 +87,9 @@ fn declare_all(script: &Script, watch: &mut Watch<'_>)
     }
 }
 
-/// What a picture shows of a run: of the run of a script, whose text is given, and of its trace the events from `first` up to
-/// `last`, counted from 0. The trace is refused exactly where its bytes spell none of the script, with the first fault; Memory
-/// tells only that there was none. Takes time in proportion to the script and the trace.
+/// What a picture shows of the run of a script, whose text is given, and of its trace: the events from `first` up to `last`,
+/// counted from 0. The trace is refused exactly if its bytes spell no trace of the script; the refusal has the first fault.
+/// `Memory` says only that there was no memory. The call takes time in proportion to the script and the trace.
 pub fn view_run<'a>(
     alloc: Global,
     script: &'a Script,

@@ -34,7 +34,7 @@ impl<'a> Watch<'a> {
     ghost use Rattle.run_view.specs.Notes.{noted_of, note_at};
     ghost use Rattle.run_view.specs.Watched.{new_watched};
 
-    /// Before the first line, with the events that are shown.
+    /// What is known before the first line; `window` has the events that are shown.
     pub(crate) fn new(alloc: Global, window: Window) -> Watch<'a>
         ensures { result ≡ new_watched window }
     {
@@ -70,7 +70,7 @@ impl<'a> Watch<'a> {
         Ok(())
     }
 
-    /// What is known of the run behind its last line, and the lines noted.
+    /// What is known of the run after its last line, and the lines noted.
     pub(crate) fn finish(self) -> Result<(Run, Vec<Note<'a>>), AllocError>
         ensures run { IfOk result (λ parts. parts.0 ≡ finished self.entry.known) }
         ensures notes { IfOk result (λ parts. map noted_of parts.1.items ≡ self.entry.notes) }

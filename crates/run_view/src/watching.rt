@@ -52,7 +52,7 @@ fn play_at<'a>(plays: &[Seen<'a>], at: usize) -> Seen<'a>
     plays[at]
 }
 
-/// What is played from a place on is seen, up to a line's number. The place of what is played behind it is given.
+/// What is played from a place on is seen, up to a line's number. The result is the place of what is played after that.
 fn see_up_to<'a, W: Watcher<'a>>(
     plays: &[Seen<'a>],
     from: usize,
@@ -93,7 +93,7 @@ fn see_rest<'a, W: Watcher<'a>>(
     Ok(())
 }
 
-/// A line of the trace is seen, behind what is played up to its number.
+/// A line of the trace is seen, after what is played up to its number.
 fn see_line<'a, W: Watcher<'a>>(
     plays: &[Seen<'a>],
     from: usize,
@@ -110,8 +110,8 @@ fn see_line<'a, W: Watcher<'a>>(
     Ok(at)
 }
 
-/// A run is watched: what is played of its script, and the trace, beside that script. The trace is refused exactly where its bytes
-/// spell none of the script, with the first fault; Memory tells only that there was none. Takes time in proportion to the lines.
+/// Watches a run: what is played of its script, and the trace beside that script. The trace is refused exactly if its bytes spell no
+/// trace of the script; the refusal has the first fault. `Memory` says only that there was none. Takes time in proportion to the lines.
 pub fn watch_run<'a, W: Watcher<'a>>(
     alloc: Global,
     script: &'a Script,

@@ -10,7 +10,7 @@ use script_reader::{Script, Statement, Stored};
 use std::alloc::{AllocFailed, Global};
 use std::collections::BTreeMap;
 
-/// The requests that lines ask for: by id and unit the first line that asks for them.
+/// The requests for which lines ask: for each id and unit, the first line that asks for it.
 #[derive(Drop)]
 pub(crate) struct Asked {
     lines: BTreeMap<u64, u32>,
@@ -24,7 +24,7 @@ fn key(unit: u8, id: u32) -> u64
 }
 
 impl Asked {
-    /// The first line that asks for a request, where line `line` asks for it too.
+    /// The first line that asks for a request, if line `line` asks for it too.
     fn earliest(&self, key: u64, line: u32) -> u32
         ensures { (l : ℕ) → nat_le result l ≡ (knows self.now key l || nat_le line l) }
     {
@@ -34,7 +34,7 @@ impl Asked {
         }
     }
 
-    /// Takes in that a line asks for a request.
+    /// Learns that a line asks for a request.
     fn learn_request(&mut self, line: u32, unit: u8, id: u32) -> Result<(), AllocFailed<(u64, u32)>>
         ensures { OnOk result ((l key : ℕ) → knows self.new key l ≡ (knows self.old key l || (id * 256 + unit == key && nat_le line l))) }
     {
@@ -44,7 +44,7 @@ impl Asked {
         Ok(())
     }
 
-    /// Takes a line in.
+    /// Learns what a line asks for.
     fn learn(&mut self, line: &Stored) -> Result<(), TraceFault>
         ensures learns { OnOk result (Learns self.old self.new line.now) }
         ensures err { IfErr result (λ fault. fault ≡ Memory) }
@@ -62,7 +62,7 @@ impl Asked {
         }
     }
 
-    /// The requests that a script asks for.
+    /// The requests for which a script asks.
     pub(crate) fn new(alloc: Global, script: &Script) -> Result<Asked, TraceFault>
         ensures ok { IfOk result (λ asked. Knows asked script.now.lines) }
         ensures err { IfErr result (λ fault. fault ≡ Memory) }
@@ -88,7 +88,7 @@ impl Asked {
         }
     }
 
-    /// Whether a line is of a run of the script.
+    /// Whether a line belongs to a run of the script.
     pub(crate) fn is_of_script(&self, script: &Script, line: &TraceLine) -> bool
         requires { Knows self.now script.now.lines }
         ensures { result ≡ is_of_script script.now.lines script.now.count line.now }

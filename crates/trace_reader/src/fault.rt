@@ -6,13 +6,13 @@ use thiserror::Error;
 pub enum TraceKind {
     /// The trace has more than 2^28 bytes.
     Long,
-    /// It is no line of a trace: a word is not one that may stand there, is missing or left over, there is not just one blank
-    /// between two words, or a number is out of its range or begins with a zero too many.
+    /// The text is no line of a trace: a word may not stand in its place, is missing or is left over; two words do not have exactly
+    /// one blank between them; or a number is out of its range, or has a leading zero.
     Word,
-    /// Its number is below that of the line before.
+    /// The number of the line is below that of the line before it.
     Order,
-    /// Its number is beyond the script's last drain, or no line of the script up to that number asks its unit for the request
-    /// of its id.
+    /// The number of the line is beyond the script's last drain, or no line of the script up to that number asks the line's unit
+    /// for the request of the line's id.
     Script,
 }
 
@@ -22,7 +22,7 @@ pub enum TraceFault {
     /// There was no memory.
     #[error("there is no memory")]
     Memory,
-    /// The first faulty line, counted from 1, and its fault; the line is 0 where the trace is too long.
+    /// The first faulty line, counted from 1, and its fault; the line is 0 if the trace is too long.
     #[error("line {line} of the trace is refused")]
     Refused { line: u64, kind: TraceKind },
 }

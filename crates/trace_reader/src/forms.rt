@@ -19,7 +19,7 @@ const MOST_SECTOR: u32 = 31;
 
 const MOST_BLOCK: u32 = 500_383;
 
-/// This, where no word is left.
+/// Gives `told`, if no word is left.
 fn last(told: Told, words: &mut Words) -> Result<Told, TraceKind>
     ensures { result ≡ none told words.old }
 {
@@ -74,7 +74,7 @@ fn transfer(write: bool, words: &mut Words) -> Result<Told, TraceKind>
     )
 }
 
-/// What stands behind a command's word.
+/// What stands after a command's word.
 fn commanded(command: Command, words: &mut Words) -> Result<Told, TraceKind>
     ensures { result ≡ command_form command words.old }
 {
@@ -146,7 +146,7 @@ fn failed(words: &mut Words) -> Result<Told, TraceKind>
     last(Told::Try { block, failures }, words)
 }
 
-/// What stands behind the numbers of a line.
+/// What stands after the numbers of a line.
 #[tactic(auto, unfolding(crate::specs::Reading::told_form))]
 fn told(verb: Verb, words: &mut Words) -> Result<Told, TraceKind>
     ensures { result ≡ told_form verb words.old }
@@ -162,7 +162,7 @@ fn told(verb: Verb, words: &mut Words) -> Result<Told, TraceKind>
     }
 }
 
-/// What stands behind the first word of a line of a unit.
+/// What stands after the first word of a line of a unit.
 #[tactic(auto, unfolding(crate::specs::Reading::deed_form), using(crate::proofs::TakenLaws::first_taken, crate::proofs::TakenLaws::first_fault))]
 fn deed(verb: Verb, words: &mut Words) -> Result<TraceLine, TraceKind>
     ensures { result ≡ deed_form verb words.old }
@@ -179,7 +179,7 @@ fn deed(verb: Verb, words: &mut Words) -> Result<TraceLine, TraceKind>
     })
 }
 
-/// What stands behind `idle`.
+/// What stands after `idle`.
 #[tactic(auto, using(crate::proofs::TakenLaws::first_taken, crate::proofs::TakenLaws::first_fault))]
 fn idle(words: &mut Words) -> Result<TraceLine, TraceKind>
     ensures { result ≡ first line_in (λ line. none (Idle line)) words.old }

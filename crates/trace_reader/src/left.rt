@@ -17,7 +17,7 @@ use std::marker::Model;
 /// The longest trace, in bytes: 256 MiB.
 const LONGEST: usize = 268_435_456;
 
-/// A line that was read, behind one of number `before`.
+/// A line that was read, after a line with the number `before`.
 fn standing(
     script: &Script,
     asked: &Asked,
@@ -37,7 +37,7 @@ fn standing(
     }
 }
 
-/// What a text says, behind a line of number `before`.
+/// What a text says, after a line with the number `before`.
 #[tactic(auto, unfolding(crate::specs::Reading::judged))]
 fn judged(script: &Script, asked: &Asked, before: u32, text: &[u8]) -> Result<TraceLine, TraceKind>
     requires { Knows asked.now script.now.lines }
@@ -47,8 +47,8 @@ fn judged(script: &Script, asked: &Asked, before: u32, text: &[u8]) -> Result<Tr
     standing(script, asked, before, line)
 }
 
-/// The lines of a trace, one after another, beside the script of its run. It holds the requests of the script, and of the trace
-/// its place.
+/// The lines of a trace, one after another, beside the script of its run. The value holds the requests of the script, and the
+/// place that was reached in the trace.
 #[derive(Drop)]
 pub struct TraceLines<'a> {
     script: &'a Script,
@@ -79,8 +79,8 @@ impl<'a> Model for TraceLines<'a> {
 }
 
 impl<'a> TraceLines<'a> {
-    /// The lines of a trace's bytes, beside the script of its run. Refused at line 0 as Long exactly where there are more than
-    /// 2^28 bytes; Memory tells only that there was none.
+    /// The lines of a trace's bytes, beside the script of its run. The trace is refused, at line 0 as `Long`, exactly if there are
+    /// more than 2^28 bytes. `Memory` says only that there was no memory.
     pub fn new(
         alloc: Global,
         bytes: &'a [u8],
@@ -108,9 +108,9 @@ impl<'a> TraceLines<'a> {
         })
     }
 
-    /// The next line, with its text; None where none is left, and then the lines so far are all that the bytes spell. It is
-    /// refused exactly where the bytes spell no trace of the script and the lines so far are those before the first fault,
-    /// with that fault. Takes time in proportion to the line.
+    /// The next line, with its text; `None` if no line is left, and then the lines so far are all that the bytes spell. The call
+    /// gives the first fault exactly if the bytes spell no trace of the script and the lines so far are those before that fault.
+    /// It takes time in proportion to the line.
     pub fn next(&mut self) -> Result<Option<ReadLine<'a>>, TraceFault>
         ensures ok { IfOk result (λ found. Reads self.old self.new found) }
         ensures err { IfErr result (λ fault. (lines : List TraceLine) → HasRead self.old lines → Refuses self.old.script self.old.bytes fault) }

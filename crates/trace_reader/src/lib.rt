@@ -1,9 +1,9 @@
-//! The reader of a trace: from bytes to the lines that they spell, or to the first that is faulty. The grammar stands in
-//! `specs/`. `TraceLines` gives them one after another, in memory for the script's requests alone; `read_trace` gives all.
+//! The reader of a trace: it turns bytes into the lines that they spell, or names the first line that is faulty. The grammar is in
+//! `specs/`. `TraceLines` gives the lines one after another, in memory for the script's requests alone; `read_trace` gives all.
 //!
-//! What is proved: `read_trace` gives the lines that bytes spell beside a script, or the first fault, and bytes have one of both
-//! (`grammar_law`). The text of a run, its numbers in range and not falling and its requests the script's, is read as just what it
-//! tells, and what is read is written again as the same bytes (`round_trip_law`).
+//! What is proved: `read_trace` gives the lines that bytes spell beside a script, or their first fault, and bytes always have exactly
+//! one of the two (`grammar_law`). If the numbers of a run are in range and never fall, and its requests are the script's, its text is
+//! read as exactly what the run tells; and what is read is written again as the same bytes (`round_trip_law`).
 #![tactic(auto)]
 
 mod asked;

@@ -3,15 +3,15 @@ use trace_lines::Told;
 /// A line of a trace.
 #[derive(Clone, Copy)]
 pub enum TraceLine {
-    /// What was done at a unit, 0 to 31, for the request of an id, as line number `line` of the script was played: 1 to
-    /// 1,000,001, where the number behind the last line is that of the last drain.
+    /// What was done at a unit, 0 to 31, for the request of an id, when line number `line` of the script was played. `line` is 1
+    /// to 1,000,001; the number after that of the script's last line is the number of the last drain.
     Deed {
         line: u32,
         unit: u8,
         id: u32,
         told: Told,
     },
-    /// An event of that line of the script found nothing to do.
+    /// An event of line number `line` of the script found nothing to do.
     Idle {
         line: u32,
     },

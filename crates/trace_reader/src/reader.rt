@@ -11,10 +11,10 @@ use crate::line::TraceLine;
 use script_reader::Script;
 use std::alloc::Global;
 
-/// Reads a trace from its bytes, beside the script of its run: a line each, ended by LF, which may be missing at the very end. It
-/// is refused exactly where the bytes spell no trace of the script, with the first fault: Refused at line 0 as Long for more
-/// than 2^28 bytes; else the first line that is faulty, and its kind. Of a script that has no line at all nothing is asked:
-/// then no line is refused as Script. Memory tells only that there was none. Takes time in proportion to the bytes.
+/// Reads a trace from its bytes, beside the script of its run. Each line ends with LF, which may be missing at the very end. The
+/// trace is refused exactly if the bytes spell no trace of the script. The refusal has the first fault: line 0 and `Long` for more
+/// than 2^28 bytes, and otherwise the first faulty line and its kind. If the script has no line at all, no line is refused as
+/// `Script`. `Memory` says only that there was no memory. The call takes time in proportion to the bytes.
 pub fn read_trace(
     alloc: Global,
     bytes: &[u8],
@@ -33,15 +33,15 @@ pub fn read_trace(
     }
 }
 
-/// The law of traces and their texts, both ways: the text of the moments of a run is read as what they tell; and what is read is
-/// of a run, and is written again as the bytes that it was read from, with LF behind the last line.
+/// The law of traces and their texts, both ways: the text of the moments of a run is read as what those moments tell; and what is
+/// read belongs to a run, and is written again as the bytes from which it was read, with LF after the last line.
 pub fn round_trip_law()
     ensures told { ReadsAsTold }
     ensures written { WritesAsRead }
     ensures of_run { ReadsOfRun }
 {}
 
-/// The law of the grammar: beside a script bytes spell one list of lines, or have one first fault, never both and never neither.
+/// The law of the grammar: beside a script, bytes spell one list of lines or have one first fault; never both, and never neither.
 pub fn grammar_law()
     ensures one_trace { (script : Stored) (bytes : List ℕ) (lines others : List TraceLine) → Spells script bytes lines → Spells script bytes others → lines ≡ others }
     ensures no_fault { (script : Stored) (bytes : List ℕ) (lines : List TraceLine) → Spells script bytes lines → (number : ℕ) (kind : TraceKind) → ¬ IsRefused script bytes number kind }

@@ -12,7 +12,7 @@ use mass_text::{Radix, number};
 use script_lines::{fault_in, is_word, offset_in};
 use std::marker::Model;
 
-/// The words of a line, one after another: what stands between single blanks.
+/// The words of a line, one after another. Single blanks separate them.
 #[derive(Drop)]
 pub(crate) struct Words<'a> {
     rest: &'a [u8],
@@ -35,7 +35,7 @@ fn first_blank(text: &[u8]) -> Option<usize>
     text.iter().position(|byte| *byte == b' ')
 }
 
-/// The first word of a text, what comes behind the blank that ends it, and whether there is one.
+/// The first word of a text, what comes after the blank that ends the word, and whether there is such a blank.
 fn cut(text: &[u8]) -> (&[u8], &[u8], bool)
     ensures { words_of text.now ≡ result.0.now ∷ words_left result.2 result.1.now }
 {
@@ -56,7 +56,7 @@ impl<'a> Words<'a> {
         }
     }
 
-    /// The next word; None exactly where none is left.
+    /// The next word; `None` exactly if no word is left.
     pub(crate) fn next(&mut self) -> Option<&'a [u8]>
         ensures { MatchOption result ((self.old ≡ []) × (self.new ≡ [])) (λ word. self.old ≡ word.now ∷ self.new) }
     {
@@ -122,7 +122,7 @@ impl<'a> Words<'a> {
     }
 }
 
-/// A number from `low` to `high`, without a zero too many.
+/// A number from `low` to `high`, without a leading zero.
 #[tactic(auto, unfolding(crate::specs::Reading::number_in))]
 fn number_in(word: &[u8], radix: Radix, low: u64, high: u64) -> Result<u64, TraceKind>
     ensures value { result ≡ number_in radix low high word.now }
