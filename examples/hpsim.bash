@@ -21,7 +21,7 @@ _hpsim() {
 }
 _hpview() {
   COMPREPLY=()
-  [ "$COMP_CWORD" -ne 1 ] || COMPREPLY=($(compgen -W "svg text help --version" -- "${COMP_WORDS[1]}"))
+  [ "$COMP_CWORD" -ne 1 ] || COMPREPLY=($(compgen -W "svg text tsv summary json help --version" -- "${COMP_WORDS[1]}"))
 }
 complete -o default -F _hpsim hpsim
 complete -o default -F _hpview hpview

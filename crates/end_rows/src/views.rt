@@ -14,15 +14,23 @@ type View = (
     &'static str,
 );
 
-static VIEWS: [View; 8] = [
+static VIEWS: [View; 10] = [
     ("text", b"unit 0 rp06\n", Ok(b""), 0, ""),
     (
         "png",
         b"",
         Ok(b""),
         2,
-        "hpview: 'png' cannot be FORM (svg, text)",
+        "hpview: 'png' cannot be FORM (svg, text, tsv, summary, json)",
     ),
+    (
+        "summary 1 9",
+        b"",
+        Ok(b""),
+        2,
+        "hpview: '1' is one word too many",
+    ),
+    ("tsv", b"unit 0 rp06\n", Ok(b""), 0, ""),
     (
         "text 9 3",
         b"",

@@ -94,8 +94,11 @@ pub const HPVIEW: &str = "\
 usage:
   hpview svg [FROM TO] < SCRIPT > PICTURE       draws the run of hp.trace for a browser
   hpview text [FROM TO] < SCRIPT                draws it for a terminal of 100 columns
+  hpview tsv [FROM TO] < SCRIPT > TABLE         prints a line for each request
+  hpview summary < SCRIPT > TABLE               prints a line for each drive, and one for all
+  hpview json [FROM TO] < SCRIPT > EVENTS       prints trace events for Perfetto or chrome://tracing
   hpview help                                   prints this
   hpview --version                              prints the version
-  FROM TO  the events to be drawn, 1 to 4294967295; without them all of them
+  FROM TO  the events to be shown, 1 to 4294967295; without them all of them
   SCRIPT   the script that 'hpsim play' made hp.trace from
 ";

@@ -149,10 +149,15 @@ pub fn command_fault<'a>(words: &[&'a [u8]]) -> Option<FieldFault<'a>> {
 
 /// What is wrong with the words of a command line of `hpview` that is none.
 pub fn view_fault<'a>(words: &[&'a [u8]]) -> Option<FieldFault<'a>> {
-    let rest = match walk(words, &[choice("FORM", "svg text")]) {
+    let rest = match walk(words, &[choice("FORM", "svg text tsv summary json")]) {
         Ok(rest) => rest,
         Err(fault) => return Some(fault),
     };
+    if let [form, ..] = words {
+        if is(form, "summary") {
+            return walk_all(rest, &[]);
+        }
+    }
     let first = match rest {
         [first, ..] => number(first, Radix::Decimal, 4_294_967_295)
             .unwrap_or(1)
