@@ -8,7 +8,7 @@ use crate::table::BadTable;
 use outside_traits::traits::{Packs, StoreFailed};
 use pack_geometry::{DriveKind, copy_block};
 
-/// The table that copy `k` tells; None where it is marked, or its bytes spell no table for this kind.
+/// The table that copy `k` tells. None if the copy is marked, or if its bytes spell no table for this kind.
 fn told_by<P: Packs>(
     packs: &mut P,
     unit: u8,
@@ -36,9 +36,8 @@ fn told_by<P: Packs>(
     }
 }
 
-/// The table of a unit's pack: that of the first of its five copies that is unmarked and spells one for this kind of
-/// drive, by DEC STD 144. None where no copy does. The packs stay as they are; they fail only where their count of
-/// faults rose.
+/// The table of a unit's pack, by DEC STD 144: the first of its five copies that is unmarked and spells a table for this
+/// kind of drive tells it. None if no copy does. The packs stay as they are. The call fails only if their count of faults rose.
 pub fn table_of<P: Packs>(
     packs: &mut P,
     unit: u8,

@@ -8,8 +8,8 @@ use byteorder::{ByteOrder, LittleEndian};
 use pack_geometry::{DriveKind, Place, sector_word};
 use thiserror::Error;
 
-/// Why bytes are no table: the word zero or the word flag is not zero; a pair is outside the geometry; it is not above
-/// the pair before; or it is not all ones, behind one that is.
+/// Why bytes are no table: the word zero or the word flag is not zero, or a pair is wrong. A pair is wrong if it is
+/// outside the geometry, if it is not above the pair before it, or if it stands behind a pair of all ones and is not all ones.
 #[derive(Debug, Drop, PartialEq, Eq, Error)]
 pub enum TableFault {
     #[error("zero")]
@@ -68,7 +68,7 @@ fn write_pair(into: &mut [u8], place: Place)
     LittleEndian::write_u16(&mut into[2..], sector_word(place));
 }
 
-/// The header of a table without an entry, and pairs of all ones.
+/// Writes the header of a table without an entry, and pairs of all ones.
 fn write_head(into: &mut [u8], serial: u32)
     requires { length into.old ≡ 512 }
     ensures { into.new ≡ table_text serial [] }
@@ -89,7 +89,7 @@ pub fn write_table(table: &BadTable, into: &mut [u8; 512])
     }
 }
 
-/// Takes pair `i` of the bytes into a table that was read from the pairs before.
+/// Takes pair `i` of the bytes into a table that was read from the pairs before it.
 fn take_pair(table: &mut BadTable, bytes: &[u8; 512], i: u8) -> Result<(), TableFault>
     requires small { i < 126 }
     requires read { IsReadUpTo table.old.kind bytes.now table.old.places i }
@@ -131,9 +131,9 @@ fn read_pairs(kind: DriveKind, bytes: &[u8; 512]) -> Result<BadTable, TableFault
     Ok(table)
 }
 
-/// The table that 512 bytes spell for a kind of drive. Where they spell none, the first fault: Zero, then Flag, and
-/// then by rising pair. A pair of all ones ends the list, and AfterEnd names the first later pair that is not all
-/// ones; another pair is Range where it is outside the geometry, and Order where it is not above the pair before.
+/// The table that 512 bytes spell for a kind of drive. If they spell none, the result is the first fault: Zero, then
+/// Flag, and then the faults of the pairs in ascending order. A pair of all ones ends the list, and AfterEnd names the
+/// first later pair that is not all ones. Any other pair is Range if it is outside the geometry, and Order if it is not above the pair before it.
 pub fn read_table(kind: DriveKind, bytes: &[u8; 512]) -> Result<BadTable, TableFault>
     ensures spelled { (table : Table) → table.kind ≡ kind → Spells bytes.now table → result ≡ Ok table }
     ensures ok { IfOk result (λ table. (table.kind ≡ kind) × Spells bytes.now table) }

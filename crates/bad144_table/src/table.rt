@@ -13,7 +13,7 @@ use std::marker::Model;
 use thiserror::Error;
 
 /// A bad-sector table: the kind of its drive, the pack's serial number, and at most 126 places in strictly ascending
-/// order. It lies in the value itself.
+/// order. The places are stored in the value itself.
 #[derive(Drop)]
 pub struct BadTable {
     kind: DriveKind,
@@ -32,8 +32,7 @@ impl Model for BadTable {
         IsTable (record { kind = table.kind; serial = table.serial; places = table.places.items }) };
 }
 
-/// Why a place is not added: its block is at or above the data limit, it is listed already at an index, or the table
-/// has 126 entries.
+/// Why a place is not added: its block is at or above the data limit, the table lists it already (at this index), or the table has 126 entries.
 #[derive(Debug, Drop, Error)]
 pub enum InsertFault {
     #[error("reserved")]
@@ -45,7 +44,7 @@ pub enum InsertFault {
 }
 
 impl BadTable {
-    /// The same table again.
+    /// A copy of the table.
     pub fn copy(&self) -> BadTable
         ensures { result ≡ self.now }
     {
@@ -61,7 +60,7 @@ impl BadTable {
     }
 }
 
-/// A table without an entry.
+/// A table without entries.
 pub fn empty_table(kind: DriveKind, serial: u32) -> BadTable
     ensures { result ≡ record { kind = kind; serial = serial; places = [] } }
 {
@@ -95,7 +94,7 @@ pub fn entry(table: &BadTable, i: u8) -> Place
     table.places[i as usize]
 }
 
-/// The index at which a place is listed, which is the only one; None exactly where it is not listed.
+/// The one index at which a place is listed. None exactly if it is not listed.
 pub fn position(table: &BadTable, place: Place) -> Option<u8>
     ensures index { result ≡ index_in (Some table.now) place }
     ensures listed { (i : ℕ) → (result ≡ Some i) ↔ (slice_get table.now.places i ≡ Some place) }
@@ -145,8 +144,9 @@ fn stands_at(table: &BadTable, at: usize, place: Place) -> bool
     at < table.places.len() && table.places[at] == place
 }
 
-/// Adds a place of the drive at its position in ascending order, and gives its index. Reserved comes where its block
-/// is at or above the data limit, then Listed with its index, then Full at 126 entries; a refusal changes nothing.
+/// Adds a place of the drive at its position in ascending order, and gives its index. The refusals are, in this order:
+/// Reserved if its block is at or above the data limit, Listed (with its index) if the table lists it already, and Full
+/// if the table has 126 entries. A refusal changes nothing.
 pub fn insert(table: &mut BadTable, place: Place) -> Result<u8, InsertFault>
     requires { IsInside table.old.kind place }
     ensures ok { IfOk result (Inserts table.old table.new place) }
@@ -174,7 +174,7 @@ pub(crate) fn lies_on(table: &BadTable, place: Place) -> bool
     block_of(table.kind, place).is_some()
 }
 
-/// Whether a place lies above all that are listed.
+/// Whether a place lies above all listed places.
 pub(crate) fn follows(table: &BadTable, place: Place) -> bool
     requires { IsInside table.now.kind place }
     ensures above { IsTrue result → (k : ℕ) → (d : Place) → k < length table.now.places
@@ -185,7 +185,7 @@ pub(crate) fn follows(table: &BadTable, place: Place) -> bool
     count == 0 || number(table.kind, table.places[count - 1]) < number(table.kind, place)
 }
 
-/// Appends a place that lies above all that are listed.
+/// Appends a place that lies above all listed places.
 pub(crate) fn push(table: &mut BadTable, place: Place)
     requires inside { IsInside table.old.kind place }
     requires room { length table.old.places < 126 }

@@ -1,4 +1,4 @@
-// A drive: its registers, the functions that it does, and the events that change it.
+// A drive: its registers, its functions, and the events that change it.
 ghost use Rattle.std.specs.Prelude.{◌≡◌, ◌≤◌, ◌<◌, ◌+◌, ◌^◌, true, false, IsTrue};
 ghost use Rattle.pack_geometry.specs.Geometry.{sectors_of};
 ghost use Rattle.hardware_table.specs.Drive.{new_drive, register_of, is_writable, with_register, is_ready, is_positioning, is_transferring, status, on, type_word};
@@ -17,7 +17,7 @@ use hardware_table::{Armed, FaultKind, Register, Work};
 use pack_geometry::{DriveKind, geometry_of};
 use std::marker::Model;
 
-/// A drive, of which each call does what the hardware table says. The drive status is computed from the state.
+/// A drive. Each call does what the hardware table says. The drive status is computed from the state.
 #[derive(Drop)]
 pub struct Drive {
     kind: DriveKind,
@@ -68,7 +68,7 @@ impl Model for Drive {
 }
 
 impl Drive {
-    /// A new drive: online, unlocked, its volume not valid, with nothing under way and nothing armed.
+    /// A new drive: it is online and unlocked, its volume is not valid, nothing is under way and no fault is armed.
     pub fn new(kind: DriveKind, serial: u16) -> Drive
         ensures { result ≡ new_drive kind serial }
     {
@@ -100,8 +100,8 @@ impl Drive {
         }
     }
 
-    /// Does a function. An address outside the drive, a write to a locked drive and a write of headers are refused:
-    /// an error bit and the attention go up, and nothing is under way.
+    /// Does a function. The drive refuses an address outside itself, a write while it is locked, and a write of headers:
+    /// then an error bit and the attention go up, and nothing is under way.
     pub fn go(&mut self, function: Function)
         requires ready { is_ready self.old.work ≡ true }
         requires online { IsTrue (needs_online function) → self.old.online ≡ true }
@@ -116,8 +116,8 @@ impl Drive {
         }
     }
 
-    /// Attaches a drive that is ready and online: PRESET, and then PACK, which acknowledges its pack; its offset register says the
-    /// 16-bit format and no offset.
+    /// Attaches a drive that is ready and online: PRESET, and then PACK, which acknowledges its pack. Afterwards its
+    /// offset register says the 16-bit format and no offset.
     pub fn attach(&mut self)
         requires ready { is_ready self.old.work ≡ true }
         requires online { self.old.online ≡ true }
@@ -176,8 +176,8 @@ impl Drive {
         self.offset = Of::from_bits_retain(0);
     }
 
-    /// A positioning that is under way ends and raises the attention, online or not. True exactly where one was;
-    /// where none was, nothing changes.
+    /// Ends the positioning that is under way and raises the attention, whether the drive is online or not. True exactly
+    /// if a positioning was under way; otherwise nothing changes.
     pub fn arrive(&mut self) -> bool
         ensures drive { self.new ≡ arrived self.old }
         ensures ended { result ≡ is_positioning self.old.work }
@@ -194,14 +194,14 @@ impl Drive {
         true
     }
 
-    /// The attention goes down.
+    /// Clears the attention.
     pub fn clear_attention(&mut self)
         ensures { self.new ≡ attention_cleared self.old }
     {
         self.attention = false;
     }
 
-    /// The transfer is no longer under way.
+    /// Ends the transfer: it is no longer under way.
     pub fn end_transfer(&mut self)
         requires { is_transferring self.old.work ≡ true }
         ensures { self.new ≡ transfer_ended self.old }
@@ -209,7 +209,7 @@ impl Drive {
         self.work = Work::Ready;
     }
 
-    /// The pack turns until a sector comes under the heads.
+    /// Turns the pack until a sector comes under the heads.
     pub fn turn(&mut self, sector: u32)
         requires { sector < sectors_of self.old.kind }
         ensures { self.new ≡ turned sector self.old }
@@ -217,8 +217,8 @@ impl Drive {
         self.la = sector as u16 * 64;
     }
 
-    /// The drive goes online, or offline. Offline its volume is no longer valid; a positioning or a transfer stays
-    /// under way.
+    /// Brings the drive online, or takes it offline. When it goes offline, its volume is no longer valid; a positioning
+    /// or a transfer stays under way.
     pub fn set_online(&mut self, on: bool)
         ensures { self.new ≡ online_set on self.old }
     {
@@ -228,14 +228,14 @@ impl Drive {
         }
     }
 
-    /// The drive is write locked, or unlocked.
+    /// Write locks the drive, or unlocks it.
     pub fn set_locked(&mut self, on: bool)
         ensures { self.new ≡ locked_set on self.old }
     {
         self.locked = on;
     }
 
-    /// Arms a fault for so many more times.
+    /// Arms a fault: it is to strike `times` more times.
     pub fn arm_fault(&mut self, kind: FaultKind, times: u32)
         requires some { 1 ≤ times }
         requires few { times ≤ 1000 }
@@ -252,7 +252,7 @@ impl Drive {
         }
     }
 
-    /// What a register holds.
+    /// The content of a register.
     pub fn read_register(&self, register: Register) -> u16
         ensures { result ≡ register_of register self.now }
     {
@@ -286,7 +286,7 @@ impl Drive {
         }
     }
 
-    // The drive status, put together from its low bits upwards.
+    // The drive status, composed from its low bits upwards.
     fn status(&self) -> u16
         ensures { result ≡ status self.now }
     {
@@ -312,7 +312,7 @@ impl Drive {
             && u32::from(self.da % 256) < geometry.sectors
     }
 
-    // What the function is refused for, as bits of Er1.
+    // The bits of Er1 for which the drive refuses the function.
     fn refusals(&self, function: Function) -> u16
         ensures { result ≡ refusals function self.now }
     {
@@ -329,14 +329,14 @@ impl Drive {
     }
 }
 
-// A bit of the drive status where a condition holds, and 0 where it does not.
+// A bit of the drive status if a condition holds, and 0 otherwise.
 fn bit(condition: bool, bit: Ds) -> u16
     ensures { result ≡ on condition bit.0 }
 {
     if condition { bit.bits() } else { 0 }
 }
 
-// A bit of the first error register where a condition holds, and 0 where it does not.
+// A bit of the first error register if a condition holds, and 0 otherwise.
 fn error(condition: bool, bit: Er1) -> u16
     ensures { result ≡ on condition bit.0 }
 {

@@ -1,10 +1,11 @@
-//! One drive of a MASSBUS, by the hardware table: its functions, the events that change it, and the move of one sector; and the
-//! book of the noise that strikes sectors when they are read.
+//! One drive of a MASSBUS, as the hardware table says: its functions, the events that change it, and the move of one
+//! sector; and the book of the noise that strikes sectors when they are read.
 //!
-//! What is proved: Each call of `Drive` is its row of the hardware table (`self.new ≡` row `self.old`), the refusals that set
-//! IAE, WLE or ILF among them; the drive status is computed by the table of bits and stored nowhere. `move_sector`: the verdict
-//! by the five rules in their order, with the pack's mark, the noise that strikes, the bytes that move and the registers; a
-//! failure of the packs leaves drive, book and window as they were. `NoiseBook::strike` is that of `live_noise`.
+//! What is proved: each call of `Drive` is its row of the hardware table (`self.new ≡` row `self.old`), including the
+//! refusals, which set IAE, WLE or ILF; the drive status is computed from the table of bits and stored nowhere.
+//! `move_sector`: the five rules, in their order, give the verdict, with the pack's mark, the noise that strikes, the
+//! bytes that move and the registers; if the packs fail, the drive, the book and the window are as they were.
+//! `NoiseBook::strike` is that of `live_noise`.
 //!
 //! Only tested, in `drive_rows`: worked values, beside their proofs.
 #![tactic(auto)]

@@ -21,7 +21,7 @@ pub struct Er2(u16);
 pub struct Of(u16);
 
 impl Ds {
-    /// Attention: raised and not cleared.
+    /// Attention: it was raised and has not been cleared.
     pub const ATA: Ds = Ds(0o100000);
     /// Composite error: an error register is not zero.
     pub const ERR: Ds = Ds(0o40000);
@@ -33,7 +33,7 @@ impl Ds {
     pub const WRL: Ds = Ds(0o4000);
     /// Drive present.
     pub const DPR: Ds = Ds(0o400);
-    /// Drive ready: neither a positioning nor a transfer is under way.
+    /// Drive ready: the drive neither positions nor transfers.
     pub const DRY: Ds = Ds(0o200);
     /// Volume valid.
     pub const VV: Ds = Ds(0o100);
@@ -92,7 +92,7 @@ impl Er1 {
     pub const HCRC: Er1 = Er1(0o400);
     /// Header compare error.
     pub const HCE: Er1 = Er1(0o200);
-    /// Hard error: the check can't correct the data.
+    /// ECC hard error: the check cannot correct the data.
     pub const ECH: Er1 = Er1(0o100);
     /// Format error.
     pub const FER: Er1 = Er1(0o20);

@@ -1,8 +1,8 @@
-//! The words of a drive's registers, after the register lists of the RP06, RM03 and RM05 manuals: the codes of functions and
-//! offsets, and the bits of the status, error and offset registers.
+//! The words of a drive's registers, as the register lists of the RP06, RM03 and RM05 manuals give them: the codes of
+//! functions and offsets, and the bits of the status, error and offset registers.
 //!
-//! What is proved: `function_of` and `code_of` are inverse on the twelve codes; the bits of `Ds`, `Er1`, `Er2` and `Of`;
-//! `offset_word` by the table.
+//! What is proved: `function_of` and `code_of` are inverse on the twelve codes; `Ds`, `Er1`, `Er2` and `Of` have the bits
+//! of the table, and `offset_word` its codes.
 //!
 //! Only tested, in `drive_rows`: worked values, beside their proofs.
 #![tactic(auto)]
@@ -63,11 +63,10 @@ pub const RM03_TYPE: u16 = 0o020024;
 /// The word in the drive type register of an RM05.
 pub const RM05_TYPE: u16 = 0o020027;
 
-/// The bits of the offset register in which the offset's code stands.
+/// The bits of the offset register that hold the offset's code.
 pub const OFFSET_CODE: u16 = 0o377;
 
-/// The function whose code stands in bits 1 to 5 of a control word. `None` exactly where no function
-/// has that code.
+/// The function whose code stands in bits 1 to 5 of a control word. `None` exactly if no function has that code.
 pub fn function_of(word: u16) -> Option<Function>
     ensures found { IfSome result (λ f. function_code f ≡ function_field word) }
     ensures every { (f : Function) → function_code f ≡ function_field word → result ≡ Some f }
@@ -111,8 +110,8 @@ pub fn code_of(function: Function) -> u16
     }
 }
 
-/// An offset's code, as it stands in the low eight bits of the offset register. No two offsets have the
-/// same code, and none has the code 0, which means no offset.
+/// The code of an offset, as it stands in the low eight bits of the offset register. No two offsets have the same code,
+/// and no offset has the code 0, which means that no offset is set.
 pub fn offset_word(code: OffsetCode) -> u16
     ensures code { result ≡ offset_code code }
     ensures in_field { offset_field result ≡ result }

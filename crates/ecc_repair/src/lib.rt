@@ -1,8 +1,8 @@
-//! The repair of a sector in main memory: the driver flips back the burst that the drive's registers tell.
+//! The repair of a sector in main memory: the driver flips back the burst that the drive's ECC registers tell.
 //!
-//! What is proved: `repair` leaves the window's bytes with the pattern's places flipped from `at - 1` on, cut at the window's
-//! length, and all else as before. `repair_law`: at most three bytes change; a sector that is read with a short burst and
-//! repaired has the bytes that stand on the pack.
+//! What is proved: `repair` flips the places of the pattern in the window's bytes, from place `at - 1` on and as far as
+//! the window reaches, and leaves all else as before. `repair_law`: at most three bytes change; a sector that is read
+//! with a short burst and repaired has the bytes that stand on the pack.
 #![tactic(auto)]
 
 ghost use Rattle.std.specs.Prelude.{◌≡◌, ◌≤◌, ◌<◌, ◌+◌, ◌-◌, ◌*◌, ◌/◌, ◌%◌, ◌^◌, ◌⊎◌, ℕ, List, All, length, slice_index};
@@ -16,11 +16,10 @@ ghost use Rattle.ecc_repair.specs.Repaired.{repaired, data_bit, pattern_bit};
 
 use main_memory::Window;
 
-/// Repairs the sector that is seen through a window, or the front of it where the window is shorter: an exclusive or
-/// of `pattern` from bit `(at - 1) % 8` of byte `(at - 1) / 8` on. `at`, from 1 to 4128, is the first place of the
-/// burst, counted from 1, and bit j of `pattern`, of 11 bits, stands for place `at - 1 + j`, as the drives' registers
-/// tell it. It changes at most three bytes, and none beyond the window's length: what lies behind them is not in
-/// memory.
+/// Repairs the sector that a window shows, or the front of that sector if the window is shorter: an exclusive or of
+/// `pattern` from bit `(at - 1) % 8` of byte `(at - 1) / 8` on. As the drives' registers tell a burst, `at`, from 1 to
+/// 4128, is its first place, counted from 1, and bit j of `pattern`, which has 11 bits, stands for place `at - 1 + j`,
+/// counted from 0. The repair changes at most three bytes, and none beyond the window's length, since the rest of the sector is not in memory.
 pub fn repair(window: &mut Window<'_>, at: u16, pattern: u16)
     requires first { 1 ≤ at }
     requires last { at ≤ 4128 }
@@ -51,10 +50,10 @@ fn flip(bytes: &mut [u8; 512], at: u16, pattern: u16)
     }
 }
 
-/// The laws of the repair. The places that the pattern's bits stand for are flipped, and no other; at most three
-/// bytes change; the front of a sector is repaired as the sector is. A sector that is read with a short burst and
-/// repaired has the bytes that stand on the pack: by the burst's places alone, and by the verdict on the whole word
-/// that was read, where the sector's own word is right.
+/// The laws of the repair. The places that the bits of the pattern stand for are flipped, and no others; at most three
+/// bytes change; and the front of a sector is repaired in the same way as the whole sector. A sector that is read with a
+/// short burst and repaired has the bytes that stand on the pack. This holds for the burst's places alone, and, if the
+/// sector's own word is right, for the verdict on the whole word that was read.
 pub fn repair_law()
     ensures places { (at pattern place : ℕ) → (bytes : List ℕ) → place < 8 * length bytes
         → data_bit (repaired at pattern bytes) place

@@ -16,7 +16,7 @@ fn ring_of(remainder: u32) -> u32
     ((folded << 10) % 0x20_0000) ^ (folded >> 11)
 }
 
-// A value with the same residue modulo x^11 + x^2 + 1, and 9 bits less where it has more than 11.
+// A value with the same residue modulo x^11 + x^2 + 1, and with 9 bits less if it has more than 11.
 fn folded(value: u32) -> u32
     ensures { let high = value / 2 ^ 11 in result ≡ bit_xor (bit_xor (value % 2 ^ 11) high) (high * 2 ^ 2 % 2 ^ 32) }
 {
@@ -43,7 +43,7 @@ fn joined(clocks: u32, power: u32) -> u32
     power + 2047 * ((clocks + 21 - power % 21) * 19 % 21)
 }
 
-// The burst whose window has this exponent, where it lies in the word.
+// The burst whose window has this exponent, if it lies in the word.
 fn burst_at(exponent: u32, window: u16) -> Verdict
     requires exponent { exponent < 42987 }
     requires top { 2 ^ 10 ≤ window }

@@ -1,17 +1,16 @@
-//! The Fire code of a sector: its check, its word's remainder, and the bursts that a remainder tells.
+//! The Fire code of a sector: the check of a sector, the remainder of its word, and the burst that a remainder tells.
 //!
-//! A sector's word is 4,128 places: its 512 bytes, each from its least significant bit on, and then the check's 32 bits, from
-//! the most significant on. Place k is the coefficient of x^(4127-k), and a word is right where its polynomial is a multiple of
-//! x^32 + x^23 + x^21 + x^11 + x^2 + 1 = (x^21 + 1)(x^11 + x^2 + 1). That a Fire code corrects one burst of at most 11 bits in
-//! a sector is as on the real drives; this generator and this order of the bits are the project's own choice.
+//! A sector's word has 4,128 places: first its 512 bytes, each from its least significant bit on, and then the 32 bits of
+//! the check, from the most significant bit on. Place k is the coefficient of x^(4127-k). A word is right if its
+//! polynomial is a multiple of x^32 + x^23 + x^21 + x^11 + x^2 + 1 = (x^21 + 1)(x^11 + x^2 + 1). As on the real drives,
+//! the Fire code corrects one burst of at most 11 bits in a sector; this generator and this order of the bits are the project's own choice.
 //!
-//! What is proved: `encode` gives the one check that makes a word right; `syndrome` is the word's remainder, a sum over places;
-//! `judge` is exact for every data and check, and names just the burst that was applied to a right word; `class_of`, `apply`,
-//! `Noise::new` exact; `judge_noise` is the verdict on any right word with these places flipped. `burst_law`: no short burst
-//! has remainder zero, two different ones have different remainders, each remainder has just one verdict, and powers of x repeat
-//! after 42,987 steps and not before.
-//! The three tables are proved equal to the definition by functions over them (`tables`, `logarithms`); the plain program has
-//! the same contracts.
+//! What is proved: `encode` gives the one check that makes a word right; `syndrome` is the word's remainder, a sum over
+//! places; `judge` is exact for every data and check, and names exactly the burst that was applied to a right word;
+//! `class_of`, `apply` and `Noise::new` are exact; `judge_noise` is the verdict on any right word with these places
+//! flipped. `burst_law`: no short burst has remainder zero, two different short bursts have different remainders, each
+//! remainder has exactly one verdict, and powers of x repeat after 42,987 steps and not before.
+//! Functions over the three tables prove them equal to the definition (`tables`, `logarithms`); the plain program has the same contracts.
 //!
 //! Only tested, in `drive_rows`: worked checks and verdicts.
 #![tactic(auto)]
@@ -38,27 +37,26 @@ use std::marker::Model;
 #[derive(Clone, Copy, PartialEq, Eq)]
 pub struct Check(pub u32);
 
-/// What a word's remainder tells.
+/// What the remainder of a word tells.
 #[derive(Clone, Copy, PartialEq, Eq)]
 pub enum Verdict {
     /// The word is right.
     Clean,
-    /// One short burst has the remainder, written as the drives' registers tell it. `at`, from 1 to 4128, is its
-    /// first place, counted from 1; bit j of `pattern`, of 11 bits of which bit 0 is set, stands for place
-    /// `at - 1 + j`, counted from 0.
+    /// One short burst has the remainder. It is written as the drives' registers tell it: `at`, from 1 to 4128, is its
+    /// first place, counted from 1. `pattern` has 11 bits, of which bit 0 is set; bit j stands for place `at - 1 + j`, counted from 0.
     Burst { at: u16, pattern: u16 },
     /// The word is wrong, and no short burst has the remainder.
     Uncorrectable,
 }
 
-/// What becomes of noise when it strikes a right word.
+/// What happens if noise strikes a right word.
 #[derive(Clone, Copy, PartialEq, Eq)]
 pub enum NoiseClass {
-    /// Its places lie within 11 successive ones: it is told by its remainder, and can be repaired.
+    /// The noise's places lie within 11 successive ones: its remainder tells the burst, and the burst can be repaired.
     Short,
-    /// Its remainder is not zero, and no short burst has it: the word is known to be wrong.
+    /// The remainder is not zero, and no short burst has it: the word is known to be wrong.
     Shown,
-    /// Neither: it looks like a right word, or like one with another burst.
+    /// Neither: the word looks like a right one, or like one with another burst.
     Alias,
 }
 
@@ -74,7 +72,7 @@ fn data_remainder(bytes: &[u8; 512]) -> u32
     state
 }
 
-/// The check that makes the word right.
+/// The one check that makes the word right.
 pub fn encode(bytes: &[u8; 512]) -> Check
     ensures right { word_remainder bytes.now result.0 ≡ 0 }
     ensures only { (check : ℕ) → check < 2 ^ 32 → word_remainder bytes.now check ≡ 0 → check ≡ result.0 }
@@ -82,25 +80,25 @@ pub fn encode(bytes: &[u8; 512]) -> Check
     Check(data_remainder(bytes))
 }
 
-/// The word's remainder modulo the generator: 0 exactly where the word is right.
+/// The word's remainder modulo the generator: 0 exactly if the word is right.
 pub fn syndrome(bytes: &[u8; 512], check: Check) -> u32
     ensures { result ≡ word_remainder bytes.now check.0 }
 {
     data_remainder(bytes) ^ check.0
 }
 
-/// What the word's remainder tells, exactly, for every word.
+/// What the remainder of the word tells, exactly, for every word.
 pub fn judge(bytes: &[u8; 512], check: Check) -> Verdict
     ensures verdict { Judges result (word_remainder bytes.now check.0) }
 
-    // Each verdict is given exactly where it holds.
+    // Each verdict is given exactly if it holds.
     ensures clean { (result ≡ Verdict.Clean) ↔ (word_remainder bytes.now check.0 ≡ 0) }
     ensures burst { (at pattern : ℕ)
         → (result ≡ Verdict.Burst at pattern) ↔ IsBurst at pattern (word_remainder bytes.now check.0) }
     ensures uncorrectable { (result ≡ Verdict.Uncorrectable)
         ↔ IsUncorrectable (word_remainder bytes.now check.0) }
 
-    // A right word with a short burst applied is judged to be just that burst.
+    // If a short burst is applied to a right word, the verdict is exactly that burst.
     ensures named { (places old : List ℕ) (c : ℕ) → word_remainder old c ≡ 0 → IsShortBurst places
         → IsFlipped places old c bytes.now check.0 → Names result places }
 {
@@ -136,7 +134,7 @@ fn is_noise(places: &[u16]) -> bool
     true
 }
 
-/// From 1 to 64 places of a word, each from 0 to 4127 and in ascending order, that are flipped when it is read.
+/// From 1 to 64 places of a word, each from 0 to 4127 and in ascending order, that are flipped when the word is read.
 #[derive(Drop)]
 pub struct Noise {
     places: ArrayVec<u16, 64>,
@@ -151,7 +149,7 @@ impl Model for Noise {
 }
 
 impl Noise {
-    // The noise of places that are known to be some.
+    // The noise of places that are known to be valid.
     fn of(places: &[u16]) -> Noise
         requires { IsNoise places.now }
         ensures { result ≡ places.now }
@@ -161,8 +159,8 @@ impl Noise {
         Noise { places: kept }
     }
 
-    /// The noise of these places. None exactly where the list is empty, longer than 64, not strictly ascending, or
-    /// has a place above 4127.
+    /// The noise of these places. None exactly if the list is empty, has more than 64 places, is not strictly ascending,
+    /// or has a place above 4127.
     pub fn new(places: &[u16]) -> Option<Noise>
         ensures { SomeIff result (IsNoise places.now) places.now }
     {
@@ -173,14 +171,14 @@ impl Noise {
         }
     }
 
-    /// The same noise again.
+    /// A copy of the noise.
     pub fn copy(&self) -> Noise
         ensures { result ≡ self.now }
     {
         Noise::of(self.places())
     }
 
-    /// Its places, in ascending order.
+    /// The places of the noise, in ascending order.
     pub fn places(&self) -> &[u16]
         ensures value { result.now ≡ self.now }
         ensures noise { IsNoise self.now }
@@ -189,7 +187,7 @@ impl Noise {
     }
 }
 
-// The class of these places: by their ends, or by what their remainder tells.
+// The class of these places: their ends decide it, or what their remainder tells.
 fn class_by(places: &[u16]) -> NoiseClass
     requires { IsNoise places.now }
     ensures { Classes result places.now }
@@ -203,11 +201,11 @@ fn class_by(places: &[u16]) -> NoiseClass
     }
 }
 
-/// The noise's class.
+/// The class of the noise.
 pub fn class_of(noise: &Noise) -> NoiseClass
     ensures class { Classes result noise.now }
 
-    // Each class is given exactly where it holds.
+    // Each class is given exactly if it holds.
     ensures short { (result ≡ NoiseClass.Short) ↔ IsShortBurst noise.now }
     ensures shown { (result ≡ NoiseClass.Shown) ↔ IsUncorrectable (the_remainder noise.now) }
     ensures alias { (result ≡ NoiseClass.Alias) ↔ IsAlias noise.now }
@@ -215,7 +213,7 @@ pub fn class_of(noise: &Noise) -> NoiseClass
     class_by(noise.places())
 }
 
-// One place of the word flipped; the check afterwards.
+// Flips one place of the word, and gives the check afterwards.
 fn flip(place: u16, bytes: &mut [u8; 512], check: u32) -> u32
     requires { place < 4128 }
     ensures { (k : ℕ) → k < 4128 → bit_of_word bytes.new result k
@@ -229,7 +227,7 @@ fn flip(place: u16, bytes: &mut [u8; 512], check: u32) -> u32
     }
 }
 
-/// Flips the noise's places of the word, and no other: those of the data in `bytes`, and those of the check in the
+/// Flips the places of the noise in a word, and no others: those of the data in `bytes`, and those of the check in the
 /// result.
 pub fn apply(noise: &Noise, bytes: &mut [u8; 512], check: Check) -> Check
     ensures flips { IsFlipped noise.now bytes.old check.0 bytes.new result.0 }
@@ -243,7 +241,7 @@ pub fn apply(noise: &Noise, bytes: &mut [u8; 512], check: Check) -> Check
     Check(value)
 }
 
-/// The verdict of `judge` on any right word with the noise's places flipped, from these places alone.
+/// The verdict that `judge` gives on any right word with the noise's places flipped. It depends on these places alone.
 pub fn judge_noise(noise: &Noise) -> Verdict
     ensures remainder { Judges result (the_remainder noise.now) }
     ensures word { (old new : List ℕ) (c d : ℕ) → word_remainder old c ≡ 0 → IsFlipped noise.now old c new d
@@ -259,11 +257,11 @@ pub fn data_law(bytes: &[u8; 512])
     let _slice = bytes.as_slice();
 }
 
-/// The burst law: no short burst has the remainder zero, and two different ones have different remainders. Hence a
-/// remainder has just one verdict, which a search of all places and patterns finds, and noise one class; a short burst
-/// is named by the verdict on its remainder; an exclusive or of each byte of the data with that of the burst restores
-/// it; and places that are flipped twice are as they were. A burst begins in the word. Powers of x repeat after each
-/// 21 * 2047 = 42,987, and not before.
+/// The burst law: no short burst has the remainder zero, and two different short bursts have different remainders. Hence
+/// each remainder has exactly one verdict, which a search of all places and patterns finds, and each noise has one class.
+/// The verdict on the remainder of a short burst names that burst. An exclusive or of each byte of the data with the same
+/// byte of the burst restores the data, and places that are flipped twice are as they were. A burst begins in the word.
+/// Powers of x repeat after 21 * 2047 = 42,987 steps, and not before.
 pub fn burst_law()
     ensures not_zero { (places : List ℕ) → IsShortBurst places → the_remainder places ≢ 0 }
     ensures apart { (places others : List ℕ) → IsShortBurst places → IsShortBurst others

@@ -3,7 +3,7 @@ ghost use Rattle.std.specs.Prelude.{◌≡◌, ℕ, ◌<◌, ◌^◌};
 ghost use Rattle.fire_code.specs.Remainder.{repeat};
 ghost use Rattle.fire_code.specs.Residue.{clock_cycle};
 
-// At v, the i below 2047 with x^i = v; at 0, which has none, 0.
+// At v, the i below 2047 with x^i = v. 0 has no logarithm, and the table holds 0 there.
 static LOGARITHMS: [u16; 2048] = [
     0, 0, 1, 1029, 2, 11, 1030, 1496, 3, 478, 12, 1912, 1031, 47, 1497, 1040, 4, 22, 479, 243, 13,
     945, 1913, 1076, 1032, 678, 48, 1507, 1498, 894, 1041, 742, 5, 1771, 23, 1543, 480, 961, 244,
@@ -126,8 +126,7 @@ static LOGARITHMS: [u16; 2048] = [
     884, 1261, 1022, 1696, 1066, 1760, 469, 1065, 468, 883, 1021, 1018, 1019, 467, 1020,
 ];
 
-/// The logarithm of `value`, from 1 to 2047: the exponent, from 0 to 2046, of the power of x that it is
-/// modulo x^11 + x^2 + 1.
+/// The logarithm of `value`, from 1 to 2047: the exponent, from 0 to 2046, of the power of x that equals `value` modulo x^11 + x^2 + 1.
 pub(crate) fn logarithm(value: u16) -> u16
     requires not_zero { 0 < value }
     requires small { value < 2 ^ 11 }

@@ -1,8 +1,8 @@
-// Patterns of short bursts, as windows of 11 bits whose highest is the first place.
+// Patterns of short bursts, as windows of 11 bits. The highest bit is the first place.
 ghost use Rattle.std.specs.Prelude.{◌≡◌, ◌-◌, ◌<◌, ◌^◌, ◌↔◌, IsTrue};
 ghost use Rattle.fire_code.specs.Burst.{reversed as the_reversed};
 
-// The lowest 11 bits in the other order.
+// The lowest 11 bits in reverse order.
 pub(crate) fn reversed(value: u16) -> u16
     requires { value < 2 ^ 11 }
     ensures { result ≡ the_reversed 11 value }
@@ -16,7 +16,7 @@ pub(crate) fn reversed(value: u16) -> u16
     mirrored
 }
 
-// Whether a pattern from the first place on stays in the word.
+// Whether a pattern that begins at the first place stays in the word.
 pub fn fits(first: u16, pattern: u16) -> bool
     requires first { first < 4128 }
     requires pattern { pattern < 2 ^ 11 }

@@ -107,7 +107,7 @@ static POWERS: [u32; 516] = [
     0x89E0044D, 0xB5A007AD, 0xEC220761, 0x4980025C,
 ];
 
-/// Eight steps of a register whose 8 highest bits alone are set: `high` times x^32, modulo the generator.
+/// Eight steps of a register in which only the 8 highest bits are set: `high` times x^32, modulo the generator.
 pub(crate) fn eight_steps(high: u8) -> u32
     ensures { result ≡ repeat times_x 8 (high * 2 ^ 24) }
 {

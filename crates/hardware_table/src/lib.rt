@@ -4,9 +4,9 @@
 //! Defined in `specs/`: the states of a drive and of an adapter as records, each row of the hardware table as a function on
 //! them, the verdict of a move, and live noise.
 //!
-//! What is proved: `status_law`: each status bit is on exactly where its condition holds. `noise_law`: at each sector noise
-//! stands in the order of its arming, and a strike uses the oldest and changes nothing else. `adapter_law`: what every adapter
-//! keeps, kept by each act.
+//! What is proved: `status_law`: each status bit is on exactly if its condition holds. `noise_law`: at each sector noise
+//! stands in the order of its arming, and a strike uses the oldest and changes nothing else. `adapter_law`: each act
+//! keeps what holds of every adapter.
 #![tactic(auto)]
 
 ghost use Rattle.std.specs.Prelude.{◌≡◌, ◌≢◌, ◌≤◌, ◌<◌, ◌+◌, ◌*◌, ◌==◌, ◌++◌, ℕ, Bool, true, false, List, [], ◌∷◌, All, bit_and, if◌then◌else◌};
@@ -21,7 +21,7 @@ pub use fire_code::Noise;
 /// The registers of a drive.
 #[derive(Clone, Copy)]
 pub enum Register {
-    /// Control: the code of the last function, without GO.
+    /// Control: the code of the last function, without the bit GO.
     Cs1,
     /// Drive status.
     Ds,
@@ -43,9 +43,9 @@ pub enum Register {
     Dt,
     /// Serial number.
     Sn,
-    /// The place of the last burst that was shown, counted from 1.
+    /// First ECC register: the place of the last burst that was shown, counted from 1.
     Ec1,
-    /// Its pattern.
+    /// Second ECC register: the pattern of that burst.
     Ec2,
 }
 
@@ -60,7 +60,7 @@ pub enum FaultKind {
     Dte,
     /// Header check error.
     Hcrc,
-    /// Data late, which the adapter shows.
+    /// Data late. The adapter shows this fault.
     Late,
 }
 
@@ -69,8 +69,8 @@ pub enum FaultKind {
 pub enum Moved {
     /// The sector was written, or was read and found right.
     Clean,
-    /// The sector was read with one burst of at most 11 places: `at` is its first place, from 1 to 4128, and bit
-    /// j of `pattern` stands for place `at - 1 + j`, counted from 0.
+    /// The sector was read with one burst of at most 11 places: `at` is the first place of the burst, from 1 to 4128, and
+    /// bit j of `pattern` stands for place `at - 1 + j`, counted from 0.
     Burst { at: u16, pattern: u16 },
     /// The sector was read and can't be corrected.
     Hard,
@@ -87,13 +87,13 @@ pub enum Moved {
 pub enum Work {
     /// Nothing: the drive is ready.
     Ready,
-    /// It positions to a cylinder and, in a search, to a sector.
+    /// The drive positions to a cylinder and, in a search, to a sector.
     Positioning { cylinder: u16, sector: Option<u8> },
-    /// A transfer is under way: of a write, or of a read.
+    /// A transfer is under way: a write or a read.
     Transfer { write: bool },
 }
 
-/// How often each fault is still to strike.
+/// How many times each fault is still to strike.
 #[derive(Clone, Copy)]
 pub struct Armed {
     pub seek: u64,
@@ -103,16 +103,16 @@ pub struct Armed {
     pub late: u64,
 }
 
-/// How long noise lives.
+/// How long noise stays live.
 #[derive(Clone, Copy)]
 pub enum NoiseSpan {
-    /// For so many strikes.
+    /// Until it has struck this many times.
     Times(u32),
     /// Until the sector is read with this offset.
     Until(OffsetCode),
 }
 
-/// The law of the drive status: each bit is on exactly where its condition holds.
+/// The law of the drive status: each bit is on exactly if its condition holds.
 pub fn status_law()
     ensures attention { (d : DriveState) → bit_and (status d) bits.attention ≡ on d.attention bits.attention }
     ensures error { (d : DriveState) → bit_and (status d) bits.error ≡ on (has_error d) bits.error }
@@ -124,10 +124,11 @@ pub fn status_law()
     ensures valid { (d : DriveState) → bit_and (status d) bits.volume_valid ≡ on d.valid bits.volume_valid }
 {}
 
-/// The law of noise. At each sector noise stands in the order of its arming: new noise that is to live comes behind
-/// what is live there, and changes nothing at another sector. The oldest noise of a sector decides; a strike uses
-/// it up or ends it, and changes nothing else. No arming and no strike makes noise of another unit, of another block or
-/// of other places than the noise that was armed: what all noise has in these when it is armed, live noise always has.
+/// The law of noise. At each sector noise stands in the order of its arming: noise that is armed there comes behind the
+/// noise that is live there already, if it is to live at all, and changes nothing at any other sector. The oldest noise
+/// of a sector decides; a strike uses it once, or ends it, and changes nothing else. No arming and no strike makes noise
+/// of another unit, of another block or of other places than the noise that was armed: what holds of the unit, the block
+/// and the places of all noise when it is armed always holds of live noise.
 pub fn noise_law()
     ensures armed { (live : List LiveNoise) → (noise : LiveNoise) → (unit block : ℕ)
         → noise_at unit block (with_noise noise live)
@@ -147,9 +148,9 @@ pub fn noise_law()
         → All (IsAmong live) (after_strike unit block word live) }
 {}
 
-/// The law of adapters. A new adapter is sound, and each act keeps it so, where it may be done. What was just loaded
-/// can be started. While a transfer is under way a sector of it is left, which moves the bytes of its block of the
-/// buffer, and a clean step puts the completion up exactly at the last one.
+/// The law of adapters. A new adapter is sound, and each act that may be done keeps it sound. A transfer that was just
+/// loaded can be started. While a transfer is under way, at least one sector of it is left; that sector moves the bytes
+/// of its block of the buffer, and a clean step puts the completion up exactly if that sector is the last one.
 pub fn adapter_law()
     ensures new { IsAdapter new_adapter }
     ensures loaded { (a : AdapterState) → (frames : List ℕ) → (offset blocks last skip count : ℕ) → a.busy ≡ false
@@ -169,8 +170,8 @@ pub fn adapter_law()
         → (stepped Moved.Clean a).completion ≡ (a.moved + 1 == a.count) }
 {}
 
-/// The law of whole blocks: where the last block of a buffer has all its 512 bytes, each block of a transfer is 512
-/// bytes, and uses one map register and the transfer one more where it does not begin at a frame's start.
+/// The law of whole blocks: if the last block of a buffer has all its 512 bytes, each block of a transfer has 512 bytes.
+/// A transfer then uses one map register for each block, and one more if it does not begin at the start of a frame.
 pub fn whole_blocks_law()
     ensures bytes { (blocks skip count : ℕ) → bytes_between blocks 512 skip count ≡ 512 * count }
     ensures registers { (count offset : ℕ) → offset < 512

@@ -8,7 +8,7 @@ ghost use Rattle.live_noise.specs.Book.{noise_of, live_of, number_of, is_entry_a
 use drive_registers::{OFFSET_CODE, offset_word};
 use hardware_table::{Noise, NoiseSpan};
 
-/// Noise that is live: how long it still lives, where it strikes, and the number of its places.
+/// An entry of live noise: how long the noise stays live, where it strikes, and the number of its places in the list of all.
 #[derive(Clone, Copy)]
 pub struct Entry {
     pub span: NoiseSpan,
@@ -17,7 +17,7 @@ pub struct Entry {
     pub unit: u8,
 }
 
-// The number of a sector, in the order of which the entries stand.
+// The number of a sector. The entries stand in the order of these numbers.
 fn number_at(unit: u8, block: u32) -> u64
     ensures { result ≡ sector_number unit block }
 {
@@ -34,7 +34,7 @@ fn is_ended_by(span: NoiseSpan, word: u16) -> bool
     }
 }
 
-// How long noise lives that was used by such a read.
+// How long noise stays live after such a read has used it.
 fn span_left(span: NoiseSpan, word: u16) -> Option<NoiseSpan>
     ensures { result ≡ span_left word span }
 {
@@ -56,7 +56,7 @@ fn span_left(span: NoiseSpan, word: u16) -> Option<NoiseSpan>
     }
 }
 
-// Noise that is to strike no more.
+// Whether noise is to strike no more.
 pub fn is_spent(span: NoiseSpan) -> bool
     ensures { result ≡ is_spent span }
 {
@@ -92,7 +92,7 @@ impl Entry {
     }
 }
 
-// How many entries stand below a sector.
+// How many entries belong to sectors below this one.
 fn count_below(entries: &[Entry], number: u64) -> usize
     requires { AreInOrder entries.now }
     ensures bound { result ≤ length entries.now }
@@ -102,7 +102,7 @@ fn count_below(entries: &[Entry], number: u64) -> usize
     entries.partition_point(|entry| entry.is_below(number))
 }
 
-// How many entries do not stand behind a sector.
+// How many entries belong to this sector or to sectors below it.
 fn count_not_behind(entries: &[Entry], number: u64) -> usize
     requires { AreInOrder entries.now }
     ensures bound { result ≤ length entries.now }
@@ -112,7 +112,7 @@ fn count_not_behind(entries: &[Entry], number: u64) -> usize
     entries.partition_point(|entry| entry.is_not_behind(number))
 }
 
-// Where the first entry of a sector stands.
+// The index of the first entry of a sector.
 fn first_at(entries: &[Entry], unit: u8, block: u32) -> Option<usize>
     requires { AreInOrder entries.now }
     ensures { MatchOption result (IsNowhere (is_entry_at unit block) entries.now)
@@ -128,7 +128,7 @@ fn first_at(entries: &[Entry], unit: u8, block: u32) -> Option<usize>
     Some(i)
 }
 
-// Puts an entry behind all of its sector.
+// Puts an entry behind all other entries of its sector.
 pub fn put(entries: &mut Vec<Entry>, entry: Entry)
     requires order { AreInOrder entries.old.items }
     requires block { entry.block < 2 ^ 32 }
@@ -139,7 +139,7 @@ pub fn put(entries: &mut Vec<Entry>, entry: Entry)
     ensures capacity { vec_capacity entries.old ≤ vec_capacity entries.new }
 {
     let i = count_not_behind(entries.as_slice(), entry.number());
-    // The room is there, so this cannot fail.
+    // The room is reserved, so this cannot fail.
     let _ = entries.insert(i, entry);
 }
 
@@ -165,8 +165,8 @@ fn use_at(entries: &mut Vec<Entry>, i: usize, word: u16) -> Entry
     entry
 }
 
-// Strikes a read of a sector with this word in the offset register: the oldest noise of the sector is used. Gives its
-// entry as it was.
+// Strikes a read of a sector with this word in the offset register: the read uses the oldest noise of the sector. Gives
+// the entry of that noise as it was.
 pub(crate) fn strike(entries: &mut Vec<Entry>, unit: u8, block: u32, word: u16) -> Option<Entry>
     requires { AreInOrder entries.old.items }
     ensures oldest { (noises : List (List ℕ))
@@ -184,7 +184,7 @@ pub(crate) fn strike(entries: &mut Vec<Entry>, unit: u8, block: u32, word: u16) 
     Some(use_at(entries, i, word))
 }
 
-// The noise of an entry, in a read with this word in the offset register: none where that ends it.
+// The noise of an entry in a read with this word in the offset register. None if that word ends the noise.
 pub(crate) fn noise_in(noises: &[Noise], entry: Entry, word: u16) -> Option<Noise>
     requires { entry.slot < length noises.now }
     ensures { result ≡ flips word (Some (noise_of noises.now entry)) }

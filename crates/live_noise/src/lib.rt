@@ -1,7 +1,7 @@
-//! The noise that is live, found by its sector: it flips places of sectors when they are read.
+//! Live noise, found by its sector. Noise flips places of sectors when they are read.
 //!
-//! What is proved: `Live::strike` is exact: the oldest live noise of that unit and block decides, and is used by it. No call allocates
-//! but `Live::new`.
+//! What is proved: `Live::strike` is exact: the oldest live noise of that unit and block decides, and the strike uses it.
+//! No call allocates except `Live::new`.
 #![tactic(auto)]
 
 mod entries;

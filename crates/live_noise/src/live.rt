@@ -1,4 +1,4 @@
-// The noise that is live: its entries in the order of their sectors, and its places.
+// Live noise: the entries in the order of their sectors, and the places of the noise.
 ghost use Rattle.std.specs.Prelude.{◌≡◌, ◌≤◌, ◌<◌, IfOk, [], vec_capacity};
 ghost use Rattle.hardware_table.specs.Noise.{empty_book, book_armed, book_struck, strikes};
 
@@ -8,8 +8,8 @@ use no_memory::NoMemory;
 use std::alloc::Global;
 use std::marker::Model;
 
-/// The noise that is live, with how much was armed of how much that may be. A strike finds its noise by a binary search on the unit
-/// and the block.
+/// The noise that is live, with the number of noises that were armed and the number that may be armed in all. A strike
+/// finds its noise by a binary search for the unit and the block.
 #[derive(Drop)]
 pub struct Live {
     entries: Vec<Entry>,
@@ -31,7 +31,7 @@ impl Model for Live {
     ghost invariant = { λ b. IsKept b.noises.items b.entries.items b.armed b.capacity (vec_capacity b.noises) (vec_capacity b.entries) };
 }
 
-// Room for so many.
+// Reserves room for this many items.
 fn reserve<T: Drop>(alloc: Global, capacity: u32) -> Result<Vec<T>, NoMemory>
     ensures empty { IfOk result (λ v. v.items ≡ []) }
     ensures room { IfOk result (λ v. capacity ≤ vec_capacity v) }
@@ -41,7 +41,8 @@ fn reserve<T: Drop>(alloc: Global, capacity: u32) -> Result<Vec<T>, NoMemory>
 }
 
 impl Live {
-    /// No noise, with the memory for all that may be armed, so that no later call takes any. `NoMemory` where it is not to be had.
+    /// No noise yet. The call reserves the memory for all noise that may be armed, so that no later call takes any.
+    /// `NoMemory` if that memory is not available.
     pub fn new(alloc: Global, capacity: u32) -> Result<Live, NoMemory>
         requires { capacity ≤ 4096 }
         ensures { IfOk result (λ live. live ≡ empty_book capacity) }
@@ -56,7 +57,8 @@ impl Live {
         })
     }
 
-    /// Arms noise at a sector: it is live until it has struck so often, or until the sector is read with the offset that ends it.
+    /// Arms noise at a sector. The noise is live until it has struck a number of times, or until the sector is read with
+    /// the offset that ends it, as `span` says.
     pub fn arm(&mut self, unit: u8, block: u32, noise: Noise, span: NoiseSpan)
         requires { self.old.armed < self.old.capacity }
         ensures { self.new ≡ book_armed (record { unit = unit; block = block; span = span; places = noise }) self.old }
@@ -78,8 +80,8 @@ impl Live {
         );
     }
 
-    /// The noise that strikes a read of a sector with this word in the offset register, which is used by it. None exactly where no
-    /// live noise is there, or where the word's offset ends the oldest one.
+    /// The noise that strikes a read of a sector with this word in the offset register; the read uses that noise. None
+    /// exactly if no noise is live there, or if the word's offset ends the oldest one.
     pub fn strike(&mut self, unit: u8, block: u32, of: u16) -> Option<Noise>
         ensures noise { result ≡ strikes unit block of self.old.live }
         ensures book { self.new ≡ book_struck unit block of self.old }

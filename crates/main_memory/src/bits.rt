@@ -1,10 +1,10 @@
-// Free frames as bits: bit i of word j is on where frame 64 * j + i is free.
+// Free frames as bits: bit i of word j is on if frame 64 * j + i is free.
 ghost use Rattle.std.specs.Prelude.{◌≡◌, ◌<◌, ◌≤◌, ◌/◌, ◌∷◌, ℕ, length, take, drop, slice_index};
 ghost use Rattle.main_memory.specs.Frames.{free_frames, with_frame, with_frames};
 
 use arrayvec::ArrayVec;
 
-// Takes the lowest free frame. The words before `from` have none.
+// Takes the lowest free frame. The words before `from` have no bit on.
 pub(crate) fn take_lowest(words: &mut [u64; 256], from: usize) -> u16
     requires none_before { (k : ℕ) → k < from → slice_index words.old k ≡ 0 }
     requires some { 0 < length (free_frames words.old) }

@@ -1,4 +1,4 @@
-// Buffers: frames that memory lent, as moved values.
+// Buffers: frames that the memory lent, as values that are moved.
 ghost use Rattle.std.specs.Prelude.{◌≡◌, ◌<◌, slice_index};
 ghost use Rattle.main_memory.specs.Blocks.{IsLoan, size_at, span_of};
 
@@ -6,18 +6,17 @@ use crate::span::Span;
 use arrayvec::ArrayVec;
 use std::marker::{Model, PhantomData};
 
-/// A buffer in this state is the driver's, which stores and fetches its blocks.
+/// A buffer in this state belongs to the driver, which stores and fetches its blocks.
 #[derive(Clone, Copy)]
 pub struct Cpu;
 
-/// A buffer in this state is an adapter's, which opens windows on its blocks.
+/// A buffer in this state belongs to an adapter, which opens windows on its blocks.
 #[derive(Clone, Copy)]
 pub struct Bus;
 
-/// Blocks of 512 bytes in frames of main memory: the frames in order, the place in the first frame where
-/// the bytes begin, from 0 to 511, the number of blocks, from 1 to 127, and how many bytes the last block has,
-/// from 1 to 512. A buffer is moved, not copied, between the driver and an adapter. The frames of a buffer that
-/// is dropped stay lent.
+/// Blocks of 512 bytes in frames of main memory. A buffer has its frames in order; the place in the first frame at which
+/// its bytes begin, from 0 to 511; the number of its blocks, from 1 to 127; and the number of bytes of its last block,
+/// from 1 to 512. A buffer is moved, not copied, between the driver and an adapter. If a buffer is dropped, its frames stay lent.
 #[derive(Drop)]
 pub struct Buffer<S> {
     frames: ArrayVec<u16, 128>,
@@ -53,7 +52,7 @@ impl<S> Buffer<S> {
         }
     }
 
-    /// The place in the first frame where the buffer's bytes begin, from 0 to 511.
+    /// The place in the first frame at which the buffer's bytes begin, from 0 to 511.
     pub fn offset(&self) -> u32
         ensures { result ≡ self.now.offset }
     {
@@ -67,7 +66,7 @@ impl<S> Buffer<S> {
         self.count
     }
 
-    /// How many bytes the last block has, from 1 to 512.
+    /// The number of bytes of the last block, from 1 to 512.
     pub fn last(&self) -> u32
         ensures { result ≡ self.now.last }
     {
@@ -100,7 +99,7 @@ impl<S> Buffer<S> {
     }
 }
 
-// A frame by its place, and 0 behind the last.
+// The frame at a place of the list, and 0 behind its end.
 fn frame_at(frames: &[u16], place: u32) -> usize
     ensures { result ≡ slice_index frames.now place }
 {
@@ -137,7 +136,7 @@ pub fn to_cpu(buffer: Buffer<Bus>) -> Buffer<Cpu>
     Buffer::<Cpu>::of(frames, offset, count, last)
 }
 
-/// The buffer's frames, in order.
+/// The frames of a buffer, in order.
 pub fn frames_of<S>(buffer: &Buffer<S>) -> &[u16]
     ensures frames { result.now ≡ buffer.now.frames }
     ensures shape { IsLoan buffer.now }

@@ -9,8 +9,8 @@ use std::marker::Model;
 // How many bytes there are.
 const SIZE: usize = FRAMES as usize * 512;
 
-// The bytes of all frames. They are zeros until they are written: those up to the last one that was written are held, in
-// room that is reserved at the beginning for all.
+// The bytes of all frames. They are zeros until they are written. The bytes up to the last one that was written are held,
+// in room that is reserved for all of them at the beginning.
 #[derive(Drop)]
 pub struct Bytes {
     held: Vec<u8>,
@@ -27,7 +27,7 @@ impl Model for Bytes {
     ghost invariant = { λ b. IsHeld 8388608 (length b.held.items) (vec_capacity b.held) };
 }
 
-// Extends bytes by zeros up to a size for which there is room.
+// Extends bytes by zeros up to a size for which room is reserved.
 #[tactic(auto, unfolding(crate::specs::Bytes::filled))]
 fn grow(held: &mut Vec<u8>, size: usize)
     requires { size ≤ vec_capacity held.old }
@@ -36,7 +36,7 @@ fn grow(held: &mut Vec<u8>, size: usize)
     ensures capacity { vec_capacity held.old ≤ vec_capacity held.new }
 {
     if size > held.len() {
-        // The room is there, so this cannot fail.
+        // The room is reserved, so this cannot fail.
         let _ = held.resize(size, 0);
     }
 }
@@ -49,7 +49,7 @@ fn put_inside(bytes: &mut [u8], at: usize, from: &[u8])
     bytes[at..at + from.len()].copy_from_slice(from);
 }
 
-// Writes bytes at a place for which there is room, and extends what is held up to their end.
+// Writes bytes at a place for which room is reserved, and extends the held bytes up to the end of the new ones.
 fn put_held(held: &mut Vec<u8>, at: usize, from: &[u8])
     requires fits { at + length from.now < 2 ^ 64 }
     requires room { at + length from.now ≤ vec_capacity held.old }
@@ -60,7 +60,7 @@ fn put_held(held: &mut Vec<u8>, at: usize, from: &[u8])
     put_inside(held.as_mut_slice(), at, from);
 }
 
-// Writes a byte at a place for which there is room, and extends what is held up to it.
+// Writes a byte at a place for which room is reserved, and extends the held bytes up to it.
 fn set_held(held: &mut Vec<u8>, place: usize, byte: u8)
     requires fits { place + 1 < 2 ^ 64 }
     requires room { place + 1 ≤ vec_capacity held.old }
@@ -71,7 +71,7 @@ fn set_held(held: &mut Vec<u8>, place: usize, byte: u8)
     held[place] = byte;
 }
 
-// Reads bytes from a place on, which has so many before the end.
+// Reads bytes from a place on. There are at least this many before the end.
 fn get_inside(bytes: &[u8], at: usize, into: &mut [u8])
     requires { at + length into.old ≤ length bytes.now }
     ensures { into.new ≡ part (length into.old) at bytes.now }
@@ -79,7 +79,7 @@ fn get_inside(bytes: &[u8], at: usize, into: &mut [u8])
     into.copy_from_slice(&bytes[at..at + into.len()]);
 }
 
-// Reads bytes from a place on; those behind the end are zeros.
+// Reads bytes from a place on. Bytes behind the end are zeros.
 fn get_filled(bytes: &[u8], at: usize, into: &mut [u8])
     requires size { length bytes.now ≤ 8388608 }
     requires inside { at + length into.old ≤ 8388608 }
@@ -93,7 +93,7 @@ fn get_filled(bytes: &[u8], at: usize, into: &mut [u8])
 }
 
 impl Bytes {
-    // Takes the room. All bytes are zeros.
+    // Reserves the memory. All bytes are zeros.
     pub fn new(alloc: Global) -> Result<Bytes, AllocError>
         ensures size { IfOk result (λ bytes. length bytes ≡ 8388608) }
         ensures zeros { IfOk result (λ bytes. (place : ℕ) → slice_index bytes place ≡ 0) }

@@ -1,4 +1,4 @@
-// The bytes of all frames, and of each frame the byte that it is all through, where that is known.
+// The bytes of all frames, and for each frame the byte that fills it, if that is known.
 ghost use Rattle.std.specs.Prelude.{◌≡◌, ◌≤◌, ◌<◌, ◌+◌, ◌*◌, ◌↔◌, ℕ, length, IfOk, IfSome, IsTrue, slice_index, slice_index_or, slice_set, Some, None};
 ghost use Rattle.main_memory.specs.Bytes.{part, with_part, IsFill};
 
@@ -7,8 +7,8 @@ use crate::size::FRAMES;
 use std::alloc::{AllocError, Global};
 use std::marker::Model;
 
-// The bytes, and what is known of frames: the byte that one is all through, where it was last written so. Bytes that a frame is
-// known to have are not written again, so a frame that stays as it is need not come near the processor.
+// The bytes, and for each frame the byte that fills it, if that is known. Bytes that a frame is known to have are not
+// written again, so a frame that does not change need not come near the processor.
 #[derive(Drop)]
 pub struct Frames {
     bytes: Bytes,
@@ -26,7 +26,7 @@ impl Model for Frames {
     ghost invariant = { λ f. AreFills f.fills.items f.bytes };
 }
 
-// Whether bytes are one byte repeated. The loop has no early way out, so many bytes are compared at a time.
+// Whether bytes are one byte repeated. The loop has no early exit, so that many bytes are compared at a time.
 fn is_fill(bytes: &[u8]) -> bool
     requires { 1 ≤ length bytes.now }
     ensures { IsTrue result ↔ IsFill (slice_index bytes.now 0) bytes.now }
@@ -39,14 +39,14 @@ fn is_fill(bytes: &[u8]) -> bool
     differ == 0
 }
 
-// The byte that a frame is all through behind a write of these bytes, if they are one byte repeated.
+// The byte that fills a frame after a write of these bytes, if they are one byte repeated.
 fn fill_of(bytes: &[u8; 512]) -> Option<u8>
     ensures { (byte : ℕ) → (result ≡ Some byte) ↔ IsFill byte bytes.now }
 {
     if is_fill(bytes) { Some(bytes[0]) } else { None }
 }
 
-// What is known of frames all of whose bytes are zeros.
+// What is known of frames whose bytes are all zeros.
 fn all_zeros(alloc: Global) -> Result<Vec<Option<u8>>, AllocError>
     ensures frames { IfOk result (λ fills. length fills.items ≡ 16384) }
     ensures zeros { IfOk result (λ fills. (frame : ℕ) → frame < 16384 → slice_index_or fills.items frame None ≡ Some 0) }
@@ -59,7 +59,7 @@ fn all_zeros(alloc: Global) -> Result<Vec<Option<u8>>, AllocError>
 }
 
 impl Frames {
-    // Takes the room. All bytes are zeros.
+    // Reserves the memory. All bytes are zeros.
     pub fn new(alloc: Global) -> Result<Frames, AllocError>
         ensures { IfOk result (λ frames. length frames ≡ 8388608) }
     {
@@ -68,7 +68,7 @@ impl Frames {
         Ok(Frames { bytes, fills })
     }
 
-    // Whether a frame is known to be all through this byte.
+    // Whether a frame is known to be filled with this byte.
     fn is_all(&self, frame: usize, byte: u8) -> bool
         requires { frame < 16384 }
         ensures { IsTrue result → (k : ℕ) → k < 512 → slice_index self.now (512 * frame + k) ≡ byte }
@@ -76,7 +76,7 @@ impl Frames {
         self.fills[frame] == Some(byte)
     }
 
-    // Whether a frame is known to be all through what each of these bytes is.
+    // Whether a frame is known to be filled with the one byte that all of these bytes are.
     fn has(&self, frame: usize, bytes: &[u8]) -> bool
         requires { frame < 16384 }
         ensures { IsTrue result → (at k : ℕ) → at < 512 → k < length bytes.now
@@ -128,7 +128,7 @@ impl Frames {
         self.bytes.get(512 * frame + offset, into);
     }
 
-    // The byte that a frame is all through, where that is known.
+    // The byte that fills a frame, if that is known.
     pub fn fill(&self, frame: usize) -> Option<u8>
         requires { frame < 16384 }
         ensures fill { IfSome result (λ byte. (k : ℕ) → k < 512 → slice_index self.now (512 * frame + k) ≡ byte) }

@@ -1,12 +1,12 @@
-// What follows of writes to blocks, for the contracts of the crates above.
+// What follows from writes to blocks, for the contracts of the crates above.
 ghost use Rattle.std.specs.Prelude.{◌≡◌, ◌<◌, ◌≤◌, ◌+◌, ◌==◌, ℕ, List, Some, length, slice_get, slice_set, if◌then◌else◌};
 ghost use Rattle.main_memory.specs.Bytes.{front, filled};
 ghost use Rattle.main_memory.specs.Frames.{frames_needed};
 ghost use Rattle.main_memory.specs.Blocks.{Loan, IsLoan, size_at, span_of, bytes_in};
 ghost use Rattle.main_memory.specs.Memory.{Memory, IsMemory, IsLent, AreApart, with_block, blocks_of};
 
-/// The laws of buffers: a buffer holds its blocks in order; a write to one block changes just that block of
-/// the buffer, and leaves every other buffer's bytes and what is lent.
+/// The laws of buffers: a buffer holds its blocks in order. A write to one block of a buffer changes that block alone,
+/// and leaves the bytes of every other buffer and what is lent as they were.
 pub fn buffer_laws()
     ensures size { (memory : Memory) → (loan : Loan) → length (blocks_of loan memory) ≡ loan.count }
     ensures block { (memory : Memory) → (loan : Loan) → (k : ℕ) → k < loan.count
@@ -25,8 +25,8 @@ pub fn buffer_laws()
         → IsMemory (with_block loan k block memory) }
 {}
 
-/// The laws of whole blocks: where a buffer's last block has all its 512 bytes, each block has, it is written and
-/// read as it is, and the buffer has a frame for each block and one more where it does not begin at a frame's start.
+/// The laws of whole blocks: if the last block of a buffer has all its 512 bytes, each of its blocks has 512 bytes, and a
+/// block is written and read whole. The buffer then has one frame for each block, and one more if it does not begin at the start of a frame.
 pub fn whole_laws()
     ensures sizes { (loan : Loan) → (k : ℕ) → loan.last ≡ 512 → size_at loan k ≡ 512 }
     ensures written { (block : List ℕ) → length block ≡ 512 → front 512 block ≡ block }

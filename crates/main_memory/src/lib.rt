@@ -1,12 +1,12 @@
 //! Main memory: 16,384 frames of 512 bytes, the buffers that are lent from them, and the windows through which a buffer's
 //! blocks are written.
 //!
-//! What is proved: Memory is seen as its bytes and its ascending list of free frames, a buffer as its frames, offset, block
-//! count and how many bytes its last block has. `lend` gives the lowest free frames, as many as the bytes reach, and is refused
-//! exactly where too few are free; no frame is lent twice; `give_back` frees just these. `store`, `fetch` and a window read and
-//! write one block of a buffer, in one frame or two, and leave every other byte; `fill` gives a byte only where a block is that
-//! byte all through. `buffer_laws`: a write to one buffer leaves what every other lent buffer
-//! holds.
+//! What is proved: contracts see the memory as its bytes and its ascending list of free frames, and a buffer as its
+//! frames, its offset, its count of blocks and the number of bytes of its last block. `lend` gives the lowest free
+//! frames, as many as the bytes reach, and is refused exactly if too few are free; no frame is lent twice; `give_back`
+//! frees exactly the buffer's frames. `store`, `fetch` and a window read and write one block of a buffer, in one frame or
+//! two, and leave every other byte; `fill` gives a byte only if all bytes of the block are that byte. `buffer_laws`: a
+//! write to one buffer leaves what every other lent buffer holds.
 //!
 //! Only tested, in `drive_rows`: worked values, beside their proofs.
 #![tactic(auto)]

@@ -23,7 +23,7 @@ pub struct NoFrames {
     pub free: u32,
 }
 
-/// 16,384 frames of 512 bytes, each of them free or lent.
+/// 16,384 frames of 512 bytes. Each frame is free or lent.
 #[derive(Drop)]
 pub struct MainMemory {
     bytes: Frames,
@@ -44,7 +44,7 @@ impl Model for MainMemory {
 }
 
 impl MainMemory {
-    /// Takes the memory; all frames are free. `NoMemory` where it is not to be had.
+    /// Takes the memory; all frames are free. `NoMemory` if the memory is not available.
     pub fn new(alloc: Global) -> Result<MainMemory, NoMemory>
         ensures free { IfOk result (λ memory. memory.free ≡ all_frames) }
         ensures every { IfOk result (λ memory. length memory.free ≡ 16384) }
@@ -58,18 +58,18 @@ impl MainMemory {
         })
     }
 
-    /// Lends the frames that `count` blocks need, from 1 to 127, the last of them of `last` bytes, from 1 to 512,
-    /// from place `offset` of the first frame on, from 0 to 511: as many frames as these bytes reach. They are the
-    /// lowest free frames, in ascending order. `NoFrames` exactly where fewer frames are free; then nothing changes.
+    /// Lends a buffer of `count` blocks, from 1 to 127. The last block has `last` bytes, from 1 to 512, and the bytes
+    /// begin at place `offset` of the first frame, from 0 to 511. The buffer gets as many frames as these bytes reach:
+    /// the lowest free frames, in ascending order. `NoFrames` exactly if fewer frames are free; then nothing changes.
     pub fn lend(&mut self, count: u32, offset: u32, last: u32) -> Result<Buffer<Cpu>, NoFrames>
         requires shape { IsShape count offset last }
 
-        // Refused exactly where too few frames are free.
+        // The call is refused exactly if too few frames are free.
         ensures refused { IsErr result ↔ (length self.old.free < frames_needed count offset last) }
         ensures free { IfErr result (λ e. e.free ≡ length self.old.free) }
         ensures unchanged { OnErr result (self.new ≡ self.old) }
 
-        // Lent: the lowest free frames, which are then not free.
+        // The buffer gets the lowest free frames, which are then no longer free.
         ensures buffer { IfOk result (λ b. b ≡ record { frames = take (frames_needed count offset last) self.old.free; offset = offset; count = count; last = last }) }
         ensures memory { OnOk result (self.new ≡ record self.old { free = drop (frames_needed count offset last) self.old.free }) }
 
@@ -88,7 +88,7 @@ impl MainMemory {
         Ok(Buffer::of(frames, offset, count, last))
     }
 
-    /// Takes a buffer's frames back: they are free again.
+    /// Takes the frames of a buffer back: they are free again.
     pub fn give_back(&mut self, buffer: Buffer<Cpu>)
         requires { IsLent self.old buffer }
         ensures memory { self.new ≡ record self.old { free = with_frames buffer.frames self.old.free } }
@@ -101,7 +101,7 @@ impl MainMemory {
         self.free += frames.len() as u32;
     }
 
-    /// Writes block `k` of a buffer, counted from 0: as many of these bytes as the block has.
+    /// Writes block `k` of a buffer, counted from 0: as many of these bytes as the block has, from the first one on.
     pub fn store(&mut self, buffer: &Buffer<Cpu>, k: u32, from: &[u8; 512])
         requires lent { IsLent self.old buffer.now }
         requires inside { k < buffer.now.count }
@@ -115,7 +115,7 @@ impl MainMemory {
         self.write(buffer.span_at(k), from);
     }
 
-    /// Reads block `k` of a buffer, counted from 0: its bytes, and then zeros.
+    /// Reads block `k` of a buffer, counted from 0: the bytes of the block, and then zeros.
     pub fn fetch(&self, buffer: &Buffer<Cpu>, k: u32, into: &mut [u8; 512])
         requires lent { IsLent self.now buffer.now }
         requires inside { k < buffer.now.count }
@@ -125,7 +125,7 @@ impl MainMemory {
         self.read(buffer.span_at(k), into);
     }
 
-    /// The byte that all bytes of block `k` of a buffer are, counted from 0, where the memory knows it without reading them.
+    /// The byte that all bytes of block `k` of a buffer are, counted from 0, if the memory knows it without reading the block.
     pub fn fill(&self, buffer: &Buffer<Cpu>, k: u32) -> Option<u8>
         requires lent { IsLent self.now buffer.now }
         requires inside { k < buffer.now.count }
@@ -135,7 +135,7 @@ impl MainMemory {
         fill_span(&self.bytes, buffer.span_at(k))
     }
 
-    // Writes the bytes of a span, the first of these 512.
+    // Writes the bytes of a span: the first ones of these 512.
     pub(crate) fn write(&mut self, span: Span, from: &[u8; 512])
         requires { IsSpan span }
         ensures memory { self.new ≡ with_span span (front span.len from.now) self.old }

@@ -5,7 +5,7 @@ ghost use Rattle.main_memory.specs.Blocks.{IsSpan, in_frame, place_in, bytes_in,
 
 use crate::frames::Frames;
 
-// `len` bytes: in a frame from the offset on, and where they don't end there in the next frame from its start on.
+// `len` bytes in a frame from the offset on. If they do not end in that frame, they go on at the start of the next frame.
 #[derive(Clone, Copy)]
 pub struct Span {
     pub frame: usize,
@@ -14,7 +14,7 @@ pub struct Span {
     pub len: usize,
 }
 
-// How many of the bytes lie in the first frame.
+// How many bytes of the span lie in the first frame.
 fn len_in_frame(span: Span) -> usize
     requires span { IsSpan span }
     ensures frame { result ≡ in_frame span }
@@ -23,7 +23,7 @@ fn len_in_frame(span: Span) -> usize
     span.len.min(512 - span.offset)
 }
 
-// Where byte `at` of them lies.
+// The place of byte `at` of the span.
 pub fn place(span: Span, at: usize) -> usize
     requires span { IsSpan span }
     requires inside { at < span.len }
@@ -38,7 +38,7 @@ pub fn place(span: Span, at: usize) -> usize
     }
 }
 
-// Writes the bytes there.
+// Writes the bytes of the span.
 pub(crate) fn write_span(bytes: &mut Frames, span: Span, from: &[u8])
     requires span { IsSpan span }
     requires whole { length from.now ≡ span.len }
@@ -50,7 +50,7 @@ pub(crate) fn write_span(bytes: &mut Frames, span: Span, from: &[u8])
     bytes.put(span.next, 0, second);
 }
 
-// Reads the bytes there.
+// Reads the bytes of the span.
 pub(crate) fn read_span(bytes: &Frames, span: Span, into: &mut [u8])
     requires span { IsSpan span }
     requires whole { length into.old ≡ span.len }
@@ -62,7 +62,7 @@ pub(crate) fn read_span(bytes: &Frames, span: Span, into: &mut [u8])
     bytes.get(span.next, 0, second);
 }
 
-// The byte that all bytes there are, where that is known.
+// The byte that all bytes of the span are, if that is known.
 pub(crate) fn fill_span(bytes: &Frames, span: Span) -> Option<u8>
     requires span { IsSpan span }
     ensures { IfSome result (λ byte. IsFill byte (bytes_in span bytes.now)) }
@@ -74,7 +74,7 @@ pub(crate) fn fill_span(bytes: &Frames, span: Span) -> Option<u8>
     Some(fill)
 }
 
-// Writes there the first bytes of 512.
+// Writes the first bytes of 512 to the span.
 pub(crate) fn write_front(bytes: &mut Frames, span: Span, from: &[u8; 512])
     requires span { IsSpan span }
     ensures bytes { bytes.new ≡ with_bytes_in span (front span.len from.now) bytes.old }
@@ -87,7 +87,7 @@ pub(crate) fn write_front(bytes: &mut Frames, span: Span, from: &[u8; 512])
     }
 }
 
-// Reads the bytes there and then zeros.
+// Reads the bytes of the span, and then zeros.
 pub(crate) fn read_filled(bytes: &Frames, span: Span, into: &mut [u8])
     requires span { IsSpan span }
     requires room { span.len ≤ length into.old }

@@ -8,9 +8,9 @@ use crate::buffer::{Buffer, Bus};
 use crate::memory::MainMemory;
 use crate::span::{Span, place};
 
-/// Block `k` of a buffer as bytes of main memory, in one frame or two: 512 bytes, or for the last block what the
-/// buffer has of it. What is written through it is that block, and no other byte of the memory changes. While it
-/// is open it borrows the memory.
+/// Block `k` of a buffer as bytes of main memory, in one frame or two. It has 512 bytes, except that the last block has
+/// only as many as the buffer has of it. A write through the window changes that block and no other byte of the memory.
+/// While the window is open, it borrows the memory.
 #[derive(Drop)]
 pub struct Window<'a> {
     memory: &'a mut MainMemory,
@@ -39,7 +39,7 @@ impl MainMemory {
 impl<'a> Window<'a> {
     ghost use Rattle.main_memory.specs.Windows.{memory_name, memory_of, window_len, window_bytes, Writes};
 
-    /// How many bytes the block has: 512, or for a buffer's last block from 1 to 512.
+    /// The number of bytes of the block: 512, except that the last block of a buffer has from 1 to 512.
     pub fn len(&self) -> u32
         ensures len { result ≡ window_len self.now }
         ensures some { 1 ≤ result }
@@ -65,7 +65,7 @@ impl<'a> Window<'a> {
         self.memory.read(self.span, into);
     }
 
-    /// Byte `at` of the block, below its `len`.
+    /// Byte `at` of the block. `at` is below the window's `len`.
     pub fn get(&self, at: u32) -> u8
         requires { at < window_len self.now }
         ensures byte { result ≡ slice_index (window_bytes self.now) at }
@@ -74,7 +74,7 @@ impl<'a> Window<'a> {
         self.memory.byte_at(place(self.span, at as usize))
     }
 
-    /// Sets byte `at` of the block, below its `len`.
+    /// Sets byte `at` of the block. `at` is below the window's `len`.
     pub fn set(&mut self, at: u32, byte: u8)
         requires { at < window_len self.old }
         ensures same_memory { memory_name self.new ≡ memory_name self.old }

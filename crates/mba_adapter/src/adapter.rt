@@ -17,11 +17,11 @@ use std::marker::Model;
 pub struct Ended {
     /// How many sectors moved clean.
     pub moved: u32,
-    /// The last verdict.
+    /// The verdict on the last sector.
     pub last: Moved,
 }
 
-/// An adapter, of which each call does what the hardware table says. It has at most one transfer at a time.
+/// An adapter. Each call does what the hardware table says. It has at most one transfer at a time.
 #[derive(Drop)]
 pub struct Adapter {
     map_registers: [u16; 256],
@@ -57,7 +57,7 @@ impl Model for Adapter {
 }
 
 impl Adapter {
-    /// A new adapter: it is free, its flags and attention bits are off, and its registers are 0.
+    /// A new adapter: it is free, all its flags and attention bits are off, and its registers are 0.
     pub fn new() -> Adapter
         ensures { result ≡ new_adapter }
     {
@@ -83,49 +83,49 @@ impl Adapter {
         }
     }
 
-    /// Whether no transfer is started that was not completed.
+    /// Whether the adapter is free: every transfer that was started has been completed.
     pub fn is_free(&self) -> bool
         ensures { result ≡ (if self.now.busy then false else true) }
     {
         !self.busy
     }
 
-    /// Whether the completion is up: the transfer has ended, and its data interrupt is to be taken.
+    /// Whether the completion is up: the transfer has ended, and the driver is to take its data interrupt.
     pub fn completion(&self) -> bool
         ensures { result ≡ self.now.completion }
     {
         self.completion
     }
 
-    /// The drive of the transfer that was started last, from 0 to 7; 0 before the first.
+    /// The drive of the transfer that was started last, from 0 to 7. 0 before the first transfer.
     pub fn drive(&self) -> u8
         ensures { result ≡ self.now.drive }
     {
         self.drive
     }
 
-    /// Whether the transfer that was started last is a write; false before the first.
+    /// Whether the transfer that was started last is a write. False before the first transfer.
     pub fn writes(&self) -> bool
         ensures { result ≡ self.now.write }
     {
         self.write
     }
 
-    /// How many sectors moved clean in the transfer that was started last; 0 before the first.
+    /// How many sectors moved clean in the transfer that was started last. 0 before the first transfer.
     pub fn moved(&self) -> u32
         ensures { result ≡ self.now.moved }
     {
         self.moved
     }
 
-    /// The drives whose attention was raised and not cleared: bit k is drive k.
+    /// The drives whose attention was raised and has not been cleared: bit k stands for drive k.
     pub fn attentions(&self) -> u8
         ensures { result ≡ self.now.attentions }
     {
         self.attentions
     }
 
-    /// What a map register holds: the number of a frame of main memory, or 0.
+    /// The content of a map register: the number of a frame of main memory, or 0.
     pub fn map_register(&self, j: u8) -> u32
         ensures { result ≡ slice_index self.now.map_registers j }
     {
@@ -133,9 +133,9 @@ impl Adapter {
     }
 
     /// Takes a buffer for a transfer of `count` of its blocks, from block `skip` on. The byte count becomes 512 times
-    /// `count`, less what the last block of the buffer lacks of 512 bytes where it is among them. Map register j gets
-    /// frame `skip + j` of the buffer for each j below `(offset + byte count + 511) / 512`; the other map registers
-    /// become 0. The virtual address becomes the offset.
+    /// `count`; if the last block of the buffer is among these blocks and has fewer than 512 bytes, the missing bytes are
+    /// subtracted. Map register j gets frame `skip + j` of the buffer for each j below `(offset + byte count + 511) /
+    /// 512`; the other map registers become 0. The virtual address becomes the offset.
     pub fn load(&mut self, buffer: Buffer<Cpu>, skip: u32, count: u32) -> Buffer<Bus>
         requires free { self.old.busy ≡ false }
         requires some { 1 ≤ count }
@@ -163,7 +163,7 @@ impl Adapter {
         to_bus(buffer)
     }
 
-    /// Starts the transfer that was loaded, between drive `drive`, from block `block` of its pack on, and the buffer.
+    /// Starts the transfer that was loaded, between the buffer and drive `drive`, from block `block` of its pack on.
     pub fn start(&mut self, drive: u8, block: u32, count: u32, write: bool)
         requires free { self.old.busy ≡ false }
         requires loaded { IsLoaded self.old count }
@@ -180,8 +180,8 @@ impl Adapter {
         self.moved = 0;
     }
 
-    /// Takes the data interrupt: gives the buffer back, with the number of sectors that moved clean and the last
-    /// verdict. The adapter is free afterwards.
+    /// Takes the data interrupt: gives the buffer back, with the number of sectors that moved clean and the last verdict.
+    /// The adapter is free afterwards.
     pub fn complete(&mut self, buffer: Buffer<Bus>) -> (Buffer<Cpu>, Ended)
         requires completion { self.old.completion ≡ true }
         requires loaded { buffer ≡ loaded_buffer self.old }
@@ -199,7 +199,7 @@ impl Adapter {
         (to_cpu(buffer), ended)
     }
 
-    /// The attention of a drive goes up.
+    /// Raises the attention of a drive.
     pub fn raise_attention(&mut self, drive: u8)
         requires { drive < 8 }
         ensures adapter { self.new ≡ attention_raised drive self.old }
@@ -208,7 +208,7 @@ impl Adapter {
         self.attentions |= 1 << drive;
     }
 
-    /// The attention of a drive goes down.
+    /// Clears the attention of a drive.
     pub fn clear_attention(&mut self, drive: u8)
         requires { drive < 8 }
         ensures adapter { self.new ≡ attention_lowered drive self.old }

@@ -4,7 +4,7 @@ ghost use Rattle.hardware_table.specs.Adapter.{registers_of, bytes_between, regi
 
 use arrayvec::ArrayVec;
 
-// How many bytes blocks skip to skip + count - 1 of a buffer have, whose last block has `last` bytes.
+// How many bytes blocks skip to skip + count - 1 of a buffer have. The last block of the buffer has `last` bytes.
 pub fn bytes_between(blocks: u32, last: u32, skip: u32, count: u32) -> u32
     requires some { 1 ≤ count }
     requires inside { skip + count ≤ blocks }
@@ -20,7 +20,7 @@ pub fn bytes_between(blocks: u32, last: u32, skip: u32, count: u32) -> u32
     }
 }
 
-// How many registers so many bytes use, from a place of the first frame on.
+// How many registers this many bytes use, from a place of the first frame on.
 pub fn registers_used(bytes: u32, offset: u32) -> u32
     requires bytes { bytes ≤ 65024 }
     requires offset { offset < 512 }
@@ -37,7 +37,7 @@ fn put_first(registers: &mut [u16], frames: &[u16])
     registers[..frames.len()].copy_from_slice(frames);
 }
 
-// The first registers hold these frames, and the others 0.
+// A map whose first registers hold these frames. The other registers hold 0.
 pub(crate) fn map_of(frames: &[u16]) -> [u16; 256]
     requires { length frames.now ≤ 256 }
     ensures { result ≡ registers_of 256 frames.now }

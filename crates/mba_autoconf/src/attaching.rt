@@ -49,7 +49,7 @@ impl From<StoreFailed> for AttachFault {
     }
 }
 
-/// The law of tables: each is valid.
+/// The law of tables: each table is valid.
 fn valid_law(table: &Option<BadTable>)
     ensures { IfSome table.now (λ t. IsTable t) }
 {
@@ -61,12 +61,12 @@ fn valid_law(table: &Option<BadTable>)
     }
 }
 
-/// Attaches a drive that is ready and online, with the pack of unit `unit`, which is below 32: PRESET and PACK, and the
-/// offset register says the 16-bit format and no offset, in every case. The kind is the one that the drive type register
-/// names, and the table is that of the first of the pack's five copies that is unmarked and spells one for that kind.
+/// Attaches a drive that is ready and online, with the pack of unit `unit`, which is below 32. In every case the drive
+/// does PRESET and PACK, and its offset register then says the 16-bit format and no offset. The drive type register names
+/// the kind, and the first of the pack's five copies that is unmarked and spells a table for that kind tells the table.
 ///
-/// TooLong comes, before any block is read, exactly where the image has more bytes than the drive's blocks; Store only
-/// where the packs' count of faults rose. The packs stay as they are.
+/// TooLong comes, before any block is read, exactly if the image has more bytes than the drive's blocks have; Store comes
+/// only if the packs' count of faults rose. The packs stay as they are.
 pub fn attach<P: Packs>(drive: &mut Drive, packs: &mut P, unit: u8) -> Result<Attached, AttachFault>
     requires unit { unit < 32 }
     requires ready { is_ready drive.old.work ≡ true }
@@ -92,8 +92,9 @@ pub fn attach<P: Packs>(drive: &mut Drive, packs: &mut P, unit: u8) -> Result<At
     Ok(Attached { kind, table })
 }
 
-/// The law of attaching: the type register of a drive names its kind; what attaching leaves of any drive; and that packs
-/// whose copies are the same are answered with the same table, whatever else they hold, so that a pack has one answer.
+/// The law of attaching: the type register of a drive names its kind. Attaching leaves a drive with PACK as its last
+/// function, the address 0, the 16-bit format without an offset and a valid volume, and changes nothing else of it. Packs
+/// with the same copies give the same table, whatever else they hold, so a pack has one answer.
 pub fn attach_law()
     ensures kind { (d : DriveState) → nine_bits (register_of Dt d) ≡ type_code d.kind }
     ensures drive { (d : DriveState) → attached d

@@ -9,15 +9,15 @@ use hardware_table::Register;
 use pack_geometry::DriveKind;
 use thiserror::Error;
 
-/// A drive of no kind that is known, with the nine bits that say so.
+/// A drive whose kind is not known, with the nine bits that say so.
 #[derive(Debug, Drop, PartialEq, Eq, Error)]
 pub enum ProbeFault {
     #[error("unknown drive type {0:o}")]
     Unknown(u16),
 }
 
-/// The kind that a drive type word names by its low nine bits: 022 for an RP06, 024 for an RM03 and 027 for an RM05,
-/// octal. Unknown with these bits exactly where they are none of the three.
+/// The kind that the low nine bits of a drive type word name: octal 022 for an RP06, 024 for an RM03 and 027 for an RM05.
+/// Unknown, with these bits, exactly if they are none of the three.
 pub fn probe(word: u16) -> Result<DriveKind, ProbeFault>
     ensures known { (kind : DriveKind) → (result ≡ Ok kind) ↔ (nine_bits word ≡ type_code kind) }
     ensures unknown { IfErr result (λ fault. (fault ≡ Unknown (nine_bits word)) × ((kind : DriveKind) → nine_bits word ≢ type_code kind)) }

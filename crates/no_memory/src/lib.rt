@@ -1,10 +1,10 @@
-//! The error of all that takes memory: there was none.
+//! The error of a call that reserves memory and cannot get it.
 #![tactic(auto)]
 
 use std::alloc::{AllocError, AllocFailed};
 use thiserror::Error;
 
-/// There was no memory.
+/// The memory that a call asked for was not available.
 #[derive(Clone, Copy, Debug, Error)]
 #[error("there is no memory")]
 pub struct NoMemory;

@@ -1,8 +1,8 @@
-//! The sizes of the drives, and where their blocks lie, after the manuals of the RP06, RM03 and RM05 drives.
+//! The sizes of the drives and the places of their blocks, as the manuals of the RP06, RM03 and RM05 give them.
 //!
-//! What is proved: `geometry_of`, `blocks`, `data_limit` give the numbers of the RP06, RM03 and RM05; `track_and_sector` is the
-//! word `track*256 + sector`. `place_of` and `block_of` are exact and inverse inside the geometry (`place_law`); data blocks,
-//! replacements and table copies lie apart, in this order (`apart_law`); `kind_of` is exact.
+//! What is proved: `geometry_of`, `blocks` and `data_limit` give the numbers of the RP06, RM03 and RM05; `sector_word` is
+//! `track * 256 + sector`. `place_of` and `block_of` are exact and inverse inside the geometry (`place_law`); data
+//! blocks, replacements and table copies lie apart, in this order (`apart_law`); `kind_of` is exact.
 //!
 //! Only tested, in `drive_rows`: worked values, beside their proofs.
 #![tactic(auto)]
@@ -22,7 +22,7 @@ pub enum DriveKind {
     Rm05,
 }
 
-/// How many cylinders a drive has, tracks a cylinder, and sectors of 512 bytes a track.
+/// How many cylinders a drive has, how many tracks a cylinder has, and how many sectors of 512 bytes a track has.
 #[derive(Clone, Copy)]
 pub struct Geometry {
     pub cylinders: u32,
@@ -30,7 +30,7 @@ pub struct Geometry {
     pub sectors: u32,
 }
 
-/// Where a sector lies; each number counts from 0.
+/// The place of a sector. Each number counts from 0.
 #[derive(Clone, Copy, Default, PartialEq, Eq)]
 pub struct Place {
     pub cylinder: u32,
@@ -74,7 +74,7 @@ pub fn blocks(kind: DriveKind) -> u32
     }
 }
 
-/// Below this number blocks hold data.
+/// The data limit: every block below this number holds data, and no other block does.
 pub fn data_limit(kind: DriveKind) -> u32
     ensures { result ≡ limit_of kind }
 {
@@ -85,7 +85,7 @@ pub fn data_limit(kind: DriveKind) -> u32
     }
 }
 
-/// The kind that a word names, `rp06`, `rm03` or `rm05`; None exactly where it is none of them.
+/// The kind that a word names: `rp06`, `rm03` or `rm05`. None exactly if the word is none of these three.
 pub fn kind_of(word: &[u8]) -> Option<DriveKind>
     ensures named { (kind : DriveKind) → (result ≡ Some kind) ↔ (word.now ≡ kind_word kind) }
     ensures none { IfNone result ((kind : DriveKind) → word.now ≢ kind_word kind) }
@@ -98,7 +98,7 @@ pub fn kind_of(word: &[u8]) -> Option<DriveKind>
     }
 }
 
-/// Where a block lies.
+/// The place of a block.
 pub fn place_of(kind: DriveKind, block: u32) -> Place
     requires { block < block_count kind }
     ensures place { result ≡ place_at kind block }
@@ -123,7 +123,7 @@ pub fn place_of(kind: DriveKind, block: u32) -> Place
     }
 }
 
-/// The block that lies at a place; None exactly where the place is outside the geometry.
+/// The block that lies at a place. None exactly if the place is outside the geometry.
 pub fn block_of(kind: DriveKind, place: Place) -> Option<u32>
     ensures block { SomeIff result (IsInside kind place) (block_number kind place) }
 {
@@ -139,8 +139,8 @@ pub fn block_of(kind: DriveKind, place: Place) -> Option<u32>
     }
 }
 
-/// The word that names a place's track and sector on its cylinder, `track * 256 + sector`, as a drive's address
-/// register, a sector's header and the pairs of a bad-sector table have it.
+/// The word that names a place's track and sector on its cylinder, `track * 256 + sector`. A drive's address register, a
+/// sector's header and the pairs of a bad-sector table hold this word.
 pub fn sector_word(place: Place) -> u16
     requires track { place.track < 256 }
     requires sector { place.sector < 256 }
@@ -149,7 +149,7 @@ pub fn sector_word(place: Place) -> u16
     (place.track * 256 + place.sector) as u16
 }
 
-/// The block of copy `k` of the bad-sector table: the five copies lie on the even sectors of the last track.
+/// The block of copy `k` of the bad-sector table. The five copies lie on the even sectors of the last track.
 pub fn copy_block(kind: DriveKind, k: u32) -> u32
     requires { k < 5 }
     ensures { result ≡ copy_at kind k }
@@ -157,8 +157,8 @@ pub fn copy_block(kind: DriveKind, k: u32) -> u32
     blocks(kind) - geometry_of(kind).sectors + 2 * k
 }
 
-/// The block that replaces entry `i` of the bad-sector table: replacement 0 lies directly below the last track,
-/// and the others below it in turn.
+/// The block that replaces entry `i` of the bad-sector table. Replacement 0 lies directly below the last track, and each
+/// further replacement lies directly below the one before it.
 pub fn replacement(kind: DriveKind, i: u32) -> u32
     requires { i < 126 }
     ensures { result ≡ replacement_at kind i }
@@ -166,8 +166,8 @@ pub fn replacement(kind: DriveKind, i: u32) -> u32
     blocks(kind) - geometry_of(kind).sectors - 1 - i
 }
 
-/// The law of places: numbers below the count of blocks and places on the drive are in one-to-one order,
-/// by `place_of` one way and by `block_of` the other.
+/// The law of places: `place_of` maps the numbers below the count of blocks to the places of the drive, one to one, and
+/// `block_of` maps them back.
 pub fn place_law(kind: DriveKind)
     ensures inside { (block : ℕ) → block < block_count kind → IsInside kind (place_at kind block) }
     ensures back { (block : ℕ) → block < block_count kind → block_number kind (place_at kind block) ≡ block }
@@ -175,8 +175,8 @@ pub fn place_law(kind: DriveKind)
     ensures forth { (place : Place) → IsInside kind place → place_at kind (block_number kind place) ≡ place }
 {}
 
-/// The law of a pack's parts: data blocks, replacements and table copies lie apart, in this order, all of them
-/// below the count of blocks, and different replacements and copies are different blocks.
+/// The law of a pack's parts: data blocks, replacements and table copies lie apart and in this order, and all of them lie
+/// below the count of blocks. Different replacements are different blocks, and so are different copies.
 pub fn apart_law(kind: DriveKind)
     ensures replacements { (i : ℕ) → i < 126 → limit_of kind ≤ replacement_at kind i }
     ensures below_copies { (i k : ℕ) → i < 126 → replacement_at kind i < copy_at kind k }

@@ -1,14 +1,14 @@
-//! What a pack holds, as the contracts of all crates see it: image and mark bytes, the bad-sector table, and the home and the
-//! content of each data block.
+//! What a pack holds, as the contracts of all crates see it: the bytes of its image and its marks, the bad-sector table,
+//! and the home and the content of each data block.
 //!
-//! Defined in `specs/`: packs, the spelling of a bad-sector table, the table of a pack by its five copies, homes and contents
-//! by the drive's kind and that table.
+//! Defined in `specs/`: packs; the spelling of a bad-sector table; the table of a pack, as its five copies give it; and
+//! homes and contents, as the drive's kind and that table give them.
 //!
-//! What is proved: `block_law`: a block that was written is read again, and no other changed. `table_law`: bytes spell one
-//! table of a kind at most, and each table has one spelling, of 512 bytes. `pack_table_law`: a pack has one table at most, by
-//! its copies alone. `home_law`: no two data blocks share a home. `home_write_law`: a write at a home leaves the copies, the
-//! tables and every other block's content. `table_edit_law`: the writes that list a block leave every other data block's
-//! content.
+//! What is proved: `block_law`: a block reads back as it was written, and a write changes no other block. `table_law`:
+//! bytes spell at most one table of a kind, and each table has one spelling, of 512 bytes. `pack_table_law`: a pack has
+//! at most one table, which depends on its copies alone. `home_law`: no two data blocks share a home. `home_write_law`: a
+//! write at a home changes neither the copies, nor the table, nor the content of any other block. `table_edit_law`: the
+//! writes that list a block leave the content of every other data block as it was.
 //!
 //! Only tested, in `hpsim_rows`: worked values, beside their proofs.
 
@@ -21,8 +21,7 @@ ghost use Rattle.pack_geometry.specs.PackTable.{IsTableOf, AreTablesOf, HaveSame
 ghost use Rattle.pack_geometry.specs.Homes.{home_of, content_of, contents_of, with_content};
 ghost use Rattle.pack_geometry.specs.TableEdit.{Edit, IsAddedAt, IsEdited, edited, edited_table};
 
-/// The law of blocks: a block has 512 bytes, what was written to it is read again, and a write to one block
-/// changes no other.
+/// The law of blocks: a block has 512 bytes, it reads back as it was written, and a write to one block changes no other.
 pub fn block_law()
     ensures size { (image : List ℕ) → (block : ℕ) → length (block_at image block) ≡ 512 }
     ensures same { (image bytes : List ℕ) → (block : ℕ) → length bytes ≡ 512
@@ -31,7 +30,7 @@ pub fn block_law()
         → block_at (with_block image block bytes) other ≡ block_at image other }
 {}
 
-/// The law of tables: 512 bytes spell one table of a drive at most, and each table has one spelling of 512 bytes.
+/// The law of tables: 512 bytes spell at most one table of a drive, and each table has exactly one spelling, of 512 bytes.
 pub fn table_law()
     ensures once { (bytes : List ℕ) → (table other : Table) → Spells bytes table → Spells bytes other
         → table.kind ≡ other.kind → table ≡ other }
@@ -39,8 +38,8 @@ pub fn table_law()
     ensures spelled { (table : Table) → IsTable table → Spells (table_text table.serial table.places) table }
 {}
 
-/// The law of a pack's table: each pack has one or has none, and never two; it lists 126 places at most; and packs with
-/// the same copies share it, whatever else they hold.
+/// The law of a pack's table: each pack has one table or none, and never two. A table lists at most 126 places. Packs
+/// with the same copies have the same table, whatever else they hold.
 pub fn pack_table_law()
     ensures exists { (kind : DriveKind) → (pack : Pack) → (table : Option Table) × IsTableOf kind pack table }
     ensures once { (kind : DriveKind) → (pack : Pack) → (table other : Option Table) → IsTableOf kind pack table
@@ -53,8 +52,8 @@ pub fn pack_table_law()
         → AreTablesOf drives packs tables → AreTablesOf drives packs others → tables ≡ others }
 {}
 
-/// The law of homes: only data blocks have one; it is an unmarked sector below the copies of the table; no two data
-/// blocks share a home; and homes go by the marks and the table alone.
+/// The law of homes: only data blocks have one. A home is an unmarked sector below the copies of the table. No two data
+/// blocks share a home, and homes depend on the marks and the table alone.
 pub fn home_law()
     ensures only_data { (kind : DriveKind) → (table : Option Table) → (pack : Pack) → (block home : ℕ)
         → home_of kind table pack block ≡ Some home → block < limit_of kind }
@@ -69,8 +68,8 @@ pub fn home_law()
         → home_of kind table pack ≡ home_of kind table other }
 {}
 
-/// The law of a write at the home of a data block: that block then has the bytes that were written; the copies of the
-/// table, and so the table, and every other block's content are as before.
+/// The law of a write at the home of a data block: afterwards that block has the bytes that were written. The copies of
+/// the table, and so the table itself, and the content of every other block are as before.
 pub fn home_write_law()
     ensures same { (kind : DriveKind) → (table : Option Table) → (pack : Pack) → (block home : ℕ) → (bytes : List ℕ)
         → length bytes ≡ 512 → home_of kind table pack block ≡ Some home
@@ -93,8 +92,8 @@ pub fn home_write_law()
         → AreTablesOf drives (with_written packs unit home bytes) tables }
 {}
 
-/// The law of the table edit: where a block may be added, the writes that list it make the edit. Where they copy the
-/// bytes of a block that was unmarked, every data block holds what it held.
+/// The law of the table edit: if a block may be added, the writes that list it make the edit. If these writes copy the
+/// bytes of the block, and the block was unmarked, every data block holds what it held before.
 pub fn table_edit_law()
     ensures made { (kind : DriveKind) → (pack : Pack) → (table : Table) → (edit : Edit) → (i : ℕ)
         → IsAddedAt kind pack table edit i → IsEdited kind pack (edited kind pack table edit i) table edit i }

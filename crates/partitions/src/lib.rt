@@ -1,8 +1,8 @@
-//! The partitions of the drives, and the admission of requests to them. The sizes and the first cylinders are this project's
-//! own: a pack that another system divided has its own.
+//! The partitions of the drives, and the admission of requests to them. The sizes and the first cylinders are this
+//! project's own choice; a pack that another system divided has that system's.
 //!
 //! What is proved: `part_of`, `part_range` and `admit` are exact for each kind; a range inside has data blocks only.
-//! `partitions_law`: each partition ends at or below the limit.
+//! `partitions_law`: each partition ends at or below the drive's data limit.
 #![tactic(auto)]
 
 ghost use Rattle.std.specs.Prelude.{◌≡◌, ◌<◌, ◌≤◌, ◌+◌, ◌↔◌, ◌⊎◌, ℕ, IsSome};
@@ -25,15 +25,15 @@ pub enum Part {
     H,
 }
 
-/// The blocks of a partition: its first, counted on the pack, and how many it has.
+/// The blocks of a partition: the number of its first block on the pack, and how many blocks it has.
 #[derive(Clone, Copy)]
 pub struct PartRange {
     pub first: u32,
     pub size: u32,
 }
 
-/// What a request meets: blocks inside its partition, the first of them counted on the pack; the partition's very
-/// end; or blocks outside.
+/// How a request fits its partition: it covers blocks inside, and then `first` is its first block on the pack; it begins
+/// exactly at the end of the partition; or it covers blocks outside.
 #[derive(Clone, Copy, PartialEq, Eq)]
 pub enum Admission {
     Inside { first: u32 },
@@ -41,7 +41,7 @@ pub enum Admission {
     Outside,
 }
 
-/// The partition that a letter names; None exactly where it is not `a` to `h`.
+/// The partition that a letter names, `a` to `h`. None exactly if the letter is not one of these.
 pub fn part_of(letter: u8) -> Option<Part>
     ensures named { (part : Part) → (result ≡ Some part) ↔ (letter ≡ letter_of part) }
     ensures found { IsSome result ↔ ((97 ≤ letter) × (letter ≤ 104)) }
@@ -122,9 +122,9 @@ fn rm05_part(part: Part) -> (u32, u32)
     }
 }
 
-/// What a request meets for `count` blocks, 1 to 127, from `block` of a partition: Eof exactly where it begins at the
-/// partition's size, Outside exactly where it begins behind it or reaches past it, and else Inside with its first
-/// block on the pack. A range inside has data blocks only.
+/// How a request for `count` blocks, 1 to 127, from `block` of a partition on fits that partition. The result is Eof
+/// exactly if the request begins at the partition's size, and Outside exactly if it begins behind that or reaches past
+/// it. Otherwise the result is Inside, with the request's first block on the pack; such a range has data blocks only.
 pub fn admit(kind: DriveKind, part: Part, block: u32, count: u32) -> Admission
     requires some { 1 ≤ count }
     requires few { count ≤ 127 }
@@ -148,7 +148,7 @@ pub fn admit(kind: DriveKind, part: Part, block: u32, count: u32) -> Admission
     }
 }
 
-/// Each partition ends at or below its drive's limit.
+/// Each partition ends at or below its drive's data limit.
 pub fn partitions_law()
     ensures data_blocks { (kind : DriveKind) (part : Part) → first_of kind part + size_of kind part ≤ limit_of kind }
 {}

@@ -1,8 +1,8 @@
-//! A sector as it lies on the pack: its header, its 512 bytes and their check. The header's words are made after the RP06, RM03
-//! and RM05 manuals; the bits of this crate's tables are the project's own choice of them.
+//! A sector as it lies on the pack: its header, its 512 bytes and their check. The words of the header follow the RP06,
+//! RM03 and RM05 manuals; which bits of them this crate's tables use is the project's own choice.
 //!
-//! What is proved: `header_of`, `header_fault` and `raw_sector` are the header tables; a header made for the wanted block shows
-//! no fault where it is unmarked, and Format (RP06) or BadSector (RM03, RM05) where it is marked.
+//! What is proved: `header_of`, `header_fault` and `raw_sector` are the header tables. The header of the wanted block
+//! shows no fault if the sector is unmarked; if it is marked, it shows Format on an RP06, and BadSector on an RM03 or an RM05.
 #![tactic(auto)]
 
 ghost use Rattle.std.specs.Prelude.{◌≡◌, ◌<◌};
@@ -13,7 +13,7 @@ ghost use Rattle.sector_format.specs.Headers.{cylinder_bits as the_bits, shows_b
 use fire_code::{Check, encode};
 use pack_geometry::{DriveKind, place_of, sector_word};
 
-/// A sector's header: the cylinder and the bits above it that say whether the sector is good, and
+/// A sector's header: the word of the cylinder, with the bits above it that say whether the sector is good, and the word
 /// `track * 256 + sector`.
 #[derive(Clone, Copy)]
 pub struct Header {
@@ -29,14 +29,14 @@ pub struct RawSector {
     pub check: Check,
 }
 
-/// What is wrong with a header where a block is wanted.
+/// What is wrong with the header that is read when a block is wanted.
 #[derive(Clone, Copy, PartialEq, Eq)]
 pub enum HeaderFault {
-    /// The format bit is off; so a marked sector of an RP06 is shown.
+    /// The format bit is off. A marked sector of an RP06 shows this fault.
     Format,
-    /// A bit of a good sector is off; so a marked sector of an RM03 or an RM05 is shown.
+    /// A bit of a good sector is off. A marked sector of an RM03 or an RM05 shows this fault.
     BadSector,
-    /// The header is another sector's.
+    /// The header belongs to another sector.
     Compare,
 }
 
@@ -52,7 +52,7 @@ fn cylinder_bits(kind: DriveKind, marked: bool) -> u16
     }
 }
 
-/// The header of a block, which shows whether the sector is marked.
+/// The header of a block. It shows whether the sector is marked.
 pub fn header_of(kind: DriveKind, block: u32, marked: bool) -> Header
     requires { block < block_count kind }
     ensures header { result ≡ header_at kind block marked }
@@ -65,9 +65,9 @@ pub fn header_of(kind: DriveKind, block: u32, marked: bool) -> Header
     }
 }
 
-/// What is wrong with a header where a block is wanted: the first of these that applies. `BadSector` where the
-/// kind is RM03 or RM05 and one of the bits 0o100000 and 0o40000 is off; `Format` where the bit 0o10000 is off;
-/// `Compare` where the header is not of the wanted block's place. `None` where nothing is wrong.
+/// What is wrong with the header that is read when a block is wanted: the first of these faults that applies. `BadSector`
+/// if the kind is RM03 or RM05 and one of the bits 0o100000 and 0o40000 is off; `Format` if the bit 0o10000 is off;
+/// `Compare` if the header is not that of the wanted block's place. `None` if nothing is wrong.
 pub fn header_fault(kind: DriveKind, header: Header, wanted: u32) -> Option<HeaderFault>
     requires { wanted < block_count kind }
     ensures { result ≡ fault_of kind header wanted }
@@ -96,7 +96,7 @@ fn shows_bad(kind: DriveKind, word: u16) -> bool
     }
 }
 
-/// A sector as it is written: the block's header, the bytes, and the check that makes their word right.
+/// A sector as it is written: the header of the block, the bytes, and the check that makes their word right.
 pub fn raw_sector(kind: DriveKind, block: u32, marked: bool, body: &[u8; 512]) -> RawSector
     requires { block < block_count kind }
     ensures header { result.header ≡ header_at kind block marked }

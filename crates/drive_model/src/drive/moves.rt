@@ -52,7 +52,7 @@ fn read_through(live: &mut Live, unit: u8, block: u32, of: u16, bytes: &mut [u8;
     }
 }
 
-// Where the heads stand behind a block: on its cylinder, with the look-ahead of the sector that comes next.
+// The place of the heads after a block: its cylinder, and the look-ahead of the sector that comes next.
 fn heads_behind(kind: DriveKind, block: u32) -> (u16, u16)
     requires { block < block_count kind }
     ensures cylinder { result.0 ≡ (place_at kind block).cylinder }
@@ -74,8 +74,7 @@ fn address_of(kind: DriveKind, block: u32) -> (u16, u16)
 }
 
 impl Drive {
-    // The verdict of a drive that is offline, or on which a fault is armed: the first, in the order in which faults
-    // strike.
+    // The verdict of a drive that is offline, or on which a fault is armed: the armed fault that comes first in the order in which faults strike.
     fn stop(&self) -> Option<Moved>
         ensures { result ≡ stop_of self.now }
     {
@@ -131,7 +130,7 @@ impl Drive {
         self.raise(Er1::DCK.bits() | Er1::ECH.bits());
     }
 
-    // A fault strikes: it is used once, and its error bit goes on, but for data late.
+    // A fault strikes: it is used once, and its error bit goes on, except that data late has none.
     fn take_fault(&mut self, kind: FaultKind)
         ensures { self.new ≡ with_fault_bits kind (fault_used kind self.old) }
     {
@@ -156,8 +155,8 @@ impl Drive {
         }
     }
 
-    // A sector is marked: its error bit is that of the fault which its header shows, format error on an RP06 and bad
-    // sector error on an RM03 and an RM05.
+    // A sector is marked: the error bit of the fault that its header shows goes on, which is format error on an RP06, and
+    // bad sector error on an RM03 and an RM05.
     fn take_mark(&mut self, block: u32)
         requires { block < block_count self.old.kind }
         ensures { self.new ≡ with_mark_bits self.old.kind self.old }
@@ -192,7 +191,7 @@ impl Drive {
         self.er1 = Er1::from_bits_retain(self.er1.bits() | errors);
     }
 
-    // A function is refused: its errors and the attention go up.
+    // The drive refuses a function: the error bits and the attention go up.
     pub(super) fn refuse(&mut self, errors: u16)
         ensures { self.new ≡ refused errors self.old }
     {
@@ -207,19 +206,19 @@ impl Drive {
         self.er2 = Er2::from_bits_retain(self.er2.bits() | error.bits());
     }
 
-    /// Moves one sector of the transfer that is under way between block `block` of a unit's pack and the window.
-    /// The first of these rules decides, and the registers change by its verdict; the transfer stays under way:
+    /// Moves one sector of the transfer that is under way, between block `block` of a unit's pack and the window. The
+    /// first of these rules that applies decides. The registers change as the verdict says; the transfer stays under way:
     ///
-    /// 1. The drive is offline: `Offline`.
+    /// 1. The drive is offline: the verdict is `Offline`.
     /// 2. A fault is armed: the first armed kind, in the order seek, opi, dte, hcrc, late, is used once: `Faulted`.
-    /// 3. The sector is marked, by the pack's mark byte: `Marked`.
+    /// 3. The mark byte of the pack marks the sector: `Marked`.
     /// 4. A write: the window's bytes, filled up with zeros, go to the pack: `Clean`.
-    /// 5. A read: the front of the sector's bytes, with the noise that strikes, goes to the window, as far as it
-    ///    reaches. The verdict, `Clean`, `Burst` or `Hard`, is that of the whole sector's word with the noise's places
-    ///    flipped.
+    /// 5. A read: the sector's bytes, with the noise that strikes, go to the window, from the first one on and as far
+    ///    as the window reaches. The verdict, `Clean`, `Burst` or `Hard`, is that of the whole sector's word with the
+    ///    noise's places flipped.
     ///
-    /// `StoreFailed` comes only where the packs' count of failures rose; then the drive, the book and the window are
-    /// as before, and the block of a write that was found unmarked is old or new.
+    /// `StoreFailed` comes only if the packs' count of failures rose. Then the drive, the book and the window are as
+    /// before; if a write found the block unmarked, that block is old or new.
     pub fn move_sector<P: Packs>(
         &mut self,
         packs: &mut P,
@@ -232,18 +231,18 @@ impl Drive {
         requires transfer { is_transferring self.old.work ≡ true }
         requires block { block < block_count self.old.kind }
 
-        // The verdict, the registers by it, and the bytes that moved.
+        // The verdict, the registers that it leaves, and the bytes that moved.
         ensures moves { IfOk result (λ v. MovesSector unit block self.old (window_len window.old) (P.tells packs.new)
             (record { book = book.old; held = P.held packs.old; window = window_bytes window.old })
             (record { book = book.new; held = P.held packs.new; window = window_bytes window.new }) v) }
         ensures drive { IfOk result (λ v. self.new ≡ after_move v block self.old) }
 
-        // Nothing is written to memory but the window of a read.
+        // Nothing is written to memory except the window of a read.
         ensures window { IfOk result (λ v. MatchBool (was_read self.old v)
             (Writes window.old window.new (window_bytes window.new)) (window.new ≡ window.old)) }
         ensures same_memory { memory_name window.new ≡ memory_name window.old }
 
-        // A drive that is stopped asks nothing of the packs.
+        // A drive that is stopped asks the packs for nothing.
         ensures stopped { IsSome (stop_of self.old) → IsOk result × (packs.new ≡ packs.old) }
 
         // A failure.

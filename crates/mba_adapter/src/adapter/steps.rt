@@ -37,13 +37,12 @@ impl Adapter {
         }
     }
 
-    /// Moves one sector: the next block of the pack into, or out of, the next block of the loaded buffer, by the rules
-    /// of [`Drive::move_sector`]. A sector of the verdict `Clean` counts as moved; any other verdict ends the transfer.
-    /// The completion goes up where the verdict is not `Clean` and where the byte count comes to 0, and there alone;
-    /// then the drive's transfer has ended too.
+    /// Moves one sector: the next block of the pack into, or out of, the next block of the loaded buffer, by the rules of
+    /// [`Drive::move_sector`]. A sector with the verdict `Clean` counts as moved; any other verdict ends the transfer.
+    /// The completion goes up exactly if the verdict is not `Clean` or the byte count comes to 0; then the drive's transfer has ended too.
     ///
-    /// `StoreFailed` comes only where the packs' count of failures rose; then the adapter, the drive, the memory and
-    /// the book are as before, and the block of a write that was found unmarked is old or new.
+    /// `StoreFailed` comes only if the packs' count of failures rose. Then the adapter, the drive, the memory and the
+    /// book are as before; if a write found the block unmarked, that block is old or new.
     pub fn step_sector<P: Packs>(
         &mut self,
         drive: &mut Drive,
@@ -64,7 +63,7 @@ impl Adapter {
         ensures adapter { IfOk result (λ v. self.new ≡ stepped v self.old) }
         ensures drive { IfOk result (λ v. drive.new ≡ drive_stepped v self.old drive.old) }
 
-        // No byte of the memory changes but those of the block, and what is lent stays lent.
+        // No byte of the memory changes except those of the block, and what is lent stays lent.
         ensures memory { IfOk result (λ v. memory.new
             ≡ (if was_read drive.old v
             then with_block buffer.now (next_window self.old) (next_bytes self.old buffer.now memory.new) memory.old
@@ -73,7 +72,7 @@ impl Adapter {
         // The block is one of the buffer's.
         ensures inside { next_window self.old < self.old.blocks }
 
-        // A drive that is stopped asks nothing of the packs.
+        // A drive that is stopped asks the packs for nothing.
         ensures stopped { IsSome (stop_of drive.old) → IsOk result × (packs.new ≡ packs.old) }
 
         // A failure.
