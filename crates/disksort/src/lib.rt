@@ -1,10 +1,11 @@
-//! The sorted queue of a unit: the arm sweeps from low cylinders to high ones, then begins again. It is kept in buckets of
-//! cylinders, so that one that joins or leaves costs the same however many wait.
+//! The sorted queue of a unit: the arm sweeps from low cylinders to high ones, and then begins again. The queue is kept
+//! in buckets of cylinders, so that a request joins or leaves at the same cost however many requests wait.
 //!
-//! What is proved: `SortQueue` is seen as the list of waiters in the service order, a sort of the whole list by sweep, cylinder
-//! and order of joining; `insert`, `head`, `take_head`, `nth` and `len` are exact. Its two runs lie in buckets by cylinder, and
-//! the invariant says that these spell the list. `service_order_law`: for every sequence of joins and leaves the queue is that
-//! sort, it is two ascending runs, and none stands anywhere in front of one that is served before it.
+//! What is proved: contracts see `SortQueue` as the list of waiters in the service order, which is a sort of the whole
+//! list by sweep, cylinder and order of joining; `insert`, `head`, `take_head`, `nth` and `len` are exact. The two runs
+//! of a queue lie in buckets by cylinder, and the invariant says that these spell the list. `service_order_law`: for
+//! every sequence of joins and leaves the queue is that sort, it is two ascending runs, and no waiter stands anywhere in
+//! front of one that is served before it.
 //!
 //! Only tested, in `drive_rows`: worked values, beside their proofs.
 #![tactic(auto)]
@@ -32,9 +33,9 @@ pub struct Waiter {
 
 /// The requests that wait at a unit, in the order in which it serves them, after 4.3BSD's `disksort`.
 ///
-/// Each of its two runs has the first and the last waiting number of every cylinder and a bit for each cylinder at which
-/// one waits, and each number has the one behind it. A request joins behind the last of its cylinder, and the next
-/// cylinder is found by its bit.
+/// Each of its two runs has, for every cylinder, the first and the last number that waits there, and a bit that says
+/// whether one does; each number has the one behind it. A request joins behind the last one of its cylinder, and the
+/// queue finds the next cylinder by its bit.
 #[derive(Drop)]
 pub struct SortQueue {
     first: Run,
@@ -60,7 +61,7 @@ impl Model for SortQueue {
     ghost invariant = { λ q. IsKept (seen q.first) (seen q.second) q.behind.items q.count q.capacity q.cylinders };
 }
 
-/// Whether one that joins at a cylinder goes into the second run: where one waits, and the head's cylinder is higher.
+/// Whether a request that joins at a cylinder goes into the second run: one waits already, and the head's cylinder is higher.
 fn joins_second(first: &Run, cylinder: u32) -> bool
     ensures second { IsTrue result → (h : ℕ) × IsLowest (seen first.now).marked h × (cylinder < h) }
     ensures first { result ≡ false → ((c : ℕ) → (seen first.now).marked c ≡ false) ⊎ ((h : ℕ) × IsLowest (seen first.now).marked h × (h ≤ cylinder)) }
@@ -72,7 +73,7 @@ fn joins_second(first: &Run, cylinder: u32) -> bool
 }
 
 impl SortQueue {
-    /// An empty queue, with room for `capacity` requests reserved.
+    /// An empty queue, which reserves room for `capacity` requests at cylinders below `cylinders`. `NoMemory` if the room is not available.
     pub fn new(alloc: Global, capacity: u32, cylinders: u32) -> Result<SortQueue, NoMemory>
         requires capacity { capacity ≤ 65536 }
         requires cylinders { cylinders ≤ 1024 }
@@ -91,7 +92,7 @@ impl SortQueue {
         })
     }
 
-    /// How many wait.
+    /// How many requests wait.
     pub fn len(&self) -> u32
         ensures len { result ≡ length self.now.waiting }
         ensures fits { result ≤ self.now.capacity }
@@ -99,7 +100,7 @@ impl SortQueue {
         self.count
     }
 
-    /// The one that is served first. None where none waits.
+    /// The request that is served first. None if no request waits.
     pub fn head(&self) -> Option<Waiter>
         ensures { result ≡ slice_get self.now.waiting 0 }
     {
@@ -108,7 +109,7 @@ impl SortQueue {
         Some(Waiter { number, cylinder })
     }
 
-    /// The one that is served after `i` others. None where no more than `i` wait.
+    /// The request that is served after `i` others. None if at most `i` requests wait.
     pub fn nth(&self, i: u32) -> Option<Waiter>
         ensures waiter { result ≡ slice_get self.now.waiting i }
         ensures order { IsInOrder cylinder_of self.now.waiting }
@@ -120,7 +121,7 @@ impl SortQueue {
         }
     }
 
-    /// Takes out the one that is served first. None where none waits.
+    /// Takes out the request that is served first. None if no request waits.
     pub fn take_head(&mut self) -> Option<Waiter>
         ensures head { result ≡ slice_get self.old.waiting 0 }
         ensures rest { self.new ≡ record self.old { waiting = drop 1 self.old.waiting } }
@@ -134,7 +135,7 @@ impl SortQueue {
         Some(Waiter { number, cylinder })
     }
 
-    /// A request joins.
+    /// A request that does not wait yet joins the queue.
     pub fn insert(&mut self, number: u32, cylinder: u32)
         requires room { length self.old.waiting < self.old.capacity }
         requires number { number < self.old.capacity }
@@ -153,10 +154,10 @@ impl SortQueue {
     }
 }
 
-/// The laws of the service order. Whatever joins and leaves, the queue is the list of those that wait, sorted by the
-/// sweep that each got as it joined, its cylinder and its order of joining. The sort keeps all of them, and puts none
-/// anywhere in front of one that is served before it. A queue in this order is two ascending runs, and one that joins goes into
-/// its run behind those of equal cylinder.
+/// The laws of the service order. Whatever joins and leaves, the queue is the list of the requests that wait, sorted by
+/// the sweep that each request got when it joined, then by its cylinder, and then by its order of joining. The sort keeps
+/// all of them, and puts no request anywhere in front of one that is served before it. A queue in this order is two
+/// ascending runs, and a request that joins goes into its run behind the requests of the same cylinder.
 pub fn service_order_law()
     ensures history { (changes : List (Change Waiter))
         → queue_of (service_after cylinder_of empty_service changes) ≡ queue_after cylinder_of [] changes }

@@ -27,7 +27,7 @@ pub(crate) fn clear_bit(words: &mut [u64], cylinder: u32)
     words[(cylinder / 64) as usize] &= !(1 << (cylinder % 64));
 }
 
-/// The lowest cylinder whose bit is on. None where no bit is on.
+/// The lowest cylinder whose bit is on. None if no bit is on.
 pub(crate) fn lowest(words: &[u64]) -> Option<u32>
     requires { length words.now ≤ 16 }
     ensures on { IfSome result (λ c. has_bit words.now c ≡ true) }

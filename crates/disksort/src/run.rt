@@ -10,7 +10,7 @@ use no_memory::NoMemory;
 use std::alloc::Global;
 use std::mem::swap;
 
-/// For each cylinder the first and the last number that waits there, and a bit that says whether one does.
+/// For each cylinder, the first and the last number that waits there, and a bit that says whether a number waits there.
 #[derive(Drop)]
 pub(crate) struct Run {
     firsts: Vec<u32>,
@@ -18,14 +18,14 @@ pub(crate) struct Run {
     words: [u64; 16],
 }
 
-/// So many zeros.
+/// A list of this many zeros. `NoMemory` if there is no room for it.
 pub(crate) fn zeros(alloc: Global, count: u32) -> Result<Vec<u32>, NoMemory>
     ensures { IfOk result (λ numbers. length numbers.items ≡ count) }
 {
     Ok(vec![in alloc; 0u32; count as usize]?)
 }
 
-/// The number that has so many others of its bucket in front of it, or how many are missing.
+/// The number that has `i` others of its bucket in front of it, or how many are missing.
 fn nth_in(behind: &[u32], first: u32, last: u32, i: u32) -> Result<u32, u32>
     requires linked { IsLinked behind.now (chain behind.now (length behind.now) first last) first last }
     requires inside { AllByRecursion (λ n. n < length behind.now) (chain behind.now (length behind.now) first last) }
@@ -43,7 +43,7 @@ fn nth_in(behind: &[u32], first: u32, last: u32, i: u32) -> Result<u32, u32>
 }
 
 impl Run {
-    /// A run in which none waits.
+    /// A run in which no number waits.
     pub(crate) fn new(alloc: Global, cylinders: u32) -> Result<Run, NoMemory>
         ensures firsts { IfOk result (λ run. length (seen run).firsts ≡ cylinders) }
         ensures lasts { IfOk result (λ run. length (seen run).lasts ≡ cylinders) }
@@ -58,7 +58,7 @@ impl Run {
         })
     }
 
-    /// The lowest cylinder at which one waits. None where none waits.
+    /// The lowest cylinder at which a number waits. None if no number waits.
     pub(crate) fn lowest(&self) -> Option<u32>
         ensures lowest { IfSome result (λ c. IsLowest (seen self.now).marked c) }
         ensures none { IfNone result ((c : ℕ) → (seen self.now).marked c ≡ false) }
@@ -66,7 +66,7 @@ impl Run {
         lowest(&self.words)
     }
 
-    /// Whether none waits.
+    /// Whether no number waits.
     pub(crate) fn is_empty(&self) -> bool
         ensures none { result ≡ true → (c : ℕ) → (seen self.now).marked c ≡ false }
         ensures some { result ≡ false → (c : ℕ) × ((seen self.now).marked c ≡ true) }
@@ -82,7 +82,7 @@ impl Run {
         self.firsts[cylinder as usize]
     }
 
-    /// Puts a number behind the last of its cylinder.
+    /// Puts a number behind the last one of its cylinder.
     pub(crate) fn append(&mut self, behind: &mut Vec<u32>, number: u32, cylinder: u32)
         requires firsts { cylinder < length (seen self.old).firsts }
         requires lasts { length (seen self.old).lasts ≡ length (seen self.old).firsts }
@@ -103,7 +103,7 @@ impl Run {
         set_bit(&mut self.words, cylinder);
     }
 
-    /// Takes out the first number of a cylinder at which one waits.
+    /// Takes out the first number of a cylinder at which a number waits.
     pub(crate) fn take_first(&mut self, behind: &[u32], cylinder: u32) -> u32
         requires firsts { cylinder < length (seen self.old).firsts }
         requires lasts { length (seen self.old).lasts ≡ length (seen self.old).firsts }
@@ -140,7 +140,7 @@ impl Run {
         self.lasts[cylinder as usize]
     }
 
-    /// The number of a cylinder that has so many others of it in front of it, or how many are missing.
+    /// The number that has `i` others of its cylinder in front of it, or how many are missing.
     fn nth_at(&self, behind: &[u32], cylinder: u32, i: u32) -> Result<u32, u32>
         requires run { IsRun (length behind.now) (seen self.now) behind.now (length (seen self.now).firsts) }
         requires few { length (seen self.now).firsts ≤ 1024 }
@@ -155,7 +155,7 @@ impl Run {
         nth_in(behind, self.first(cylinder), self.last(cylinder), i)
     }
 
-    /// The one of the run that has so many others in front of it, or how many are missing.
+    /// The waiter of the run that has `i` others in front of it, or how many are missing.
     pub(crate) fn nth(&self, behind: &[u32], i: u32) -> Result<Waiter, u32>
         requires run { IsRun (length behind.now) (seen self.now) behind.now (length (seen self.now).firsts) }
         requires few { length (seen self.now).firsts ≤ 1024 }

@@ -1,11 +1,9 @@
-//! That the replay of the trace shows what the driver does (`replay`), that the lines of its calls follow there (`trace`), and what a
-//! drain and a call that stops come to there (`drains`). The functions here do nothing: each stands for a law.
+//! The replay of the trace shows what the driver does (`replay`), the lines of the driver's calls follow there (`trace`),
+//! and what a drain and a call that stops come to there (`drains`). The functions here do nothing: each stands for a law.
 //!
-//! What runs of the driver leave of its packs (`runs`), and how far their writes reach (`reach`). The functions here do nothing: each
-//! stands for a law.
+//! What runs of the driver leave of its packs (`runs`), and how far their writes reach (`reach`).
 //!
-//! For which map of blocks the driver stands between any two acts (`bytes`), and that it is quiet behind a request that was waited for
-//! (`quiet`). The functions here do nothing: each stands for a law.
+//! For which map of blocks the driver stands between any two acts (`bytes`), and that it is quiet after a request that was waited for (`quiet`).
 
 pub mod bytes;
 pub mod drains;

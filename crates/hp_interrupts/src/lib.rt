@@ -1,9 +1,8 @@
-//! What the driver reads from the registers at an interrupt and before a command, after the registers of the RP06, RM03 and
-//! RM05 drives.
+//! What the driver reads from the registers at an interrupt and before a command. The registers are those of the RP06, RM03 and RM05 drives.
 //!
-//! What is proved: `data_interrupt` gives the one cause that a verdict's registers have, for every verdict and each kind of
-//! drive; `verdict_of` gives the one verdict of a cause, and `shows_late` whether the adapter shows data late after a verdict;
-//! `sense`, `needs_pack` and `lowest_attention` by bits.
+//! What is proved: `data_interrupt` gives the one cause that a verdict's registers show, for every verdict and each kind
+//! of drive; `verdict_of` gives the one verdict of a cause, and `shows_late` says whether the adapter shows data late
+//! after a verdict; `sense`, `needs_pack` and `lowest_attention` go by the bits.
 //!
 //! Nothing here is only tested.
 #![tactic(auto)]
@@ -20,8 +19,7 @@ use bitflags::Flags;
 use drive_registers::{Ds, Er1, Er2};
 use hardware_table::{FaultKind, Moved};
 
-/// The registers that are read at a data interrupt: the drive's error registers and its two ECC registers, and
-/// whether the adapter shows data late.
+/// What the driver reads at a data interrupt: the drive's two error registers and its two ECC registers, and whether the adapter shows data late.
 #[derive(Clone, Copy)]
 pub struct TransferRegs {
     pub er1: u16,
@@ -36,8 +34,8 @@ pub struct TransferRegs {
 pub enum DataCause {
     /// Every sector moved clean.
     Complete,
-    /// The last sector was read with a burst that the driver repairs: `at` is its first place, counted from 1, and
-    /// bit j of `pattern` stands for place `at - 1 + j`.
+    /// The last sector was read with a burst that the driver repairs: `at` is the first place of the burst, counted from
+    /// 1, and bit j of `pattern` stands for place `at - 1 + j`, counted from 0.
     Corrected { at: u16, pattern: u16 },
     /// The last sector is marked bad.
     BadSector,
@@ -45,7 +43,7 @@ pub enum DataCause {
     Offline,
     /// A fault struck the drive or the transfer.
     Drive(FaultKind),
-    /// The last sector was read and can't be corrected.
+    /// The last sector was read and cannot be corrected.
     Hard,
 }
 
@@ -60,9 +58,8 @@ pub enum Sensed {
     Locked,
 }
 
-/// The cause that the registers show: that of the verdict on the last sector that was tried. On an RP06 a marked
-/// sector shows as a format error, and on an RM03 and an RM05 as a bad sector. A data check can be corrected unless the
-/// hard error is on with it.
+/// The cause that the registers show: that of the verdict on the last sector that was tried. A marked sector shows as a
+/// format error on an RP06, and as a bad sector on an RM03 or an RM05. A data check can be corrected, unless the hard error is on with it.
 pub fn data_interrupt(regs: TransferRegs) -> DataCause
     requires left { AreLeft regs }
     ensures cause { (verdict : Moved) → (drive : DriveState) → (block : ℕ) → IsLeftBy verdict drive block regs
@@ -96,7 +93,7 @@ pub fn data_interrupt(regs: TransferRegs) -> DataCause
     }
 }
 
-/// The verdict that a cause stands for: just that one has it as its cause.
+/// The verdict that a cause stands for: exactly this verdict has that cause.
 pub fn verdict_of(cause: DataCause) -> Moved
     ensures cause { cause_of result ≡ cause }
     ensures only { (verdict : Moved) → cause_of verdict ≡ cause → verdict ≡ result }
@@ -111,15 +108,15 @@ pub fn verdict_of(cause: DataCause) -> Moved
     }
 }
 
-/// Whether the adapter shows data late behind a last verdict.
+/// Whether the adapter shows data late after this last verdict.
 pub fn shows_late(last: Moved) -> bool
     ensures { result ≡ shows_late last }
 {
     matches!(last, Moved::Faulted(FaultKind::Late))
 }
 
-/// What the drive status says before a command: `Offline` exactly where the medium is not on line; else `Locked`
-/// exactly where the drive is write locked and the command is a write's transfer; else `Go`.
+/// What the drive status says before a command. The first of these that applies: `Offline` if the medium is not on line;
+/// `Locked` if the drive is write locked and the command is the transfer of a write; otherwise `Go`.
 pub fn sense(ds: u16, write_transfer: bool) -> Sensed
     ensures offline { (result ≡ Sensed.Offline) ↔ IsOff ds bits.medium_on_line }
     ensures locked { (result ≡ Sensed.Locked)
@@ -136,7 +133,7 @@ pub fn sense(ds: u16, write_transfer: bool) -> Sensed
     }
 }
 
-/// Whether the pack has to be acknowledged before the next command: exactly where volume valid is off.
+/// Whether the pack has to be acknowledged before the next command. This is so exactly if volume valid is off.
 pub fn needs_pack(ds: u16) -> bool
     ensures bit { IsTrue result ↔ IsOff ds bits.volume_valid }
     ensures drive { (drive : DriveState) → ds ≡ status drive → IsTrue result ↔ (drive.valid ≡ false) }
@@ -144,7 +141,7 @@ pub fn needs_pack(ds: u16) -> bool
     !Ds::from_bits_retain(ds).contains(Ds::VV)
 }
 
-/// The lowest drive whose attention is up, by the bits of an adapter's attention summary. None exactly for 0.
+/// The lowest drive whose attention is up, by the bits of an adapter's attention summary. None exactly if they are all 0.
 pub fn lowest_attention(summary: u8) -> Option<u8>
     ensures none { IsNone result ↔ (summary ≡ 0) }
     ensures lowest { IfSome result (λ drive. (drive < 8) × (bit_at summary drive ≡ 1)

@@ -1,4 +1,4 @@
-// What a unit asks of the transfer of its request in hand.
+// What a unit asks of the transfer of the request in hand.
 ghost use Rattle.std.specs.Prelude.{◌≡◌, ◌<◌, ◌≤◌, ◌+◌, ◌∷◌, [], drop, slice_get, IfSome, IfNone, Option, unwrap_or};
 ghost use Rattle.std.specs.Option.{option_map};
 ghost use Rattle.pack_geometry.specs.Geometry.{block_count, place_at};
@@ -17,7 +17,7 @@ use pack_geometry::{DriveKind, data_limit, place_of};
 use retry_offsets::{Step, next_step};
 use transfer_engine::{Next, Segment, Transfer};
 
-/// What the next transfer command moves; nothing without a transfer.
+/// What the next transfer command moves. Without a transfer it moves nothing.
 pub(crate) fn segment_in(transfer: &Option<Transfer>) -> Segment
     ensures { result ≡ segment_of (unwrap_or (option_map state_of transfer.now) no_transfer) }
 {
@@ -31,7 +31,7 @@ pub(crate) fn segment_in(transfer: &Option<Transfer>) -> Segment
     }
 }
 
-/// How many first blocks are done; none without a transfer.
+/// How many blocks are done, from the first one on. Without a transfer none is done.
 pub(crate) fn done_in(transfer: &Option<Transfer>) -> u32
     ensures { result ≡ (unwrap_or (option_map state_of transfer.now) no_transfer).done }
 {
@@ -41,7 +41,7 @@ pub(crate) fn done_in(transfer: &Option<Transfer>) -> u32
     }
 }
 
-/// What follows the failures at the sector at hand. Without one the transfer comes at once.
+/// What follows the failures at the sector at hand. If there was none, the transfer comes at once.
 fn step_behind(failures: u32, reads: bool) -> Step
     requires { failures ≤ 27 }
     ensures { result ≡ step_after failures reads }
@@ -52,7 +52,7 @@ fn step_behind(failures: u32, reads: bool) -> Step
     next_step(failures, reads)
 }
 
-/// Step `n` of those that are left where the heads are on the cylinder: OFFSET, where a code is given.
+/// Step `n` of those that are left when the heads are on the cylinder: OFFSET, if a code is given.
 fn offset_at(code: Option<OffsetCode>, n: u32) -> Option<RetryStep>
     ensures { result ≡ slice_get (offset_steps code) n }
 {
@@ -62,7 +62,7 @@ fn offset_at(code: Option<OffsetCode>, n: u32) -> Option<RetryStep>
     }
 }
 
-/// Step `n` of those behind RECAL: SEEK, but to cylinder 0, and then the offset.
+/// Step `n` of those that come after RECAL: SEEK, except to cylinder 0, and then the offset.
 fn seek_at(cylinder: u32, code: Option<OffsetCode>, n: u32) -> Option<RetryStep>
     ensures { result ≡ slice_get (seek_steps cylinder (offset_steps code)) n }
 {
@@ -92,7 +92,7 @@ fn step_at(cylinder: u32, step: Step, n: u32) -> Option<RetryStep>
     }
 }
 
-/// The next step of a retry, behind so many that are taken. None where all are.
+/// The next step of a retry, after `taken` steps. None if all steps are taken.
 pub(crate) fn step_in(
     transfer: &Option<Transfer>,
     kind: DriveKind,
@@ -123,8 +123,8 @@ fn cylinder_of(transfer: &Transfer, kind: DriveKind) -> u32
     place_of(kind, transfer.segment().block).cylinder
 }
 
-/// The entry whose replacement takes the place of the sector behind so many others, where one is listed and the sector is
-/// no replacement itself.
+/// The entry whose replacement takes the place of the sector behind `moved` others. None if the sector is itself a
+/// replacement, or if its place is not listed.
 pub(crate) fn listed_in(
     transfer: &Option<Transfer>,
     table: &Option<BadTable>,
@@ -142,7 +142,7 @@ pub(crate) fn listed_in(
     }
 }
 
-/// The same of a transfer. A replacement lies at or above the data limit.
+/// The same for a transfer. A replacement lies at or above the data limit.
 fn listed(transfer: &Transfer, table: &Option<BadTable>, kind: DriveKind, moved: u32) -> Option<u8>
     requires kind { (state_of transfer.now).job.kind ≡ kind }
     requires moved { moved < (segment_of (state_of transfer.now)).count }
@@ -180,7 +180,7 @@ pub(crate) fn forwarded_to(
     }
 }
 
-/// What comes where so many sectors of the segment are done, the last one perhaps by a repair.
+/// What comes when `moved` sectors of the segment are done. The last of them may have been repaired.
 fn next_behind(transfer: Transfer, moved: u32) -> Next
     requires some { 1 ≤ moved }
     requires moved { moved ≤ (segment_of (state_of transfer)).count }
@@ -193,7 +193,7 @@ fn next_behind(transfer: Transfer, moved: u32) -> Next
     }
 }
 
-/// The transfer of the blocks behind so many that are done.
+/// The transfer of the blocks behind the `moved` ones that are done.
 pub(crate) fn continued(transfer: Transfer, moved: u32) -> Transfer
     requires some { 1 ≤ moved }
     requires moved { moved ≤ (segment_of (state_of transfer)).count }
@@ -206,7 +206,7 @@ pub(crate) fn continued(transfer: Transfer, moved: u32) -> Transfer
     }
 }
 
-/// How often tries failed at the sector behind so many others, with one more.
+/// How many tries failed at the sector behind `moved` others, counting one more failure.
 pub(crate) fn failures_at(transfer: &Transfer, moved: u32) -> u32
     ensures { result ≡ failures_after moved (state_of transfer.now).failures }
 {
@@ -217,7 +217,7 @@ pub(crate) fn failures_at(transfer: &Transfer, moved: u32) -> u32
     }
 }
 
-/// The task that a step of the schedule calls for, where so many blocks are done.
+/// The task that a step of the schedule calls for when `done` blocks are done.
 fn task_of(step: Step, done: u32) -> Task
     ensures { result ≡ task_for step done }
 {
@@ -228,7 +228,7 @@ fn task_of(step: Step, done: u32) -> Task
     }
 }
 
-/// A try failed at the sector behind so many others: the transfer of the next try, unless it was the last, and what comes next.
+/// A try failed at the sector behind `moved` others. Gives the transfer of the next try, unless the try was the last one, and what comes next.
 pub(crate) fn tried(transfer: Transfer, moved: u32) -> (Option<Transfer>, Task)
     requires moved { moved < (segment_of (state_of transfer)).count }
     ensures next { result.1 ≡ task_for (step_for moved (state_of transfer)) ((state_of transfer).done + moved) }

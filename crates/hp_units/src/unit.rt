@@ -1,4 +1,4 @@
-// One unit: its queue, its drive, and where it is with the head of its queue.
+// One unit: its queue, its drive, and how far it is with the head of its queue.
 ghost use Rattle.std.specs.Prelude.{ℕ, ◌≡◌, ◌<◌, ◌≤◌, ◌+◌, ◌/◌, ◌==◌, ◌&&◌, ◌∷◌, ◌^◌, [], length, drop, not, true, false, if◌then◌else◌, IfOk, IfSome, IfNone, Option};
 ghost use Rattle.pack_geometry.specs.Geometry.{cylinders_of, sectors_of, IsInside};
 ghost use Rattle.drive_registers.specs.Codes.{offset_field};
@@ -32,14 +32,14 @@ use std::alloc::Global;
 use std::marker::Model;
 use transfer_engine::{Segment, Transfer};
 
-/// How many slots there can be, each of which can wait at any unit.
+/// How many slots there can be. All of them can wait at one unit.
 const SLOTS: u32 = 16_384;
 
 /// How many cylinders the largest drive has.
 const CYLINDERS: u32 = 823;
 
-/// A unit, which is set up or not: the requests that wait at it in the order in which it serves them, where it is with the
-/// first of them and the transfer of that one, its drive, and the table of its pack.
+/// A unit, which is set up or not: the requests that wait at it, in the order in which it serves them; how far it is with
+/// the first of these requests, and that request's transfer; its drive; and the table of its pack.
 #[derive(Drop)]
 pub struct DiskUnit {
     declared: bool,
@@ -80,7 +80,7 @@ fn attached_drive(kind: DriveKind, unit: u8) -> Drive
 }
 
 impl DiskUnit {
-    /// A unit that is not set up, at which none can wait.
+    /// A unit that is not set up, at which no request can wait. `NoMemory` if there is no memory for it.
     pub fn blank(alloc: Global) -> Result<DiskUnit, NoMemory>
         ensures { IfOk result (λ unit. unit ≡ no_unit) }
     {
@@ -95,7 +95,7 @@ impl DiskUnit {
         })
     }
 
-    /// A unit that is set up, with room for each slot in its queue, and its drive attached.
+    /// A unit that is set up. Its queue has room for each slot, and its drive is attached. `NoMemory` if there is no memory for it.
     pub fn set_up(
         alloc: Global,
         unit: u8,
@@ -122,7 +122,7 @@ impl DiskUnit {
         self.declared
     }
 
-    /// The slot of the request in hand. None where the queue is empty.
+    /// The slot of the request in hand. None if the queue is empty.
     pub fn head(&self) -> Option<u32>
         ensures slot { IfSome result (λ p. p ≡ slot_in_hand self.now) }
         ensures some { IfSome result (λ p. 0 < length self.now.queue) }
@@ -132,14 +132,14 @@ impl DiskUnit {
         Some(waiter.number)
     }
 
-    /// How many requests wait at the unit, with the one in hand.
+    /// How many requests wait at the unit, including the one in hand.
     pub fn queue_len(&self) -> u32
         ensures { result ≡ length self.now.queue }
     {
         self.queue.len()
     }
 
-    /// Where the unit is with the head of its queue.
+    /// How far the unit is with the head of its queue.
     pub fn phase(&self) -> Phase
         ensures { result ≡ self.now.phase }
     {
@@ -180,7 +180,7 @@ impl DiskUnit {
         }
     }
 
-    /// What the drive status says before a command, which is a write's transfer command or not.
+    /// What the drive status says before a command. `writes` says whether the command is the transfer command of a write.
     pub fn sensed(&self, writes: bool) -> Sensed
         ensures { result ≡ (if not self.now.drive.online then Sensed.Offline
             else if writes && self.now.drive.locked then Sensed.Locked else Sensed.Go) }
@@ -195,7 +195,7 @@ impl DiskUnit {
         needs_pack(self.drive.read_register(Register::Ds))
     }
 
-    /// Why the transfer ended, by what the drive's registers show and by whether the adapter shows data late.
+    /// Why the transfer ended, by what the drive's registers show. `late` says whether the adapter shows data late.
     pub fn cause(&self, late: bool) -> DataCause
         requires left { AreLeft (registers_of self.now.drive late) }
         ensures { (verdict : Moved) → (before : DriveState) → (block : ℕ) → IsLeftBy verdict before block (registers_of self.now.drive late)
@@ -229,21 +229,21 @@ impl DiskUnit {
         decide(self.kind(), here, look, target, true)
     }
 
-    /// What the next transfer command moves. Where no transfer is begun it is nothing.
+    /// What the next transfer command moves. If no transfer is begun, it moves nothing.
     pub fn segment(&self) -> Segment
         ensures { result ≡ segment_of (transfer_of self.now) }
     {
         segment_in(&self.transfer)
     }
 
-    /// How many first blocks of the request in hand are done.
+    /// How many blocks of the request in hand are done, from the first one on.
     pub fn done(&self) -> u32
         ensures { result ≡ (transfer_of self.now).done }
     {
         done_in(&self.transfer)
     }
 
-    /// The next step of a retry, behind so many that are taken. None where all are.
+    /// The next step of a retry, after `taken` steps. None if all steps are taken.
     pub fn next_step(&self, taken: u32, write: bool) -> Option<RetryStep>
         requires kind { (transfer_of self.now).job.kind ≡ self.now.drive.kind }
         requires write { (transfer_of self.now).job.write ≡ write }
@@ -253,8 +253,8 @@ impl DiskUnit {
         step_in(&self.transfer, self.kind(), write, taken)
     }
 
-    /// The entry of the pack's table whose replacement takes the place of the sector behind so many others. None where the
-    /// sector is a replacement or its place is not listed.
+    /// The entry of the pack's table whose replacement takes the place of the sector behind `moved` others. None if the
+    /// sector is itself a replacement, or if its place is not listed.
     pub fn entry(&self, moved: u32) -> Option<u8>
         requires begun { self.now.transfer ≡ Some (transfer_of self.now) }
         requires kind { (transfer_of self.now).job.kind ≡ self.now.drive.kind }
@@ -264,7 +264,7 @@ impl DiskUnit {
         listed_in(&self.transfer, &self.table, self.kind(), moved)
     }
 
-    /// The pack turns until a sector comes under the heads.
+    /// Turns the pack until a sector comes under the heads.
     pub fn turn(&mut self, sector: u32)
         requires { sector < sectors_of self.old.drive.kind }
         ensures { self.new ≡ with_drive (turned sector) self.old }
@@ -272,7 +272,7 @@ impl DiskUnit {
         self.drive.turn(sector);
     }
 
-    /// A fault is armed for so many more times.
+    /// Arms a fault: it is to strike `times` more times, from 1 to 1,000.
     pub fn arm(&mut self, kind: FaultKind, times: u32)
         requires some { 1 ≤ times }
         requires few { times ≤ 1000 }
@@ -282,14 +282,14 @@ impl DiskUnit {
         self.drive.arm_fault(kind, times);
     }
 
-    /// The drive goes online, or offline.
+    /// Brings the drive online, or takes it offline.
     pub fn set_online(&mut self, on: bool)
         ensures { self.new ≡ with_drive (online_set on) self.old }
     {
         self.drive.set_online(on);
     }
 
-    /// The drive is write locked, or unlocked.
+    /// Write locks the drive, or unlocks it.
     pub fn set_locked(&mut self, on: bool)
         ensures { self.new ≡ with_drive (locked_set on) self.old }
     {

@@ -7,7 +7,7 @@ use std::alloc::Global;
 use std::collections::VecDeque;
 use std::marker::Model;
 
-/// The answers that wait, oldest first, with room reserved for as many as there may be.
+/// The answers that wait, oldest first. Room is reserved for as many as there may be.
 #[derive(Drop)]
 pub struct Answers {
     waiting: VecDeque<Made>,
@@ -27,7 +27,7 @@ impl Model for Answers {
 }
 
 impl Answers {
-    /// No answer waits, and so many may.
+    /// An empty queue, which reserves room for `most` answers. `NoMemory` if the room is not available.
     pub fn new(alloc: Global, most: u32) -> Result<Answers, NoMemory>
         ensures { IfOk result (λ a. a ≡ record { made = []; most = most }) }
     {
@@ -35,7 +35,7 @@ impl Answers {
         Ok(Answers { waiting, most })
     }
 
-    /// The oldest answer. None where none waits.
+    /// The oldest answer. None if no answer waits.
     pub fn first(&self) -> Option<Made>
         ensures some { IfSome result (λ made. self.now.made ≡ made ∷ drop 1 self.now.made) }
         ensures none { IfNone result (self.now.made ≡ []) }
@@ -46,7 +46,7 @@ impl Answers {
         }
     }
 
-    /// An answer waits.
+    /// Puts an answer behind those that wait.
     pub fn push(&mut self, made: Made)
         requires { length self.old.made < self.old.most }
         ensures { self.new ≡ record self.old { made = self.old.made ++ made ∷ [] } }
@@ -54,7 +54,7 @@ impl Answers {
         self.waiting.push_back_reserved(made);
     }
 
-    /// The oldest answer is taken.
+    /// Takes out the oldest answer.
     pub fn leave(&mut self)
         requires { 0 < length self.old.made }
         ensures { self.new ≡ record self.old { made = drop 1 self.old.made } }

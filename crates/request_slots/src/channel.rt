@@ -34,7 +34,7 @@ impl Channel {
         }
     }
 
-    /// The unit that waits longest. None where none waits.
+    /// The unit that has waited longest. None if no unit waits.
     pub fn first(&self) -> Option<u8>
         ensures some { IfSome result (λ u. self.now.queue ≡ u ∷ drop 1 self.now.queue) }
         ensures none { IfNone result (self.now.queue ≡ []) }
@@ -42,7 +42,7 @@ impl Channel {
         self.queue.first().copied()
     }
 
-    /// A unit waits.
+    /// Puts a unit behind those that wait.
     pub fn wait(&mut self, unit: u8)
         requires room { length self.old.queue < 32 }
         ensures { self.new ≡ waits_too unit self.old }
@@ -50,14 +50,14 @@ impl Channel {
         self.queue.push(unit);
     }
 
-    /// A unit waits no more, if it did.
+    /// Takes a unit out of those that wait, if it waits.
     pub fn leave(&mut self, unit: u8)
         ensures { self.new ≡ no_more_waits unit self.old }
     {
         self.queue.retain(|waiting| *waiting != unit);
     }
 
-    /// The attention of a drive goes up.
+    /// Raises the attention of a drive.
     pub fn raise(&mut self, drive: u8)
         requires { drive < 8 }
         ensures { self.new ≡ with_state (attention_raised drive) self.old }
@@ -65,7 +65,7 @@ impl Channel {
         self.adapter.raise_attention(drive);
     }
 
-    /// The attention of a drive goes down.
+    /// Clears the attention of a drive.
     pub fn lower(&mut self, drive: u8)
         requires { drive < 8 }
         ensures { self.new ≡ with_state (attention_lowered drive) self.old }

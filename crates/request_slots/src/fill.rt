@@ -13,7 +13,7 @@ use crate::asked::Asked;
 use ecc_repair::repair;
 use main_memory::{Buffer, Cpu, MainMemory, to_bus, to_cpu};
 
-// Piece `k` of the bytes, of 512 of them or of those that are left.
+// Piece `k` of the bytes: 512 of them, or those that are left.
 fn piece(bytes: &[u8], k: u32) -> &[u8]
     requires { 512 * k ≤ length bytes.now }
     ensures { result.now ≡ take 512 (drop (512 * k) bytes.now) }
@@ -22,7 +22,7 @@ fn piece(bytes: &[u8], k: u32) -> &[u8]
     &rest[..rest.len().min(512)]
 }
 
-// Puts bytes in front.
+// Puts bytes at the front of a block.
 fn put_front(block: &mut [u8], bytes: &[u8])
     requires { length bytes.now ≤ length block.old }
     ensures { block.new ≡ bytes.now ++ drop (length bytes.now) block.old }
@@ -30,7 +30,7 @@ fn put_front(block: &mut [u8], bytes: &[u8])
     block[..bytes.len()].copy_from_slice(bytes);
 }
 
-// Piece `k` of the bytes, and then zeros.
+// Piece `k` of the bytes, followed by zeros.
 fn block_at(bytes: &[u8], k: u32) -> [u8; 512]
     requires { 512 * k ≤ length bytes.now }
     ensures { result ≡ filled 512 (take 512 (drop (512 * k) bytes.now)) }
@@ -40,7 +40,7 @@ fn block_at(bytes: &[u8], k: u32) -> [u8; 512]
     block
 }
 
-// Stores piece `k` of the bytes into block `k` of the buffer, which is as long.
+// Stores piece `k` of the bytes into block `k` of the buffer, which has the same length.
 fn store_piece(memory: &mut MainMemory, buffer: &Buffer<Cpu>, k: u32, bytes: &[u8])
     requires shape { IsLoan buffer.now }
     requires lent { IsLent memory.old buffer.now }

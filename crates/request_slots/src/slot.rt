@@ -1,4 +1,4 @@
-// A slot: what the driver keeps of a request.
+// A slot: what the driver keeps about a request.
 ghost use Rattle.std.specs.Prelude.{◌≡◌, ◌<◌, true, None, Some, length, slice_set, IsSome, IfOk, replicate};
 ghost use Rattle.slab.specs.Slab.{HasRoomFor};
 ghost use Rattle.request_slots.specs.declared.slot.Slot.{Slot};
@@ -27,7 +27,7 @@ pub struct Slot {
     pub buffer: Holder,
 }
 
-// So many free slots.
+// This many free slots.
 pub(crate) fn free_slots(alloc: Global, count: u32) -> Result<Slab<Slot>, NoMemory>
     ensures { IfOk result (λ slots. all_slots slots ≡ replicate count None) }
 {
@@ -45,7 +45,7 @@ pub fn slot_at(slots: &Slab<Slot>, number: u32) -> &Slot
     &slots[number as usize]
 }
 
-// Takes a slot out. What is put in next has its number.
+// Takes a slot out. The slot that is put in next gets its number.
 pub(crate) fn take_slot(slots: &mut Slab<Slot>, number: u32) -> Slot
     requires { IsSome (slot_in (all_slots slots.old) number) }
     ensures slot { slot_in (all_slots slots.old) number ≡ Some result }

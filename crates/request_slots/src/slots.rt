@@ -21,7 +21,7 @@ use slab::Slab;
 use std::alloc::Global;
 use std::marker::Model;
 
-// How many frames there are. As many requests can have buffers at a time.
+// How many frames there are. At most this many requests can have buffers at a time.
 const FRAMES: u32 = 16384;
 
 /// The slots of outstanding requests, by number: each is free, or has a request and its buffer.
@@ -45,8 +45,8 @@ impl Model for Slots {
 }
 
 impl Slots {
-    /// Takes main memory and so many slots, at most one for each frame; all are free. `NoMemory` where the memory is not
-    /// to be had. No later call takes any.
+    /// Takes main memory and `count` slots, at most one for each frame; all slots are free. `NoMemory` if the memory is
+    /// not available. No later call takes any memory.
     pub fn new(alloc: Global, count: u32) -> Result<Slots, NoMemory>
         ensures { IfOk result (λ s. s ≡ replicate (min count 16384) None) }
     {
@@ -55,8 +55,8 @@ impl Slots {
         Ok(Slots { memory, slots })
     }
 
-    /// The law of slots: each request in its slot is whole, and has no frame of another one; no more frames are lent than
-    /// there are, and at least one to each request.
+    /// The law of slots: each request is whole in its slot, and no two requests share a frame. No more frames are lent
+    /// than there are, and each request has at least one.
     pub fn law(&self)
         ensures whole { (p : ℕ) → (h : Held) → slot_at self.now p ≡ Some h → IsWhole h }
         ensures apart { (p q : ℕ) → (g h : Held) → p ≢ q → slot_at self.now p ≡ Some g → slot_at self.now q ≡ Some h
@@ -74,7 +74,7 @@ impl Slots {
         self.slots.capacity() as u32
     }
 
-    /// Puts a request into a free slot, with a buffer, and gives the slot. The bytes of a write go into the buffer.
+    /// Puts a request into a free slot, with a buffer, and gives the number of the slot. The bytes of a write go into the buffer.
     pub fn join(&mut self, asked: Asked, bytes: &[u8]) -> u32
         requires free { HasFree self.old }
         requires asked { IsAskable asked bytes.now }
@@ -93,7 +93,7 @@ impl Slots {
         put_slot(&mut self.slots, joined) as u32
     }
 
-    /// What the request in a slot asks.
+    /// What the request in a slot asks for.
     pub fn asked(&self, slot: u32) -> Asked
         requires { IsSome (slot_at self.now slot) }
         ensures { result ≡ asked_of (held_at self.now slot) }
@@ -159,8 +159,8 @@ impl Slots {
         outcome
     }
 
-    /// Repairs block `k` of the buffer of a slot, counted from 0: flips back the burst of this first place, counted from
-    /// 1, and pattern. What lies behind the end of a short block is not in memory.
+    /// Repairs block `k` of the buffer of a slot, counted from 0: flips the burst back whose first place, counted from 1,
+    /// is `at`, and whose pattern is `pattern`. What lies behind the end of a short block is not in memory.
     pub fn repair(&mut self, slot: u32, k: u32, at: u16, pattern: u16)
         requires there { IsSome (slot_at self.old slot) }
         requires cpu { (held_at self.old slot).on_bus ≡ false }
@@ -187,7 +187,7 @@ impl Slots {
         put_slot(&mut self.slots, repaired);
     }
 
-    /// The request in a slot has ended; it keeps its slot until it leaves.
+    /// Ends the request in a slot. The request keeps its slot until it leaves.
     pub fn end(&mut self, slot: u32)
         requires there { IsSome (slot_at self.old slot) }
         ensures { let h = held_at self.old slot in
@@ -196,7 +196,7 @@ impl Slots {
         end_slot(&mut self.slots, slot);
     }
 
-    /// Reads block `k` of the buffer of a slot, counted from 0: its bytes, and then zeros.
+    /// Reads block `k` of the buffer of a slot, counted from 0: the bytes of the block, and then zeros.
     pub fn block(&self, slot: u32, k: u32, into: &mut [u8; 512])
         requires there { IsSome (slot_at self.now slot) }
         requires cpu { (held_at self.now slot).on_bus ≡ false }
@@ -209,7 +209,7 @@ impl Slots {
         self.memory.fetch(buffer, k, into);
     }
 
-    /// The byte that all bytes of block `k` of the buffer of a slot are, counted from 0, where the memory knows it without reading them.
+    /// The byte that all bytes of block `k` of the buffer of a slot are, counted from 0, if the memory knows it without reading the block.
     pub fn fill(&self, slot: u32, k: u32) -> Option<u8>
         requires there { IsSome (slot_at self.now slot) }
         requires cpu { (held_at self.now slot).on_bus ≡ false }
@@ -222,7 +222,7 @@ impl Slots {
         self.memory.fill(buffer, k)
     }
 
-    /// The request in a slot leaves it. The slot and the frames of the request are free again.
+    /// Takes the request out of its slot. The slot and the frames of the request are free again.
     pub fn leave(&mut self, slot: u32)
         requires there { IsSome (slot_at self.old slot) }
         requires cpu { (held_at self.old slot).on_bus ≡ false }

@@ -1,7 +1,7 @@
-//! What a driver does after the failures at one physical sector: try again, off the centre of the track, after a recalibration,
-//! or give up.
+//! What a driver does after each failure at one physical sector: it tries again at once, or off the centre of the track,
+//! or after a recalibration, or it gives up.
 //!
-//! What is proved: `next_step` is the schedule, and GiveUp exactly at 28.
+//! What is proved: `next_step` is the schedule, and gives GiveUp exactly at failure 28.
 //!
 //! Nothing here is only tested.
 #![tactic(auto)]
@@ -15,20 +15,20 @@ use drive_registers::OffsetCode;
 /// What follows a failure.
 #[derive(Clone, Copy, PartialEq, Eq)]
 pub enum Step {
-    /// The transfer at once.
+    /// The transfer is tried again at once.
     Again,
-    /// The transfer with the heads off the centre.
+    /// The transfer is tried again with the heads off the centre.
     Offset(OffsetCode),
-    /// The heads go to cylinder 0 and back, and then off the centre where an offset is given.
+    /// The heads go to cylinder 0 and back, and then off the centre if an offset is given.
     Recalibrate(Option<OffsetCode>),
-    /// No further try.
+    /// There is no further try.
     GiveUp,
 }
 
-/// What follows the failure of this number at one physical sector, counted from 1.
+/// What follows failure `failures` at one physical sector, counted from 1 to 28.
 ///
-/// A recalibration comes after failures 4, 12 and 20; a read has an offset from failure 16 on, in the order of
-/// growing distance; failure 28 is the last.
+/// A recalibration comes after failures 4, 12 and 20. A read has an offset from failure 16 on, and the offsets come in
+/// the order of growing distance. Failure 28 is the last one.
 pub fn next_step(failures: u32, reads: bool) -> Step
     requires first { 1 ≤ failures }
     requires last { failures ≤ 28 }
@@ -46,7 +46,7 @@ pub fn next_step(failures: u32, reads: bool) -> Step
     }
 }
 
-// The offset that a try has after this failure.
+// The offset of the try after this failure.
 fn offset_for(failures: u32, reads: bool) -> Option<OffsetCode>
     requires { failures ≤ 28 }
     ensures { result ≡ offset_after failures reads }

@@ -1,7 +1,7 @@
-//! Positioning: whether a unit seeks or searches before a transfer, and the states on the way.
+//! Positioning: whether a unit seeks or searches before a transfer, and the states in which it does so.
 //!
-//! What is proved: `decide` is exact; `position` is Queued exactly for Ready; the states move, and a positioning's goal is
-//! never Ready.
+//! What is proved: `decide` is exact; `position` gives Queued exactly for Ready; the states are moved from one to the
+//! next, and the goal of a positioning is never Ready.
 #![tactic(auto)]
 
 ghost use Rattle.std.specs.Prelude.{◌≡◌, ◌≢◌, ◌<◌, ◌↔◌, IfOk, IsErr};
@@ -12,7 +12,7 @@ ghost use Rattle.seek_engine.specs.Seek.{position_for};
 use pack_geometry::{DriveKind, Place, geometry_of};
 use std::marker::Model;
 
-// How many sectors ahead of its target a search ends.
+// How many sectors before its target a search ends.
 const SEARCH_AHEAD: u32 = 3;
 
 /// What a unit does before its transfer: nothing, a SEARCH for a sector of a cylinder, or a SEEK to a cylinder.
@@ -23,10 +23,11 @@ pub enum Position {
     Seek { cylinder: u32 },
 }
 
-/// The positioning of a try at `target`, from the cylinder `here` and the look-ahead sector `look`.
+/// How a unit positions for a try at `target`, if its heads are on the cylinder `here` and the look-ahead sector is `look`.
 ///
-/// A first try is ready where the unit is on the target's cylinder and the target comes by 1 to 5 sectors later; else
-/// it searches for the sector 3 ahead of the target. A later try is ready on the target's cylinder; else it seeks.
+/// A first try is ready if the unit is on the target's cylinder and the target comes 1 to 5 sectors after `look`;
+/// otherwise the unit searches for the sector 3 before the target. A later try is ready if the unit is on the target's
+/// cylinder; otherwise the unit seeks.
 pub fn decide(kind: DriveKind, here: u32, look: u32, target: Place, first: bool) -> Position
     requires here { here < cylinders_of kind }
     requires look { look < sectors_of kind }
@@ -55,12 +56,12 @@ pub fn decide(kind: DriveKind, here: u32, look: u32, target: Place, first: bool)
     }
 }
 
-/// A unit that does nothing for its request.
+/// A unit that has begun nothing for its request.
 #[derive(Drop)]
 #[non_exhaustive]
 pub struct Waiting;
 
-/// A unit whose positioning has begun and has not ended. It is seen as its goal.
+/// A unit whose positioning has begun and has not ended. Contracts see it as its goal.
 #[derive(Drop)]
 pub struct Positioning {
     goal: Position,
@@ -91,7 +92,7 @@ impl Waiting {
         Waiting
     }
 
-    /// Queued exactly for `Ready`; else a positioning that keeps the goal.
+    /// Begins to position: Queued exactly for `Ready`, and otherwise a positioning that keeps the goal.
     pub fn position(self, goal: Position) -> Result<Positioning, Queued>
         ensures ready { IsErr result ↔ (goal ≡ Ready) }
         ensures goal { IfOk result (λ positioning. positioning ≡ goal) }
@@ -104,7 +105,7 @@ impl Waiting {
 }
 
 impl Positioning {
-    /// What it positions for, which is never `Ready`.
+    /// The goal for which the unit positions, which is never `Ready`.
     pub fn goal(&self) -> Position
         ensures goal { result ≡ self.now }
         ensures moving { result ≢ Ready }
@@ -112,7 +113,7 @@ impl Positioning {
         self.goal
     }
 
-    /// The positioning has ended.
+    /// Ends the positioning.
     pub fn arrived(self) -> Queued
         ensures { result ≡ record {} }
     {

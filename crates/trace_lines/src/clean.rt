@@ -10,13 +10,13 @@ use mass_text::FrontLine;
 /// How many bytes a line has at most.
 const END: usize = 64;
 
-/// The room of a line, of which the second half only fills up what is copied with the text.
+/// The room of a line. Its second half only fills up what is copied with the text.
 const ROOM: usize = 128;
 
 /// The text of the line of a sector that moved clean.
 pub type CleanLine = FrontLine<ROOM, END>;
 
-/// The law of how many digits a number has: at most 20 where it has 64 bits, 10 where it has 32, and 3 where it has 8.
+/// The law of the number of digits: a number of 64 bits has at most 20 digits, one of 32 bits at most 10, and one of 8 bits at most 3.
 fn digits_law()
     ensures long { (n : ℕ) → n < 2 ^ 64 → length (decimal n) ≤ 20 }
     ensures middle { (n : ℕ) → n < 2 ^ 32 → length (decimal n) ≤ 10 }
@@ -34,7 +34,7 @@ fn put_spaced(line: &mut CleanLine, value: u64)
     line.put_byte(b' ');
 }
 
-/// The line of the sector of a block that moved clean at a unit for the request of an id, with the number of the script's line.
+/// The line of a block's sector that moved clean at a unit, for the request with this id. `number` is the number of the script's line.
 pub fn clean_line(number: u64, unit: u8, id: u32, block: u32) -> CleanLine
     ensures { result ≡ moment_text (moments.Told number unit id (Sector block Clean)) }
 {

@@ -1,7 +1,7 @@
-//! The lines of a trace, as code writes them: each is the text of its moment; and those of the answers (`answers`).
+//! The lines of a trace, as code writes them: each line is the text of its moment. `answers` has the lines of the answers.
 //!
-//! What is proved: `LineText` with `write` and `write_idle`, `idle`, and `clean_line` for a sector that moved clean: the text of
-//! each line of a trace is that of its moment. A line is put together from its end, in its own room.
+//! What is proved: the text of each line of a trace is that of its moment. `LineText`, with `write` and `write_idle`, and
+//! `idle` write these lines, and `clean_line` writes that of a sector that moved clean. A line is put together from its end, in its own room.
 //!
 //! Only tested, in `picture_rows`: worked lines, beside their proofs.
 #![tactic(auto)]

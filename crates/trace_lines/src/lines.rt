@@ -77,15 +77,15 @@ impl LineText {
         &self.bytes[self.start..]
     }
 
-    /// Writes the line of a deed at a unit for the request of an id, with the number of the script's line, in place of what is
-    /// there. An end's line says nothing of its answer.
+    /// Writes the line of a deed at a unit, for the request with this id, in place of what is there. `number` is the
+    /// number of the script's line. The line of an end says nothing of the answer.
     pub fn write(&mut self, number: u64, unit: u8, id: u32, told: Told)
         ensures { (answer : Answer) → self.new ≡ moment_text (moments.Told number unit id (deed_of answer told)) }
     {
         self.start = put_line(&mut self.bytes, number, unit, id, &told);
     }
 
-    /// Writes the line of an event that found nothing to do, in place of what is there.
+    /// Writes the line of an event that found nothing to do, in place of what is there. `number` is the number of the script's line.
     pub fn write_idle(&mut self, number: u64)
         ensures { self.new ≡ moment_text (moments.Idle number) }
     {
@@ -93,7 +93,7 @@ impl LineText {
     }
 }
 
-/// The line of an event that found nothing to do.
+/// The line of an event that found nothing to do. `number` is the number of the script's line.
 pub fn idle(number: u64) -> LineText
     ensures { result ≡ moment_text (moments.Idle number) }
 {

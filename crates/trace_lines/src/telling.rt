@@ -1,12 +1,12 @@
 use drive_registers::OffsetCode;
 use trace_replay::Moved;
 
-/// What a line of the trace tells of: a command to a unit, or what the unit, its adapter and its request come to.
+/// What a line of the trace tells: a command to a unit, or what happens to the unit, to its adapter or to its request.
 #[derive(Clone, Copy)]
 pub enum Told {
-    /// A search for a cylinder and a sector.
+    /// A SEARCH for a sector of a cylinder.
     Search { cylinder: u32, sector: u32 },
-    /// A seek to a cylinder.
+    /// A SEEK to a cylinder.
     Seek { cylinder: u32 },
     /// A recalibration.
     Recal,
@@ -18,15 +18,15 @@ pub enum Told {
     Clear,
     /// A pack acknowledgement.
     Pack,
-    /// A transfer of so many sectors, a write or a read, from a block of the pack on.
+    /// A transfer of `count` sectors, a write or a read, from block `block` of the pack on.
     Transfer { write: bool, block: u32, count: u32 },
     /// A positioning ended.
     Arrive,
-    /// The sector of a block was tried.
+    /// The sector of a block was tried, with this verdict.
     Sector { block: u32, verdict: Moved },
     /// The data interrupt is taken.
     Intr,
-    /// A block failed, and how often it has.
+    /// The try at a block failed, for the `failures`th time.
     Try { block: u32, failures: u32 },
     /// The attention is taken.
     Attn,

@@ -1,5 +1,5 @@
-// Words of a line that is put together from its end: each function puts them in front of what stands from `start` on, and answers
-// where they start.
+// Words of a line that is put together from its end. Each function puts its words in front of what stands from `start`
+// on, and returns the place at which they start.
 ghost use Rattle.std.specs.Prelude.{◌≡◌, ◌≤◌, ◌+◌, ◌∷◌, [], ◌++◌, length, drop, decimal};
 ghost use Rattle.mass_text.specs.Numbers.{numeral};
 ghost use Rattle.mass_text.specs.declared.numbers.Radix.TheVariants.{Octal};
@@ -209,7 +209,7 @@ fn put_nothing(bytes: &mut [u8; ROOM], start: usize) -> usize
     start
 }
 
-/// Puts the words that a line is told with, which stand behind its numbers.
+/// Puts the words that tell what a line tells. They stand behind the line's numbers.
 pub(crate) fn put_last(bytes: &mut [u8; ROOM], start: usize, told: &Told) -> usize
     requires inside { start ≤ 160 }
     requires room { 80 ≤ start }

@@ -1,14 +1,12 @@
-//! Which traces are legal: the rules of a trace of the whole subsystem, over what is seen of a run alone, which are the script,
-//! the packs, and the lines of the trace with the answers that they make. The definitions stand in `specs/`; they know nothing
-//! of how a driver goes about it. The functions here do nothing: each stands for a law. What is asked and how it is answered
-//! stands in `requests`.
+//! Which traces are legal: the rules of a trace of the whole subsystem. They speak only of what is seen of a run: the
+//! script, the packs, and the lines of the trace with the answers that they make. The definitions stand in `specs/`, and
+//! know nothing of how a driver works. The functions here do nothing: each stands for a law. `requests` has what is asked and how it is answered.
 //!
-//! Defined in `specs/`: which traces are legal, over the script, the packs and the lines alone, as one state with a rule for
-//! each aspect.
+//! Defined in `specs/`: which traces are legal, over the script, the packs and the lines alone, as one state with a rule for each aspect.
 //!
-//! What is proved: `parts_law`, `frame_law`, `bytes_law`, `condition_law`. `one_trace_law`: for one script over the same packs
-//! at most one trace is legal. `cause_law`: each answer has its cause exactly. `bounds_law`: a request that meets only clean
-//! sectors and is answered ok has one transfer command and at most one search.
+//! What is proved: `parts_law`, `frame_law`, `bytes_law`, `condition_law`. `one_trace_law`: for one script over the same
+//! packs at most one trace is legal. `cause_law`: each answer has exactly its cause. `bounds_law`: a request that meets
+//! only clean sectors and is answered ok has one transfer command and at most one search.
 #![tactic(auto)]
 
 pub mod requests;
@@ -24,7 +22,8 @@ ghost use Rattle.trace_replay.specs.Runs.{OneRun, OneText, OnePacks, RunExplaine
 
 pub use hardware_table::{FaultKind, Moved, NoiseSpan};
 
-/// A moment may come exactly where it keeps each rule; and lists of moments that follow are those that follow in any two parts.
+/// A moment may come exactly if it keeps each rule. If a list of moments is divided into two parts anywhere, the list
+/// follows exactly if the first part follows and the second part follows after the first.
 pub fn parts_law()
     ensures rules { KeepsEach }
     ensures parts { FollowOn }
@@ -38,33 +37,34 @@ pub fn frame_law()
     ensures mark { ChangesNoMark }
 {}
 
-/// A sector is read as the hardware table has it, and a burst that was repaired gives the sector's bytes.
+/// A sector is read as the hardware table says, and a burst that was repaired gives the bytes of the sector.
 pub fn bytes_law()
     ensures read { ReadsAsTold }
     ensures repaired { RepairsBursts }
 {}
 
-/// Whether a unit is online, and whether it is locked, is what the script said last.
+/// Whether a unit is online, and whether it is locked, is what the script said last of that unit. Before the script says
+/// anything of a unit, the unit is online and not locked.
 pub fn condition_law()
     ensures { IsAsSaid }
 {}
 
-/// Each answer is explained by the lines of its request, its unit as its end comes, and the table of its pack: an error of a cause
-/// exactly where that cause holds, and ok exactly where all its blocks are done. Where it ends unforwarded, its first block
-/// not done has no home on its pack.
+/// The lines of a request, the state of its unit when its end comes, and the table of its pack explain its answer: it is
+/// an error of a cause exactly if that cause holds, and ok exactly if all blocks of the request are done. If a request
+/// ends unforwarded, its first block that is not done has no home on its pack.
 pub fn cause_law()
     ensures explained { AreExplained }
     ensures run { RunExplained }
     ensures unusable { AreUnusable }
 {}
 
-/// A request that is answered ok, and all of whose sectors are clean, has one transfer command and at most one search.
+/// A request that is answered ok, and whose sectors are all clean, has one transfer command and at most one search.
 pub fn bounds_law()
     ensures { OneTransfer }
 {}
 
-/// From one state at most one line may come. So for one script over the same packs at most one trace is legal, with its text and
-/// its answers and their bytes, and the packs are left in one way.
+/// From one state at most one line may come. Hence for one script over the same packs at most one trace is legal, and so
+/// its text, its answers, their bytes and the packs that it leaves are determined.
 pub fn one_trace_law()
     ensures step { OneStep }
     ensures trace { OneTrace }

@@ -1,4 +1,4 @@
-//! What each end of a segment makes of a transfer.
+//! What each way in which a segment ends makes of a transfer.
 ghost use Rattle.std.specs.Prelude.{◌≡◌, ◌≢◌, ◌<◌, ◌≤◌, ◌+◌, ◌↔◌, IfOk, IfErr, IfSome, IsErr, Option};
 ghost use Rattle.std.specs.Option.{option_copied};
 ghost use Rattle.pack_geometry.specs.Homes.{index_in};
@@ -13,7 +13,7 @@ use bad144_table::{BadTable, entries, position};
 use pack_geometry::{Place, place_of, replacement};
 use retry_offsets::{Step, next_step};
 
-/// A job at its beginning: nothing is done, and no try has failed.
+/// A job at its beginning: no block is done, and no try has failed.
 pub fn begin(job: Job) -> Direct
     requires { IsJob job }
     ensures { result ≡ begun job }
@@ -40,8 +40,7 @@ impl Transfer {
         }
     }
 
-    /// What the next transfer command moves: from the first block not done to the end of the job, or one replacement
-    /// sector.
+    /// What the next transfer command moves: the blocks from the first one that is not done to the end of the job, or one replacement sector.
     pub fn segment(&self) -> Segment
         ensures segment { result ≡ segment_of (state_of self.now) }
         ensures valid { IsTransfer (state_of self.now) }
@@ -61,7 +60,7 @@ impl Transfer {
         }
     }
 
-    /// How many first blocks of the job are done.
+    /// How many blocks of the job are done, from the first one on.
     pub fn done(&self) -> u32
         ensures done { result ≡ (state_of self.now).done }
         ensures valid { IsTransfer (state_of self.now) }
@@ -69,7 +68,7 @@ impl Transfer {
         self.parts().0.done
     }
 
-    /// How often tries failed at the sector with which the segment begins, at most 27 times.
+    /// How many tries failed at the sector with which the segment begins, at most 27.
     pub fn failures(&self) -> u32
         ensures failures { result ≡ (state_of self.now).failures }
         ensures valid { IsTransfer (state_of self.now) }
@@ -77,7 +76,7 @@ impl Transfer {
         self.parts().0.failures
     }
 
-    /// The whole segment is done. Finished exactly where the request is complete.
+    /// The whole segment is done. The result is Finished exactly if the request is complete.
     pub fn on_done(self) -> Next
         ensures { result ≡ after_done (state_of self) }
     {
@@ -85,8 +84,8 @@ impl Transfer {
         next(self.parts().0, done)
     }
 
-    /// `clean` sectors are done, and the one behind them, which was repaired. Finished exactly where the request is
-    /// complete.
+    /// `clean` sectors of the segment are done, and also the one behind them, which was repaired. The result is Finished
+    /// exactly if the request is complete.
     pub fn on_corrected(self, clean: u32) -> Next
         requires { clean < (segment_of (state_of self)).count }
         ensures { result ≡ after_corrected clean (state_of self) }
@@ -108,8 +107,8 @@ impl Transfer {
         listed(table?, place_of(job.kind, job.first + done + clean))
     }
 
-    /// The sector behind `clean` others is marked. Its replacement comes next. Unforwarded exactly where the sector is
-    /// a replacement or its place is not listed.
+    /// The sector behind `clean` others is marked, and its replacement comes next. Unforwarded exactly if the sector is
+    /// itself a replacement, or if its place is not listed in the table.
     pub fn on_bad_sector(
         self,
         clean: u32,
@@ -132,9 +131,8 @@ impl Transfer {
         })
     }
 
-    /// The try at the sector behind `clean` others failed. The same sector is tried again after a step: a replacement
-    /// stays at hand, and by own sectors the segment begins at the one that failed. Exhausted exactly at failure 28 at
-    /// that sector.
+    /// The try at the sector behind `clean` others failed. After a step of the retry the same sector is tried again: a
+    /// replacement stays at hand, and otherwise the segment begins at the sector that failed. Exhausted exactly at failure 28 at that sector.
     pub fn on_fault(self, clean: u32) -> Result<(Transfer, Step), Exhausted>
         requires { clean < (segment_of (state_of self)).count }
         ensures retry { IfOk result (λ retry. (retry.0 ≡ with_state self (failed clean (state_of self))) × (retry.1 ≡ step_for clean (state_of self))) }
@@ -152,7 +150,7 @@ impl Transfer {
         Ok((self.with(progress), step))
     }
 
-    // How far the job has come where a try behind `clean` sectors failed.
+    // How far the job has come if a try behind `clean` sectors failed.
     fn failed(&self, clean: u32) -> Progress
         requires { clean < (segment_of (state_of self.now)).count }
         ensures state { seen_as result (state_of self.now).index ≡ failed clean (state_of self.now) }
@@ -200,7 +198,7 @@ fn listed(table: &BadTable, place: Place) -> Option<u8>
     position(table, place)
 }
 
-// So many blocks are done.
+// This many blocks are done.
 fn next(progress: Progress, done: u32) -> Next
     requires valid { IsJob progress.job }
     requires bound { done ≤ progress.job.count }

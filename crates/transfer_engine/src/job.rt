@@ -2,8 +2,7 @@
 
 use pack_geometry::DriveKind;
 
-/// A request's blocks: the kind of the drive, the first block on the pack, how many blocks, and whether they are
-/// written.
+/// The blocks of a request: the kind of the drive, the first block on the pack, how many blocks there are, and whether they are written.
 #[derive(Clone, Copy)]
 pub struct Job {
     pub kind: DriveKind,
@@ -12,8 +11,7 @@ pub struct Job {
     pub write: bool,
 }
 
-/// What one transfer command moves: the first sector on the pack, the first block in the request's buffer, and how
-/// many of each.
+/// What one transfer command moves: its first sector on the pack, its first block in the request's buffer, and how many sectors and blocks.
 #[derive(Clone, Copy)]
 pub struct Segment {
     pub block: u32,

@@ -2,7 +2,7 @@
 
 use crate::job::Job;
 
-/// A job, its blocks that are done, and the failures at the sector with which its segment begins.
+/// A job, how many of its blocks are done, and the failures at the sector with which its segment begins.
 #[derive(Clone, Copy)]
 pub(crate) struct Progress {
     pub(crate) job: Job,

@@ -1,11 +1,11 @@
-//! The states of a transfer, as values that are moved: from the job's beginning by own sectors, at a replacement, or
-//! behind one by own sectors again.
+//! The states of a transfer, as values that are moved: by own sectors from the job's beginning, at a replacement, or by
+//! own sectors again behind a replacement.
 
 use crate::progress::Progress;
 use std::marker::Model;
 use thiserror::Error;
 
-/// A transfer by own sectors that was never forwarded. It is seen as the job, the blocks done and the failures.
+/// A transfer by own sectors that was never forwarded. Contracts see it as the job, the blocks done and the failures.
 #[derive(Drop)]
 pub struct Direct {
     pub(crate) progress: Progress,
@@ -22,8 +22,8 @@ impl Model for Direct {
     ghost invariant = { λ t. IsTransfer (seen_as t.progress None) };
 }
 
-/// A transfer of one replacement sector. It is seen as the job, the blocks done, the failures and the index in the
-/// pack's table.
+/// A transfer of one replacement sector. Contracts see it as the job, the blocks done, the failures and the index of the
+/// entry in the pack's table.
 #[derive(Drop)]
 pub struct Forwarded {
     pub(crate) progress: Progress,
@@ -41,7 +41,7 @@ impl Model for Forwarded {
     ghost invariant = { λ t. IsTransfer (seen_as t.progress (Some t.index)) };
 }
 
-/// A transfer by own sectors of what was left. It is seen as the job, the blocks done and the failures.
+/// A transfer of the remaining blocks, by own sectors. Contracts see it as the job, the blocks done and the failures.
 #[derive(Drop)]
 pub struct Continued {
     pub(crate) progress: Progress,
@@ -66,18 +66,18 @@ pub enum Transfer {
     Continued(Continued),
 }
 
-/// What follows blocks that are done: the request is complete, or there are blocks left.
+/// What follows when blocks are done: the request is complete, or there are blocks left.
 #[derive(Drop)]
 pub enum Next {
     Finished,
     More(Continued),
 }
 
-/// A marked sector has no replacement: it is a replacement itself, or its place is not listed.
+/// A marked sector has no replacement: the sector is itself a replacement, or its place is not listed.
 #[derive(Debug, Drop, Error)]
 #[error("unforwarded after {done} blocks")]
 pub struct Unforwarded {
-    /// How many first blocks of the request are done.
+    /// How many blocks of the request are done, from the first one on.
     pub done: u32,
 }
 
@@ -85,6 +85,6 @@ pub struct Unforwarded {
 #[derive(Debug, Drop, Error)]
 #[error("exhausted after {done} blocks")]
 pub struct Exhausted {
-    /// How many first blocks of the request are done.
+    /// How many blocks of the request are done, from the first one on.
     pub done: u32,
 }

@@ -1,16 +1,17 @@
-//! What a call of the driver comes to, whether it ends or a call outside fails in it. The functions here do nothing: each
-//! stands for a law.
+//! What a call of the driver comes to, whether it ends, or a call to the packs or to the trace fails in it. The functions
+//! here do nothing: each stands for a law.
 //!
-//! Defined in `specs/`: what a call comes to: its acts with their whole text; or the first ones with a front of their text,
-//! where the trace failed; or some acts, where the packs failed, with the next block of one write old or new.
+//! Defined in `specs/`: what a call comes to. A call that ends does all its acts and tells their whole text. If the trace
+//! fails, the call does the first of its acts and tells a front of their text. If the packs fail, it does some of its
+//! acts, and the next block of one write is old or new.
 //!
-//! What is proved: `outcome_law`: outcomes of calls one after the other join.
+//! What is proved: `outcome_law`: the outcomes of calls that come one after another join.
 
 ghost use Rattle.driver_laws.specs.answers.Outcome.{OneThenOther, StoppedBefore, NothingDone};
 
 use thiserror::Error;
 
-/// What stopped a call: the packs failed, or the trace.
+/// What stopped a call: the packs failed, or the trace failed.
 #[derive(Clone, Copy, Debug, Error)]
 pub enum Stop {
     /// A call of the packs failed.
@@ -21,8 +22,8 @@ pub enum Stop {
     Sink,
 }
 
-/// Outcomes join: what was done, and then what the rest came to, is what all of it came to; and where a call stopped, so did all
-/// that it was a part of.
+/// Outcomes join: what was done first and what the rest then came to make what the whole call came to. If a part of a
+/// call stopped, the whole call stopped.
 pub fn outcome_law()
     ensures nothing { NothingDone }
     ensures then { OneThenOther }

@@ -1,12 +1,12 @@
 //! A cache of blocks with delayed writes, as a list, and the requests of its calls. The function here does nothing: it stands for a law.
 //!
-//! What is proved: `cache_law`: a read leaves all cached contents and gives that of its block, a write makes that of its block what was
-//! written and leaves all others, and a sync makes the packs hold them everywhere. Behind the requests of each, a block on its pack has
-//! what it had, what was cached, or what was to be written.
+//! What is proved: `cache_law`: a read leaves all cached contents as they are and gives the content of its block; a write
+//! makes the content of its block what was written, and leaves all others as they are; a sync makes the packs hold all
+//! cached contents. After the requests of each call, a block on its pack holds what it held before, what was cached, or what was to be written.
 
 ghost use Rattle.driver_laws.specs.rules.CachedLaws.{ReadKeeps, WriteKeeps, SyncWrites, ReadLeavesOne, WriteLeavesOne, SyncLeavesOne};
 
-/// A block of a unit that is in the cache: its bytes, and whether they were changed since the pack had them.
+/// A block of a unit that is in the cache: its bytes, and whether they changed since the pack had them.
 #[derive(Clone, Copy)]
 pub struct Entry {
     pub unit: u8,
@@ -15,7 +15,7 @@ pub struct Entry {
     pub changed: bool,
 }
 
-/// What is cached stays through reads, changes at one block in a write, and is on the packs after a sync.
+/// Reads leave the cached contents as they are, a write changes them at one block, and a sync puts them on the packs.
 pub fn cache_law()
     ensures reads { ReadKeeps }
     ensures writes { WriteKeeps }

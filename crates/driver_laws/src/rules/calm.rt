@@ -1,12 +1,12 @@
-//! What stays where nothing hinders: no drive is offline or locked, no fault is armed and no noise is live. The function here does
-//! nothing: it stands for a law.
+//! What stays if nothing hinders: no drive is offline or locked, no fault is armed and no noise is live. The function
+//! here does nothing: it stands for a law.
 //!
-//! What is proved: `calm_law`: a replay that is calm so stays calm where no input changes a condition, and each request that joins
-//! ends ok or unforwarded.
+//! What is proved: `calm_law`: such a calm replay stays calm if no input changes a condition, and each request that joins
+//! it ends ok or unforwarded.
 
 ghost use Rattle.driver_laws.specs.rules.Calm.{StaysCalm, RunsStayCalm, EndsAreCalm};
 
-/// A replay that is calm stays so, moment by moment, where no input changes a condition. A request that joined then ends ok or
+/// A calm replay stays calm, moment by moment, if no input changes a condition. A request that joined then ends ok or
 /// unforwarded.
 pub fn calm_law()
     ensures stays { StaysCalm }

@@ -1,12 +1,12 @@
-//! What is promised of a run, in the words of its script, its packs and its answers, and that each legal run keeps it; and what
-//! is promised of a run that was begun. The functions here do nothing: each stands for a law.
+//! What is promised of a run, in the words of its script, its packs and its answers; each legal run keeps it. And what is
+//! promised of a run that was begun. The functions here do nothing: each stands for a law.
 //!
-//! Defined in `specs/`: what is promised of a run, in the words of its script, its packs and its answers (`Promises`), and a
-//! request that nothing hinders.
+//! Defined in `specs/`: what is promised of a run, in the words of its script, its packs and its answers (`Promises`),
+//! and which requests nothing hinders.
 //!
-//! What is proved: `promises_law`: all of it holds of each legal run. `beginnings_law`: what holds of a run that was begun,
-//! however it goes on: its answers so far are legal and have their causes, and each data block holds what the answered writes
-//! left, but for the first blocks of one request of each unit that is not answered yet.
+//! What is proved: `promises_law`: each legal run keeps all that is promised. `beginnings_law`: what holds of a run that
+//! was begun, however it goes on: its answers so far are legal and have their causes, and each data block holds what the
+//! answered writes left, except that the first blocks of one request of each unit, which is not answered yet, may be written already.
 
 ghost use Rattle.std.specs.Prelude.{ℕ, Option, List};
 ghost use Rattle.pack_geometry.specs.Pack.{Pack};
@@ -26,7 +26,7 @@ use crate::rules::work::{consistent_law, told_causes_law};
 use pack_geometry::packs::pack_table_law;
 use trace_replay::{bounds_law, cause_law, one_trace_law};
 
-/// The law of the headline: all that is promised holds of each legal run.
+/// The law of the headline: each legal run keeps all that is promised.
 pub fn promises_law()
     ensures { (script : Script) → (tables : ℕ → Option Table) → (old new : ℕ → Pack) → (moments : List Moment)
         → IsLegalRun script tables old new moments → Promises script tables old new moments }
@@ -46,10 +46,10 @@ pub fn promises_law()
     pack_table_law();
 }
 
-/// The law of a run that was begun, however it goes on: its answers so far are legal and have their causes, and where the packs are left
-/// as the replay has them, each data block holds what the answered writes left, but for the first blocks of one request of each unit.
-/// The same is promised where the next block of one write is there already. Moments that tell of no sector leave the packs alone: the same
-/// is promised of each front of them.
+/// The law of a run that was begun, however it goes on: its answers so far are legal and have their causes. If the packs
+/// are left as the replay has them, each data block holds what the answered writes left, except for the first blocks of
+/// one request of each unit. The same is promised if the next block of one write is there already. Moments that tell of
+/// no sector leave the packs alone, and the same is promised of each front of them.
 pub fn beginnings_law()
     ensures begun { BeginningsKeep }
     ensures next { NextBlocksKeep }

@@ -1,17 +1,18 @@
-//! One request at a time, waited for: from a replay at rest, whatever the heads and registers are, it has one answer, which what the packs
-//! hold gives by itself; and the replay after it rests again. The function here does nothing: it stands for a law.
+//! One request at a time, which is waited for: from a replay at rest, whatever the heads and registers are, it has one
+//! answer, which depends only on what the packs hold, and the replay after it rests again. The function here does
+//! nothing: it stands for a law.
 //!
-//! What is proved: `waited_law`: from a replay at rest over packs with its tables, a request that is submitted and drained has just
-//! the answer that its partition and the map of contents give; the homes hold the map after it, all other sectors stay, and the replay
-//! after it rests again. The start of a script rests. `moves_law`: each block that is done has its clean line.
+//! What is proved: `waited_law`: from a replay at rest over packs with its tables, a request that is submitted and
+//! drained has exactly the answer that its partition and the map of contents give. The homes hold the map after it, all
+//! other sectors stay, and the replay after it rests again. The start of a script rests. `moves_law`: each block that is done has its clean line.
 
 ghost use Rattle.driver_laws.specs.rules.Rest.{StartRests};
 ghost use Rattle.driver_laws.specs.rules.Waited.{WaitedIsAnswered, RestsAgain, PacksHoldMap};
 ghost use Rattle.driver_laws.specs.rules.Cleans.{DoneMovesClean};
 
-/// The start over packs rests. A request that is waited for from a replay at rest is answered once: by its partition where that refuses
-/// it, ok where all its blocks can be used, and else unforwarded at the first that can't; the homes hold the map behind that answer, and
-/// where the packs are left so the replay rests again over them.
+/// The start over packs rests. A request that is waited for from a replay at rest is answered once: by its partition, if
+/// that refuses it; ok, if all its blocks can be used; and otherwise unforwarded at the first block that cannot. The
+/// homes hold the map after that answer, and if the packs are left so, the replay rests again over them.
 pub fn waited_law()
     ensures start { StartRests }
     ensures answered { WaitedIsAnswered }
@@ -19,7 +20,7 @@ pub fn waited_law()
     ensures packs { PacksHoldMap }
 {}
 
-/// Each block that a request that is waited for has done moved clean: among its lines is one that tells so of a sector at the block's home.
+/// Each block that a request that is waited for has done moved clean: one of the request's lines tells this of the sector at the block's home.
 pub fn moves_law()
     ensures { DoneMovesClean }
 {}

@@ -1,21 +1,22 @@
-//! The driver's bytes: for which map of blocks the driver stands with its packs, between any two acts and whatever led to it. The
-//! functions here do nothing: each stands for a law.
+//! The bytes of the driver: for which map of blocks the driver and its packs stand between any two acts, whatever led to
+//! them. The functions here do nothing: each stands for a law.
 //!
-//! Defined in `specs/`: what homes, buffers and tables hold for a map (`Bears`), with the answers that wait as its steps.
+//! Defined in `specs/`: what homes, buffers and tables hold for a map (`Bears`). The answers that wait are its steps.
 //!
-//! What is proved: `rest_law`: with nothing outstanding the driver stands for what its packs hold; a new driver is so. `calls_law`:
-//! each act, submission, event and taking of an answer keeps the map that the driver stands for, up to the answers that then wait.
+//! What is proved: `rest_law`: a driver with nothing outstanding stands for what its packs hold, and this holds of a new
+//! driver. `calls_law`: each act, submission, event and taking of an answer keeps the map that the driver stands for, up
+//! to the answers that then wait.
 
 ghost use Rattle.driver_laws.specs.shown.QuietLaws.{RestBears, NewRests, ActsBear, SubmissionsBear, EventsBear, TakingsBear, WritesStay};
 
-/// With nothing outstanding the driver stands for what its packs hold, where its tables are theirs; and a new driver is so.
+/// A driver with nothing outstanding stands for what its packs hold, if its tables are those of the packs. This holds of a new driver.
 pub fn rest_law()
     ensures rest { RestBears }
     ensures new { NewRests }
 {}
 
-/// Each act keeps the map that the driver stands for, and so do the acts of each submission and event, also where the trace cut them
-/// short; an answer that is taken leads to the map behind it.
+/// Each act keeps the map that the driver stands for. The acts of each submission and event do the same, even if a
+/// failure of the trace cut them short. An answer that is taken leads to the map after it.
 pub fn calls_law()
     ensures act { ActsBear }
     ensures submit { SubmissionsBear }

@@ -1,21 +1,21 @@
-//! What a run leaves of its packs is what the replay leaves; and a run is a legal run. The functions here do nothing: each
-//! stands for a law.
+//! A run leaves its packs as the replay leaves them, and a run is a legal run. The functions here do nothing: each stands for a law.
 //!
-//! What is proved: `act_law`: an act changes nothing that an image has after its last sector, and no pack of a unit that is not
-//! set up. `kept_law`: so do runs of acts, from the start on, call by call. `left_law`: between any two calls the packs are
-//! left as the replay has them, and where no event can come after the inputs of a script the run is a legal run of it.
+//! What is proved: `act_law`: an act changes nothing that an image has after its last sector, and no pack of a unit that
+//! is not set up. `kept_law`: from the start on, call by call, runs of acts change nothing of these either. `left_law`:
+//! between any two calls the packs are left as the replay has them, and if no event can come after the inputs of a
+//! script, the run is a legal run of that script.
 
 ghost use Rattle.driver_laws.specs.shown.RunsActs.{BeyondStays, OthersStay};
 ghost use Rattle.driver_laws.specs.shown.NextBlock.{NextBlocksShow};
 ghost use Rattle.driver_laws.specs.shown.RunsRuns.{StartsKept, RunsKeep, EventsKeep, SubmissionsKeep, AnswersKeep, PacksAreLeft, RunsAreLegal};
 
-/// An act that is allowed changes nothing that an image has behind its last sector, and no pack of a unit that is not set up.
+/// An act that is allowed changes nothing that an image has after its last sector, and no pack of a unit that is not set up.
 pub fn act_law()
     ensures beyond { BeyondStays }
     ensures others { OthersStay }
 {}
 
-/// From the start of a run on each call keeps what is no sector of a unit that is there.
+/// From the start of a run on, each call keeps whatever is not a sector of a unit that is there.
 pub fn kept_law()
     ensures start { StartsKept }
     ensures acts { RunsKeep }
@@ -24,14 +24,14 @@ pub fn kept_law()
     ensures taken { AnswersKeep }
 {}
 
-/// So the packs are left as the replay has them, and at its end a run is a legal run of its script.
+/// Hence the packs are left as the replay has them, and at its end a run is a legal run of its script.
 pub fn left_law()
     ensures packs { PacksAreLeft }
     ensures legal { RunsAreLegal }
 {}
 
-/// Where the packs failed at a block that was to be written, it is the next block of a write as the replay has it, and the packs are
-/// left as the replay has them with this block.
+/// If the packs failed at a block that was to be written, that block is the next block of a write as the replay has it,
+/// and the packs are left as the replay has them with this block.
 pub fn next_block_law()
     ensures { NextBlocksShow }
 {}

@@ -62,7 +62,7 @@ fn go_step(drive: &mut Drive, step: RetryStep)
 }
 
 impl DiskUnit {
-    /// A request joins, by its slot and its first block.
+    /// A request joins the queue, by its slot and its first block.
     pub fn join(&mut self, slot: u32, first: u32)
         requires declared { self.old.declared ≡ true }
         requires room { length self.old.queue < 16384 }
@@ -75,14 +75,14 @@ impl DiskUnit {
         self.queue.insert(slot, place.cylinder);
     }
 
-    /// The positioning that is under way ends.
+    /// Ends the positioning that is under way.
     pub fn arrive(&mut self)
         ensures { self.new ≡ with_drive arrived self.old }
     {
         self.drive.arrive();
     }
 
-    /// The attention is taken; the retry's next step is due, or the unit is ready.
+    /// Takes the attention. Then the next step of the retry is due, after `taken` steps; if no step is left, the unit becomes ready.
     pub fn attend(&mut self, taken: u32)
         ensures { self.new ≡ going_to (phase.Due (task.Steps taken)) attention_cleared self.old }
     {
@@ -92,7 +92,7 @@ impl DiskUnit {
         };
     }
 
-    /// Issues SEARCH for a first try at a target, and begins the transfer.
+    /// Issues SEARCH for a first try at a target, and begins the transfer. `sector` is the sector at which the search ends.
     pub fn search(&mut self, target: Place, sector: u32, job: Job)
         requires cylinder { target.cylinder < 65536 }
         requires track { target.track < 256 }
@@ -113,7 +113,7 @@ impl DiskUnit {
         self.transfer = Some(Transfer::Direct(begin(job)));
     }
 
-    /// Issues RECAL, SEEK or OFFSET, a step of a retry; so many are then taken.
+    /// Issues RECAL, SEEK or OFFSET, as this step of a retry says. Afterwards `taken` steps are taken.
     pub fn step(&mut self, step: RetryStep, taken: u32)
         requires cylinder { (cylinder : ℕ) → step ≡ retry_step.Seek cylinder → cylinder < 65536 }
         requires ready { is_ready self.old.drive.work ≡ true }
@@ -124,7 +124,7 @@ impl DiskUnit {
         self.phase = Phase::Positioning { taken };
     }
 
-    /// Issues RCOM or WCOM from a block on.
+    /// Issues RCOM, or WCOM for a write, from a block of the pack on.
     pub fn transfer(&mut self, write: bool, block: u32)
         requires block { block < block_count self.old.drive.kind }
         requires ready { is_ready self.old.drive.work ≡ true }
@@ -150,7 +150,7 @@ impl DiskUnit {
         self.drive.go(Function::Pack);
     }
 
-    /// The data interrupt was taken: so many sectors moved clean, and this is why the transfer ended.
+    /// The data interrupt was taken: `moved` sectors moved clean, and `cause` is why the transfer ended.
     pub fn interrupt(&mut self, moved: u32, cause: DataCause)
         ensures { (verdict : Moved) → cause ≡ cause_of verdict → self.new ≡ in_phase (phase.Due (interrupted moved verdict)) self.old }
     {
@@ -162,7 +162,7 @@ impl DiskUnit {
         self.phase = Phase::Due { task };
     }
 
-    /// Issues DCLR, behind which the verdict is judged.
+    /// Issues DCLR. The verdict is judged next.
     pub fn clear(&mut self, moved: u32, verdict: Moved)
         requires ready { is_ready self.old.drive.work ≡ true }
         ensures { self.new ≡ going_to (phase.Due (task.Judge moved verdict)) (performed ClearFunction) self.old }
@@ -173,7 +173,7 @@ impl DiskUnit {
         };
     }
 
-    /// Issues RTC, behind which no offset is set.
+    /// Issues RTC. Afterwards no offset is set.
     pub fn centre(&mut self)
         requires ready { is_ready self.old.drive.work ≡ true }
         ensures { self.new ≡ with_drive centred self.old }
@@ -182,7 +182,7 @@ impl DiskUnit {
         self.drive.write_register(Register::Of, Of::FMT22.bits());
     }
 
-    /// The unit is ready at once for a new transfer.
+    /// Begins a new transfer, for which the unit is ready at once.
     pub fn begin(&mut self, job: Job)
         requires job { IsJob job }
         ensures { self.new ≡ record self.old { phase = phase.Queued; transfer = Some (begun job) } }
@@ -191,7 +191,7 @@ impl DiskUnit {
         self.transfer = Some(Transfer::Direct(begin(job)));
     }
 
-    /// The unit is ready for the transfer that is there.
+    /// The unit becomes ready for the transfer that it has begun.
     pub fn ready(&mut self)
         requires begun { self.old.transfer ≡ Some (transfer_of self.old) }
         ensures { self.new ≡ record self.old { phase = phase.Queued; transfer = Some (transfer_of self.old) } }
@@ -199,7 +199,7 @@ impl DiskUnit {
         self.phase = Phase::Queued;
     }
 
-    /// A block was repaired in the buffer: with it so many moved clean, which is judged again.
+    /// A block was repaired in the buffer. Counting that block, `moved` sectors moved clean, and this is judged again.
     pub fn judge_again(&mut self, moved: u32)
         ensures { self.new ≡ in_phase (phase.Due (task.Judge moved verdict.Clean)) self.old }
     {
@@ -211,8 +211,8 @@ impl DiskUnit {
         };
     }
 
-    /// The replacement of the sector behind so many others comes next, and its entry is given. None where the sector is a
-    /// replacement or its place is not listed, and then the unit stays as it was.
+    /// Makes the replacement of the sector behind `moved` others come next, and gives its entry. None if the sector is
+    /// itself a replacement, or if its place is not listed; then the unit stays as it was.
     pub fn forward(&mut self, moved: u32) -> Option<u8>
         requires begun { self.old.transfer ≡ Some (transfer_of self.old) }
         requires kind { (transfer_of self.old).job.kind ≡ self.old.drive.kind }
@@ -232,7 +232,7 @@ impl DiskUnit {
         Some(index)
     }
 
-    /// The blocks behind so many that moved come next.
+    /// Makes the blocks behind the `moved` ones that are done come next.
     pub fn go_on(&mut self, moved: u32)
         requires begun { self.old.transfer ≡ Some (transfer_of self.old) }
         requires some { 1 ≤ moved }
@@ -249,8 +249,8 @@ impl DiskUnit {
         };
     }
 
-    /// The try at the sector behind so many others failed: which block that is, how often it has failed, and what comes next.
-    /// Behind the last try the unit has no transfer.
+    /// The try at the sector behind `moved` others failed. Gives the block of that sector, how many tries at it have
+    /// failed, and what comes next. After the last try the unit has no transfer.
     pub fn retry(&mut self, moved: u32) -> (u32, u32, Task)
         requires begun { self.old.transfer ≡ Some (transfer_of self.old) }
         requires moved { moved < (segment_of (transfer_of self.old)).count }
@@ -270,7 +270,7 @@ impl DiskUnit {
         (block, number, task)
     }
 
-    /// The request in hand has ended: it leaves the queue, and its transfer is let go.
+    /// Ends the request in hand: it leaves the queue, and its transfer is dropped.
     pub fn end(&mut self)
         ensures { self.new ≡ record self.old { queue = drop 1 self.old.queue; phase = phase.Waiting; transfer = None } }
     {

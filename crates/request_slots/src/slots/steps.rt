@@ -15,11 +15,11 @@ use outside_traits::traits::{Packs, StoreFailed};
 
 impl Slots {
     /// Moves one sector of a transfer between the pack and the buffer of a slot, which the adapter has, as
-    /// [`Adapter::step_sector`] does. A sector that is read is the next block of that slot, the front of it where this is
-    /// shorter; else no slot changes.
+    /// [`Adapter::step_sector`] does. A sector that is read becomes the next block of that slot, or the front of the
+    /// sector does if the block is shorter. Otherwise no slot changes.
     ///
-    /// `StoreFailed` comes only where the packs' count of failures rose; then the slots, the adapter, the drive and
-    /// the book are as before, and the block of a write that was found unmarked is old or new.
+    /// `StoreFailed` comes only if the packs' count of failures rose. Then the slots, the adapter, the drive and the book
+    /// are as before; if a write found the block unmarked, that block is old or new.
     pub fn step<P: Packs>(
         &mut self,
         slot: u32,
@@ -48,7 +48,7 @@ impl Slots {
         ensures size { let k = next_window adapter.old in
             length (block_in (held_at self.new slot) k) ≡ size_at (held_at self.old slot).loan k }
 
-        // A drive that is stopped asks nothing of the packs.
+        // A drive that is stopped asks the packs for nothing.
         ensures stopped { IsSome (stop_of drive.old) → IsOk result × (packs.new ≡ packs.old) }
 
         // A failure.

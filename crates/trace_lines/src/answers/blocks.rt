@@ -36,7 +36,7 @@ impl BlockLine {
         self.text.as_bytes()
     }
 
-    /// Writes the line of block `k`, from 0, which has 1 to 512 bytes, in place of what is there.
+    /// Writes the line of block `k`, counted from 0, in place of what is there. The block has 1 to 512 bytes.
     pub fn write(&mut self, k: u32, bytes: &[u8])
         requires some { 1 ≤ length bytes.now }
         requires few { length bytes.now ≤ 512 }

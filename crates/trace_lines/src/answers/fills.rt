@@ -1,4 +1,4 @@
-// The line of a block whose bytes are all one byte, put together from its end.
+// The line of a block whose bytes are all the same, put together from its end.
 ghost use Rattle.std.specs.Prelude.{ℕ, ◌≡◌, ◌≤◌, ◌+◌, ◌*◌, ◌++◌, length, replicate, decimal};
 ghost use Rattle.std.specs.List.{flat_map};
 ghost use Rattle.mass_text.specs.BlockText.{hex_byte};
@@ -6,13 +6,13 @@ ghost use Rattle.trace_lines.specs.answers.AnswerText.{block_text};
 
 use mass_text::FrontLine;
 
-/// How many bytes the line has at most, with room to spare.
+/// How many bytes the line may have, with room to spare.
 const END: usize = 32;
 
-/// The room that it has, with 64 bytes behind its end.
+/// The room of the line, with 64 bytes behind its end.
 const ROOM: usize = 96;
 
-/// The text of the line of a block of a read whose bytes are all one byte.
+/// The text of the line of a block of a read whose bytes are all the same.
 pub type FillLine = FrontLine<ROOM, END>;
 
 /// Writes two hexadecimal digits for each byte.
@@ -41,7 +41,7 @@ fn put_number(line: &mut FillLine, k: u32)
     line.put_digits(u64::from(k));
 }
 
-/// Writes the line of block `k`, from 0, all of whose bytes are this one, in place of what is there.
+/// Writes the line of block `k`, counted from 0, whose bytes are all `byte`, in place of what is there.
 pub fn write_fill(line: &mut FillLine, k: u32, byte: u8)
     ensures { (size : ℕ) → 1 ≤ size → line.new ≡ block_text k (replicate size byte) }
 {

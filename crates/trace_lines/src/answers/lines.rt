@@ -11,7 +11,7 @@ use fire_code::NoiseClass;
 use mass_text::{Radix, ShortLine, numeral_law};
 use trace_replay::requests::AnswerKind;
 
-/// The line of the answer to the request of an id, which came at a line of the script.
+/// The line of the answer to the request with this id. The answer came at line `line` of the script.
 pub fn answer_line(line: u64, id: u32, kind: AnswerKind) -> ShortLine
     ensures { (bytes : List ℕ) → result ≡ answer_line line id (answer_of bytes kind) }
 {
@@ -27,7 +27,7 @@ pub fn answer_line(line: u64, id: u32, kind: AnswerKind) -> ShortLine
     text
 }
 
-/// The line of noise of a class that is armed at a line of the script.
+/// The line of noise of this class. Line `line` of the script arms the noise.
 pub fn noise_line(line: u64, class: NoiseClass) -> ShortLine
     ensures text { result ≡ noise_text line class }
     ensures said { (noise : LiveNoise) → IsNoise noise.places → Classes class noise.places

@@ -4,22 +4,22 @@ ghost use Rattle.trace_lines.specs.answers.Counting.{Counts, is_done, tally_by};
 
 use trace_replay::requests::AnswerKind;
 
-/// The counts of a run. A count of 64 bits stands still at its last value.
+/// The counts of a run. A count of 64 bits stays at its highest value.
 #[derive(Clone, Copy)]
 pub struct Tally {
     /// How many requests the script has.
     pub requests: u64,
-    /// How many answers came.
+    /// How many answers came so far.
     pub answers: u64,
-    /// How many of them are ok, reads and writes alike.
+    /// How many of the answers are ok, reads and writes alike.
     pub ok: u64,
     /// How many bytes the answer text has.
     pub text: u64,
-    /// The sum of these bytes, modulo 2^32.
+    /// The sum of the bytes of the answer text, modulo 2^32.
     pub sum: u32,
 }
 
-/// Whether a request was answered ok: a read or a write.
+/// Whether a request was answered ok, as a read or as a write.
 fn is_ok(kind: AnswerKind) -> bool
     ensures { (bytes : List ℕ) → result ≡ is_done (answer_of bytes kind) }
 {
@@ -41,7 +41,7 @@ fn sum_of(text: &[u8]) -> u32
 }
 
 impl Tally {
-    /// The tally of a script of so many requests, none of which is answered yet.
+    /// The tally of a script that has this many requests, none of which is answered yet.
     pub fn new(requests: u64) -> Tally
         ensures { result ≡ tally_by requests [] [] }
     {

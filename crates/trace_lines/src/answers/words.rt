@@ -18,7 +18,7 @@ pub(crate) fn class_word(class: NoiseClass) -> &'static str
     }
 }
 
-/// Puts an error by its word, and how many blocks were done.
+/// Puts the word of an error, and how many blocks were done.
 fn put_word(text: &mut ShortLine, cause: &str, done: u32)
     requires room { length text.old ≤ 100 }
     requires short { length cause.now ≤ 11 }
@@ -32,7 +32,7 @@ fn put_word(text: &mut ShortLine, cause: &str, done: u32)
     text.put_number(u64::from(done));
 }
 
-/// Puts an error when its first `done` blocks were done; a request that is refused has done nothing.
+/// Puts an error and how many blocks were done, `done` of them. A request that was refused has done none.
 fn put_error(text: &mut ShortLine, cause: Cause, done: u32)
     requires room { length text.old ≤ 100 }
     ensures text { text.new ≡ text.old ++ answer_words (error_told cause done) }
@@ -48,7 +48,7 @@ fn put_error(text: &mut ShortLine, cause: Cause, done: u32)
     }
 }
 
-/// Puts how a request was answered. Which bytes a read gives makes no difference.
+/// Puts how a request was answered. This does not depend on the bytes that a read gives.
 pub(crate) fn put_answer(text: &mut ShortLine, kind: AnswerKind)
     requires room { length text.old ≤ 100 }
     ensures text { (bytes : List ℕ) → text.new ≡ text.old ++ answer_words (answer_of bytes kind) }

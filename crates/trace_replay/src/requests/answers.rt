@@ -2,15 +2,15 @@
 /// Why a request ended with an error.
 #[derive(Clone, Copy)]
 pub enum Cause {
-    /// It reaches beyond its partition.
+    /// The request reaches beyond its partition.
     Partition,
-    /// The frames that it needs are not there.
+    /// Fewer frames are free than the request needs.
     Frames,
-    /// A command was due, or a sector was tried, while the unit was offline.
+    /// The unit was offline when a command was due or a sector was tried.
     Offline,
-    /// It writes, and its transfer command was due while the unit was locked.
+    /// The request writes, and the unit was locked when its transfer command was due.
     Locked,
-    /// A sector is marked bad, and nothing stands for it.
+    /// A sector is marked bad, and no replacement stands for it.
     Unforwarded,
     /// All tries at one sector failed; `attempts` is 28.
     Fault { attempts: u32 },
@@ -19,17 +19,17 @@ pub enum Cause {
 /// How a request ended.
 #[derive(Clone, Copy)]
 pub enum AnswerKind {
-    /// All its blocks, `count` of them, were read; the last one has `last` bytes.
+    /// All blocks of the request, `count` of them, were read. The last one has `last` bytes.
     ReadOk { count: u32, last: u32 },
-    /// All its blocks were written.
+    /// All blocks of the request were written.
     WriteOk,
-    /// It begins at the very end of its partition.
+    /// The request begins exactly at the end of its partition.
     Eof,
-    /// It ended with an error when its first `done` blocks were done; `done` is below its count.
+    /// The request ended with an error after its first `done` blocks were done. `done` is below the request's count.
     Error { cause: Cause, done: u32 },
 }
 
-/// The answer to a request: its id, the number of the line at which it ended, and how.
+/// The answer to a request: the id of the request, the number of the script's line at which it ended, and how it ended.
 #[derive(Clone, Copy)]
 pub struct Answer {
     pub id: u32,
