@@ -1,10 +1,10 @@
-//! The outside of the program: a source of bytes, a sink for bytes and the packs, and what implements them. What stands in
-//! memory is here; the traits, and what stands on std's readers, writers and files, have crates of their own, whose names are
-//! handed on.
+//! The outside of the program: a source of bytes, a sink for bytes and the packs, and what implements them. This crate
+//! has what is kept in memory. The traits have a crate of their own, and so has what uses std's readers, writers and
+//! files; their names are handed on.
 //!
-//! What is proved: each object's calls do what the traits say, and fail only where the count of faults rose. `MemSource`,
-//! `MemSink` and `MemPacks` fail exactly at the listed calls and where room is missing; `SureSource`, `SureSink` and
-//! `SurePacks` never, and `SurePacks` tells nothing more once a write or mark fell outside its images.
+//! What is proved: the calls of each object do what the traits say, and fail only if the count of faults rose.
+//! `MemSource`, `MemSink` and `MemPacks` fail exactly if the call is listed or room is missing. `SureSource`, `SureSink`
+//! and `SurePacks` never fail, and `SurePacks` tells nothing more once a write or a mark fell outside its images.
 //!
 //! Only tested, in `drive_rows`, `picture_rows` and `hpsim_rows`: worked calls, one after another.
 #![tactic(auto)]

@@ -22,7 +22,7 @@ pub enum PackOp {
 #[derive(Clone, Copy)]
 pub struct FailCall {
     pub op: PackOp,
-    /// The number of the call among those of its operation, counted from 1.
+    /// The number of the call among the calls of its operation, counted from 1.
     pub number: u64,
 }
 
@@ -53,8 +53,8 @@ fn is_listed(fail: &[FailCall], op: PackOp, number: u64) -> bool
     fail.iter().any(|call| is_call(call, op, number))
 }
 
-/// Packs in memory, which tell what they hold. The listed calls fail, and those that write or mark where there is no
-/// room: at or above an image's `blocks`, or on a unit without an image. A unit without an image is empty.
+/// Packs in memory, which tell what they hold. The listed calls fail, and so do those that write or mark a block for
+/// which there is no room: one at or above the image's `blocks`, or one of a unit without an image. The pack of a unit without an image is empty.
 #[derive(Drop)]
 pub struct MemPacks {
     slots: Vec<Slot>,
@@ -118,8 +118,9 @@ pub(crate) fn slots_of(alloc: Global, mut images: Vec<Image>) -> Result<Vec<Slot
 impl MemPacks {
     ghost use Rattle.outside_traits.specs.Causes.{next};
 
-    /// Packs with these images, and calls that are to fail. The first image of a unit counts. It reserves the room
-    /// for their blocks and marks, so that no later call takes memory.
+    /// Packs with these images, and the list of the calls that are to fail. If a unit has several images, the first one
+    /// counts. The call reserves the room for the blocks and marks of the images, so that no later call takes memory.
+    /// `NoMemory` if the room is not available.
     pub fn new(alloc: Global, images: Vec<Image>, fail: Vec<FailCall>) -> Result<MemPacks, NoMemory>
         ensures images { IfOk result (λ packs. HoldsImages packs.slots images.items) }
         ensures fail { IfOk result (λ packs. packs.fail ≡ fail.items) }
@@ -165,7 +166,7 @@ impl Packs for MemPacks {
         ensures length { IfOk result (λ n. n ≡ length (held_by self.old unit).image) }
         ensures same { held_by self.new ≡ held_by self.old }
         ensures cause { HasCause self.old.faults self.new.faults result }
-        // It fails exactly at the listed calls, and then counts the failure.
+        // The call fails exactly if it is listed, and then counts the failure.
         ensures exact { is_err result ≡ is_listed self.old.fail PackOp.Length (next self.old.lengths) }
         ensures ok { OnOk result (self.new ≡ record self.old { lengths = next self.old.lengths }) }
         ensures err { OnErr result (self.new ≡ record self.old { lengths = next self.old.lengths; faults = next self.old.faults }) }
@@ -183,7 +184,7 @@ impl Packs for MemPacks {
         ensures block { OnOk result (into.new ≡ block_at (held_by self.old unit).image block) }
         ensures same { held_by self.new ≡ held_by self.old }
         ensures cause { HasCause self.old.faults self.new.faults result }
-        // It fails exactly at the listed calls, and then counts the failure.
+        // The call fails exactly if it is listed, and then counts the failure.
         ensures exact { is_err result ≡ is_listed self.old.fail PackOp.Read (next self.old.reads) }
         ensures ok { OnOk result (self.new ≡ record self.old { reads = next self.old.reads }) }
         ensures err { OnErr result (self.new ≡ record self.old { reads = next self.old.reads; faults = next self.old.faults }) }
@@ -202,7 +203,7 @@ impl Packs for MemPacks {
         ensures ok { OnOk result (held_by self.new ≡ with_written (held_by self.old) unit block from.now) }
         ensures err { OnErr result (held_by self.new ≡ held_by self.old) }
         ensures cause { HasCause self.old.faults self.new.faults result }
-        // It fails exactly at the listed calls and where there is no room, and then counts the failure.
+        // The call fails exactly if it is listed or there is no room, and then counts the failure.
         ensures exact { is_err result ≡ (is_listed self.old.fail PackOp.Write (next self.old.writes) || has_no_room self.old unit block) }
         ensures done { OnOk result (AfterWrite self.old unit block from.now self.new) }
         ensures failed { OnErr result (self.new ≡ record self.old { writes = next self.old.writes; faults = next self.old.faults }) }
@@ -224,7 +225,7 @@ impl Packs for MemPacks {
         ensures mark { IfOk result (λ on. on ≡ is_marked (held_by self.old unit) block) }
         ensures same { held_by self.new ≡ held_by self.old }
         ensures cause { HasCause self.old.faults self.new.faults result }
-        // It fails exactly at the listed calls, and then counts the failure.
+        // The call fails exactly if it is listed, and then counts the failure.
         ensures exact { is_err result ≡ is_listed self.old.fail PackOp.Marked (next self.old.markeds) }
         ensures ok { OnOk result (self.new ≡ record self.old { markeds = next self.old.markeds }) }
         ensures err { OnErr result (self.new ≡ record self.old { markeds = next self.old.markeds; faults = next self.old.faults }) }
@@ -242,7 +243,7 @@ impl Packs for MemPacks {
         ensures ok { OnOk result (held_by self.new ≡ with_mark (held_by self.old) unit block on) }
         ensures err { OnErr result (held_by self.new ≡ held_by self.old) }
         ensures cause { HasCause self.old.faults self.new.faults result }
-        // It fails exactly at the listed calls and where there is no room, and then counts the failure.
+        // The call fails exactly if it is listed or there is no room, and then counts the failure.
         ensures exact { is_err result ≡ (is_listed self.old.fail PackOp.SetMark (next self.old.set_marks) || has_no_room self.old unit block) }
         ensures done { OnOk result (AfterMark self.old unit block on self.new) }
         ensures failed { OnErr result (self.new ≡ record self.old { set_marks = next self.old.set_marks; faults = next self.old.faults }) }

@@ -3,7 +3,7 @@ ghost use Rattle.std.specs.Prelude.{◌≡◌, ◌≤◌, ◌+◌, [], IfOk, vec
 use outside_traits::traits::{NoMemory, Sink, SinkFailed, Source, SourceFailed};
 use std::alloc::Global;
 
-/// A source in memory, which tells what is left. The calls whose numbers, from 1, are listed fail, and no other.
+/// A source in memory, which tells what is left. Exactly the calls whose numbers, counted from 1, are listed fail.
 #[derive(Drop)]
 pub struct MemSource {
     bytes: Vec<u8>,
@@ -14,7 +14,7 @@ pub struct MemSource {
     ghost inside: { at ≤ vec_len bytes },
 }
 
-/// Copies as many bytes as there are and as fit.
+/// Copies as many bytes as there are and as fit, and returns how many they are.
 fn copy_front(from: &[u8], into: &mut [u8]) -> usize
     ensures count { result ≡ min (length from.now) (length into.old) }
     ensures front { take result into.new ≡ take result from.now }
@@ -27,7 +27,7 @@ fn copy_front(from: &[u8], into: &mut [u8]) -> usize
 impl MemSource {
     ghost use Rattle.mass_outside.specs.Streams.{left_of};
 
-    /// A source of these bytes, whose calls with these numbers fail.
+    /// A source of these bytes. Its calls with the listed numbers fail.
     pub fn new(bytes: Vec<u8>, fail: Vec<u64>) -> MemSource
         ensures left { left_of result ≡ bytes.items }
         ensures fail { result.fail ≡ fail }
@@ -63,7 +63,7 @@ impl Source for MemSource {
         ensures end { IfOk result (λ n. n ≡ 0 → 0 < length into.old → left_of self.new ≡ []) }
         ensures err { OnErr result (left_of self.new ≡ left_of self.old) }
         ensures cause { HasCause self.old.faults self.new.faults result }
-        // It fails exactly at the listed calls, and gives as many bytes as there are and as fit.
+        // The call fails exactly if it is listed. Otherwise it gives as many bytes as there are and as fit.
         ensures counted { self.new.calls ≡ next self.old.calls }
         ensures listed { self.new.fail ≡ self.old.fail }
         ensures exact { is_err result ≡ list_any (λ n. n == self.new.calls) self.old.fail.items }
@@ -80,8 +80,8 @@ impl Source for MemSource {
     }
 }
 
-/// A sink in memory, which tells what it took. The calls whose numbers, from 1, are listed fail, and those whose
-/// bytes do not fit in its room.
+/// A sink in memory, which tells what it took. The calls whose numbers, counted from 1, are listed fail, and so do those
+/// whose bytes do not fit in its room.
 #[derive(Drop)]
 pub struct MemSink {
     bytes: Vec<u8>,
@@ -96,7 +96,7 @@ pub struct MemSink {
 impl MemSink {
     ghost use Rattle.mass_outside.specs.Streams.{taken_of};
 
-    /// A sink with room for so many bytes, which it reserves, and whose calls with these numbers fail.
+    /// A sink that reserves room for `room` bytes. Its calls with the listed numbers fail. `NoMemory` if the room is not available.
     pub fn new(alloc: Global, room: usize, fail: Vec<u64>) -> Result<MemSink, NoMemory>
         ensures taken { IfOk result (λ sink. taken_of sink ≡ []) }
         ensures room { IfOk result (λ sink. sink.room ≡ room) }
@@ -114,7 +114,7 @@ impl MemSink {
         })
     }
 
-    /// The bytes that it took.
+    /// The bytes that the sink took.
     pub fn taken(&self) -> &[u8]
         ensures { result.now ≡ taken_of self.now }
     {
@@ -141,7 +141,7 @@ impl Sink for MemSink {
         ensures bytes { IfOk result (λ n. taken_of self.new ≡ taken_of self.old ++ take n from.now) }
         ensures err { OnErr result (taken_of self.new ≡ taken_of self.old) }
         ensures cause { HasCause self.old.faults self.new.faults result }
-        // It fails exactly at the listed calls and where the bytes do not fit, and takes all of them otherwise.
+        // The call fails exactly if it is listed or its bytes do not fit. Otherwise it takes all of them.
         ensures counted { self.new.calls ≡ next self.old.calls }
         ensures listed { self.new.fail ≡ self.old.fail }
         ensures room { self.new.room ≡ self.old.room }
@@ -212,7 +212,7 @@ pub struct SureSink;
 impl SureSink {
     ghost use Rattle.mass_outside.specs.Streams.{none_kept};
 
-    /// Such a sink.
+    /// A sink that has taken nothing.
     pub fn new() -> SureSink
         ensures { none_kept result ≡ [] }
     {

@@ -4,20 +4,20 @@ ghost use Rattle.pack_geometry.specs.Pack.{block_at, grown, window, with_block, 
 use std::alloc::{AllocError, Global};
 use std::marker::Model;
 
-/// What a unit's pack holds, and how many blocks it is to have room for.
+/// What the pack of a unit holds, and for how many blocks it is to have room.
 #[derive(Drop)]
 pub struct Image {
     /// The unit, from 0 to 31.
     pub unit: u8,
-    /// The image's bytes. Missing ones read as zeros.
+    /// The bytes of the image. Missing bytes read as zeros.
     pub bytes: Vec<u8>,
-    /// A byte for each block: 0 is good, any other is marked. Missing ones are good.
+    /// One byte for each block: 0 means good, and any other byte means marked. Blocks whose bytes are missing are good.
     pub marks: Vec<u8>,
     /// Blocks below this number can be written and marked.
     pub blocks: u32,
 }
 
-/// Reads a window of bytes; past the end they are zeros.
+/// Reads a window of bytes. Bytes past the end are zeros.
 fn read_window(bytes: &[u8], at: usize, into: &mut [u8])
     requires { at + length into.old < 2 ^ 64 }
     ensures { into.new ≡ window (length into.old) at bytes.now }
@@ -35,7 +35,7 @@ fn put_at(bytes: &mut [u8], at: usize, from: &[u8])
     bytes[at..at + from.len()].copy_from_slice(from);
 }
 
-/// Extends the bytes by zeros up to a size for which there is room.
+/// Extends the bytes by zeros up to a size for which room is reserved.
 #[tactic(auto, unfolding(pack_geometry::specs::Pack::grown))]
 fn grow(bytes: &mut Vec<u8>, size: usize)
     requires { size ≤ vec_capacity bytes.old }
@@ -44,12 +44,12 @@ fn grow(bytes: &mut Vec<u8>, size: usize)
     ensures capacity { vec_capacity bytes.old ≤ vec_capacity bytes.new }
 {
     if size > bytes.len() {
-        // The room is there, so this cannot fail.
+        // The room is reserved, so this cannot fail.
         let _ = bytes.resize(size, 0);
     }
 }
 
-/// Writes bytes at a place for which there is room, and extends the bytes by zeros where they are short.
+/// Writes bytes at a place for which room is reserved. If the bytes end too early, they are extended by zeros.
 #[tactic(auto, unfolding(pack_geometry::specs::Pack::with_window))]
 fn write_window(bytes: &mut Vec<u8>, at: usize, from: &[u8])
     requires fits { at + length from.now < 2 ^ 64 }
@@ -79,7 +79,7 @@ fn write_block(bytes: &mut Vec<u8>, block: u32, from: &[u8; 512])
     write_window(bytes, 512 * block as usize, from);
 }
 
-/// These bytes with room for a size.
+/// These bytes, with room reserved for a size.
 fn with_room(mut bytes: Vec<u8>, size: usize) -> Result<Vec<u8>, AllocError>
     ensures same { IfOk result (λ made. made.items ≡ bytes.items) }
     ensures room { IfOk result (λ made. size ≤ vec_capacity made) }
@@ -91,7 +91,7 @@ fn with_room(mut bytes: Vec<u8>, size: usize) -> Result<Vec<u8>, AllocError>
     Ok(bytes)
 }
 
-/// What a unit of the packs in memory has. Its room is reserved when it is made.
+/// The pack of a unit in memory. Its room is reserved when the slot is made.
 #[derive(Drop)]
 pub struct Slot {
     bytes: Vec<u8>,

@@ -8,9 +8,9 @@ use outside_traits::traits::{NoMemory, Packs, StoreFailed};
 use std::alloc::Global;
 use std::marker::Model;
 
-/// Packs in memory that never fail. They tell what they hold until a write or a mark is outside the images: at or
-/// above an image's `blocks`, or on a unit without an image. Such a call is passed over, and from then on they tell
-/// nothing. A unit without an image is empty.
+/// Packs in memory that never fail. They tell what they hold until a write or a mark is outside the images: at or above
+/// an image's `blocks`, or on a unit without an image. Such a call does nothing, and from then on the packs tell nothing.
+/// The pack of a unit without an image is empty.
 #[derive(Drop)]
 pub struct SurePacks {
     slots: Vec<Slot>,
@@ -29,8 +29,8 @@ impl Model for SurePacks {
 }
 
 impl SurePacks {
-    /// Packs with these images, which tell. The first image of a unit counts. It reserves the room for their blocks
-    /// and marks, so that no later call takes memory.
+    /// Packs with these images, which tell what they hold. If a unit has several images, the first one counts. The call
+    /// reserves the room for the blocks and marks of the images, so that no later call takes memory. `NoMemory` if the room is not available.
     pub fn new(alloc: Global, images: Vec<Image>) -> Result<SurePacks, NoMemory>
         ensures images { IfOk result (λ packs. HoldsImages packs.slots images.items) }
         ensures tells { IfOk result (λ packs. packs.tells ≡ true) }
@@ -51,7 +51,7 @@ impl Packs for SurePacks {
 
     ghost faults = { λ _. 0 };
 
-    // What a call that changes nothing gives is what they hold, also where they no longer tell it.
+    // The result of a call that changes nothing is what the packs hold, even after they no longer tell it.
     fn length(&mut self, unit: u8) -> Result<u64, StoreFailed>
         requires { unit < 32 }
         ensures length { IfOk result (λ n. n ≡ length (sure_held self.old unit).image) }

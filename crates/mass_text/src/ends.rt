@@ -1,10 +1,10 @@
-// Pieces of a line that is put together from its end, in a room of any size: each goes in front of what stands from a place on, and
-// says where it starts.
+// Pieces of a line that is put together from its end, in a room of any size. Each function puts its piece in front of
+// what stands from a place on, and returns the place at which the piece starts.
 ghost use Rattle.std.specs.Prelude.{◌≡◌, ◌≤◌, ◌+◌, ◌∷◌, ◌++◌, length, drop, decimal};
 
 use itoa::write_digits;
 
-/// Puts a piece in front of what stands from `start` on, and says where it starts.
+/// Puts a piece in front of what stands from `start` on, and returns the place at which the piece starts.
 pub fn put_piece<const N: usize>(bytes: &mut [u8; N], start: usize, piece: &[u8]) -> usize
     requires inside { start ≤ N }
     requires room { length piece.now ≤ start }
@@ -17,7 +17,7 @@ pub fn put_piece<const N: usize>(bytes: &mut [u8; N], start: usize, piece: &[u8]
     at
 }
 
-/// Puts a byte in front of what stands from `start` on, and says where it stands.
+/// Puts a byte in front of what stands from `start` on, and returns the place of that byte.
 pub fn put_byte<const N: usize>(bytes: &mut [u8; N], start: usize, byte: u8) -> usize
     requires inside { start ≤ N }
     requires room { 1 ≤ start }
@@ -28,7 +28,7 @@ pub fn put_byte<const N: usize>(bytes: &mut [u8; N], start: usize, byte: u8) -> 
     start - 1
 }
 
-/// Puts the decimal digits of a number in front of what stands from `start` on, and says where they start.
+/// Puts the decimal digits of a number in front of what stands from `start` on, and returns the place at which they start.
 pub fn put_digits<const N: usize>(bytes: &mut [u8; N], start: usize, value: u64) -> usize
     requires inside { start ≤ N }
     requires room { length (decimal value) ≤ start }

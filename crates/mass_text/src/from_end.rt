@@ -3,8 +3,9 @@ ghost use Rattle.std.specs.Prelude.{◌≡◌, ◌≤◌, ◌+◌, [], ◌∷◌
 use crate::ends::{put_byte, put_digits, put_piece};
 use std::marker::Model;
 
-/// A text of at most `END` bytes, which are at most 64, that is put together from its end: each piece goes in front of what is there.
-/// It ends at place `END` of a room of `ROOM` bytes, which has 64 more behind it, so that 64 bytes can always be read from its start.
+/// A text of at most `END` bytes that is put together from its end: each piece goes in front of what is there. `END` is
+/// at most 64. The text ends at place `END` of a room of `ROOM` bytes, which has 64 more bytes behind that place, so that
+/// 64 bytes can always be read from the start of the text.
 #[derive(Drop)]
 pub struct FrontLine<const ROOM: usize, const END: usize> {
     bytes: [u8; ROOM],
@@ -34,14 +35,14 @@ impl<const ROOM: usize, const END: usize> FrontLine<ROOM, END> {
         }
     }
 
-    /// Takes the text away.
+    /// Empties the text.
     pub fn clear(&mut self)
         ensures { self.new ≡ [] }
     {
         self.start = END;
     }
 
-    /// Puts a piece in front of the text. It has to fit.
+    /// Puts a piece in front of the text. The piece must fit.
     pub fn put_piece(&mut self, piece: &[u8])
         requires { length piece.now + length self.old ≤ END }
         ensures { self.new ≡ piece.now ++ self.old }
@@ -49,7 +50,7 @@ impl<const ROOM: usize, const END: usize> FrontLine<ROOM, END> {
         self.start = put_piece(&mut self.bytes, self.start, piece);
     }
 
-    /// Puts a byte in front of the text. It has to fit.
+    /// Puts a byte in front of the text. The byte must fit.
     pub fn put_byte(&mut self, byte: u8)
         requires { 1 + length self.old ≤ END }
         ensures { self.new ≡ byte ∷ self.old }
@@ -57,7 +58,7 @@ impl<const ROOM: usize, const END: usize> FrontLine<ROOM, END> {
         self.start = put_byte(&mut self.bytes, self.start, byte);
     }
 
-    /// Puts the decimal digits of a number in front of the text. They have to fit.
+    /// Puts the decimal digits of a number in front of the text. The digits must fit.
     pub fn put_digits(&mut self, value: u64)
         requires { length (decimal value) + length self.old ≤ END }
         ensures { self.new ≡ decimal value ++ self.old }
@@ -73,7 +74,7 @@ impl<const ROOM: usize, const END: usize> FrontLine<ROOM, END> {
         END - self.start
     }
 
-    /// 64 bytes, of which the first are the text.
+    /// 64 bytes, which begin with the text.
     pub fn front(&self) -> &[u8; 64]
         ensures { take (length self.now) result.now ≡ self.now }
     {

@@ -23,7 +23,7 @@ impl Model for LineBuf {
     ghost view = { λ buf. buf.text.items };
 }
 
-// Whether bytes are one byte repeated: each is the one before it. Slices are compared by words.
+// Whether bytes are one byte repeated: each byte is equal to the one before it. Slices are compared word by word.
 fn is_one_byte(bytes: &[u8]) -> bool
     requires { 1 ≤ length bytes.now }
     ensures { result ≡ list_all (λ b. b == slice_index bytes.now 0) bytes.now }
@@ -41,14 +41,14 @@ impl LineBuf {
         }
     }
 
-    /// Takes the text away.
+    /// Empties the text.
     pub fn clear(&mut self)
         ensures { self.new ≡ [] }
     {
         self.text.clear();
     }
 
-    /// The text put so far.
+    /// The text that was put so far.
     pub fn as_bytes(&self) -> &[u8]
         ensures text { result.now ≡ self.now }
         ensures room { length self.now ≤ 1100 }
@@ -63,7 +63,7 @@ impl LineBuf {
         self.text.try_extend_from_slice(bytes).unwrap();
     }
 
-    /// Puts a text, which has to fit.
+    /// Puts a text. It must fit.
     pub fn put(&mut self, text: &str)
         requires { length self.old + length text.now ≤ 1100 }
         ensures { self.new ≡ self.old ++ text.now }
@@ -71,7 +71,7 @@ impl LineBuf {
         self.append(text.as_bytes());
     }
 
-    /// Puts a number by its digits, with no leading zero. They have to fit.
+    /// Puts the digits of a number in a radix, with no leading zero. They must fit.
     pub fn put_number(&mut self, value: u64, radix: Radix)
         requires { length self.old + length (numeral radix value) ≤ 1100 }
         ensures { self.new ≡ self.old ++ numeral radix value }
@@ -109,7 +109,7 @@ impl LineBuf {
         });
     }
 
-    /// Puts the 512 bytes of a block, as `put_bytes` does. They have to fit.
+    /// Puts the 512 bytes of a block, as `put_bytes` does. They must fit.
     pub fn put_block(&mut self, bytes: &[u8; 512])
         requires { length self.old + length (content_text bytes.now) ≤ 1100 }
         ensures { self.new ≡ self.old ++ content_text bytes.now }
@@ -117,8 +117,8 @@ impl LineBuf {
         self.put_bytes(bytes);
     }
 
-    /// Puts 1 to 512 bytes as `fill HH` where all of them are equal, and else as `hex` and two digits a byte, in lower
-    /// case. They have to fit.
+    /// Puts 1 to 512 bytes as `fill HH` if all of them are equal, and otherwise as `hex` and two digits for each byte.
+    /// Hexadecimal digits are in lower case. The text must fit.
     pub fn put_bytes(&mut self, bytes: &[u8])
         requires some { 1 ≤ length bytes.now }
         requires few { length bytes.now ≤ 512 }
@@ -152,7 +152,7 @@ impl LineBuf {
         self.put_hex(bytes, &mut digits[..2 * bytes.len()]);
     }
 
-    /// Puts bytes by two digits each; `digits` is room for these.
+    /// Puts two digits for each byte. `digits` is room for them.
     fn put_hex(&mut self, bytes: &[u8], digits: &mut [u8])
         requires digits { length digits.old ≡ 2 * length bytes.now }
         requires room { length self.old + 2 * length bytes.now ≤ 1100 }
@@ -163,7 +163,7 @@ impl LineBuf {
     }
 }
 
-/// The law of the text of bytes: of at most 512 it has at most 1,028 bytes.
+/// The law of the text of bytes: the text of at most 512 bytes has at most 1,028 bytes.
 pub fn content_law()
     ensures { (bytes : List ℕ) → length bytes ≤ 512 → length (content_text bytes) ≤ 1028 }
 {}

@@ -13,7 +13,7 @@ pub enum Radix {
     Hex,
 }
 
-/// Why a text is no number: it has no byte, a byte at a place (from 0) is no digit, or the number exceeds its
+/// Why a text is no number: it is empty, the byte at a place (counted from 0) is no digit, or the number exceeds its
 /// bound.
 #[derive(Debug, Drop, PartialEq, Eq, Error)]
 pub enum NumberFault {
@@ -49,14 +49,14 @@ fn is_digit(byte: u8, radix: Radix) -> bool
     char::from(byte).is_digit(base(radix))
 }
 
-/// The first place that is no digit.
+/// The first place whose byte is no digit. None if all bytes are digits.
 fn first_other(text: &[u8], radix: Radix) -> Option<usize>
     ensures { result ≡ first_other radix text.now }
 {
     text.iter().position(|byte| !is_digit(*byte, radix))
 }
 
-/// The number that digits write, where it is at most a bound.
+/// The number that digits write, if it is at most a bound.
 fn value_of(digits: &[u8], radix: Radix, max: u64) -> Option<u64>
     requires { (i : ℕ) → i < length digits.now → digit_value (slice_index digits.now i) < base_of radix }
     ensures { let value = digits_value (base_of radix) digits.now in SomeIff result (value ≤ max) value }
@@ -73,9 +73,9 @@ fn value_of(digits: &[u8], radix: Radix, max: u64) -> Option<u64>
     Some(value)
 }
 
-/// What a text gives as a number in a radix, up to a bound. Empty exactly where it has no byte; else Digit with
-/// the first place that is no digit; else Large exactly where the number exceeds the bound. There is no sign, and
-/// a hexadecimal digit is of either case.
+/// The number that a text writes in a radix, up to a bound `max`. The errors are, in this order: Empty exactly if the
+/// text has no byte; Digit with the first place whose byte is no digit; Large exactly if the number exceeds the bound. A
+/// number has no sign, and its hexadecimal digits are of either case.
 pub fn number(text: &[u8], radix: Radix, max: u64) -> Result<u64, NumberFault>
     ensures value { result ≡ number_of radix max text.now }
     ensures bound { IfOk result (λ n. n ≤ max) }
@@ -89,7 +89,7 @@ pub fn number(text: &[u8], radix: Radix, max: u64) -> Result<u64, NumberFault>
     }
 }
 
-/// The law of numbers as text: what is written is read again, and a number of 64 bits has at most 22 digits.
+/// The law of numbers as text: a number that is written is read again, and a number of 64 bits has at most 22 digits.
 pub fn numeral_law(radix: Radix)
     ensures read { (n max : ℕ) → n < 2 ^ 64 → n ≤ max → number_of radix max (numeral radix n) ≡ Ok n }
     ensures room { (n : ℕ) → n < 2 ^ 64 → length (numeral radix n) ≤ 22 }

@@ -3,7 +3,7 @@ ghost use Rattle.mass_text.specs.Pieces.{is_blank, pieces};
 
 use std::marker::Model;
 
-/// The fields of a line, one after another: its pieces between spaces and tabs.
+/// The fields of a line, one after another. A field is a piece between spaces and tabs.
 #[derive(Drop)]
 pub struct Fields<'a> {
     rest: &'a [u8],
@@ -37,7 +37,7 @@ fn first_other(text: &[u8]) -> Option<usize>
     text.iter().position(|byte| !is_blank(*byte))
 }
 
-/// The first piece of a text, and what comes behind it.
+/// The first piece of a text, and what stands behind that piece.
 fn first_piece(text: &[u8]) -> Option<(&[u8], &[u8])>
     ensures none { IfNone result (pieces text.now ≡ []) }
     ensures first { IfSome result (λ parts. pieces text.now ≡ parts.0.now ∷ pieces parts.1.now) }
@@ -56,7 +56,7 @@ impl<'a> Fields<'a> {
         Fields { rest: line }
     }
 
-    /// The next field; None exactly where none is left.
+    /// The next field. None exactly if no field is left.
     pub fn next(&mut self) -> Option<&'a [u8]>
         ensures { MatchOption result ((self.old ≡ []) × (self.new ≡ [])) (λ field. self.old ≡ field.now ∷ self.new) }
     {

@@ -4,8 +4,8 @@ use arrayvec::ArrayVec;
 use itoa::Buffer;
 use std::marker::Model;
 
-/// A text that is put together piece by piece, of at most 240 bytes. It serves as `mass_text`'s `LineBuf` does, which has room for
-/// the digits of a whole block: making and moving that one costs more than most lines themselves.
+/// A text of at most 240 bytes that is put together piece by piece. It serves as `mass_text`'s `LineBuf` does. A
+/// `LineBuf` has room for the digits of a whole block, so making and moving one costs more than most lines themselves.
 #[derive(Drop)]
 pub struct ShortLine {
     text: ArrayVec<u8, 240>,
@@ -29,7 +29,7 @@ impl ShortLine {
         }
     }
 
-    /// The text put so far.
+    /// The text that was put so far.
     pub fn as_bytes(&self) -> &[u8]
         ensures text { result.now ≡ self.now }
         ensures room { length self.now ≤ 240 }
@@ -37,7 +37,7 @@ impl ShortLine {
         self.text.as_slice()
     }
 
-    /// Puts bytes, which have to fit.
+    /// Puts bytes. They must fit.
     pub fn put_bytes(&mut self, bytes: &[u8])
         requires { length self.old + length bytes.now ≤ 240 }
         ensures { self.new ≡ self.old ++ bytes.now }
@@ -45,7 +45,7 @@ impl ShortLine {
         self.text.try_extend_from_slice(bytes).unwrap();
     }
 
-    /// Puts a text, which has to fit.
+    /// Puts a text. It must fit.
     pub fn put(&mut self, text: &str)
         requires { length self.old + length text.now ≤ 240 }
         ensures { self.new ≡ self.old ++ text.now }
@@ -53,7 +53,7 @@ impl ShortLine {
         self.put_bytes(text.as_bytes());
     }
 
-    /// Puts a number by its decimal digits, with no leading zero. They have to fit.
+    /// Puts the decimal digits of a number, with no leading zero. They must fit.
     pub fn put_number(&mut self, value: u64)
         requires { length self.old + length (decimal value) ≤ 240 }
         ensures { self.new ≡ self.old ++ decimal value }

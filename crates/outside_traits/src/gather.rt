@@ -8,10 +8,10 @@ use crate::whole::write_all;
 use std::alloc::Global;
 use std::marker::Model;
 
-/// How many bytes a short text is copied with, whatever its own length is.
+/// How many bytes are copied for a short text, whatever its own length is.
 const SHORT: usize = 64;
 
-/// Bytes of which nothing is known but how many they are.
+/// A list of `size` bytes, of which only the number is known. `NoMemory` if there is no memory for them.
 fn room_of(alloc: Global, size: usize) -> Result<Vec<u8>, NoMemory>
     ensures { IfOk result (λ room. vec_len room ≡ size) }
 {
@@ -47,8 +47,8 @@ fn front(text: &[u8; SHORT], len: usize) -> &[u8]
     &text.as_slice()[..len]
 }
 
-/// Text that is kept for a sink. Its room is there from the start, and its front is filled. Behind it there is room for 64 bytes
-/// more, so that a short text can always be copied as 64 bytes.
+/// Text that is kept for a sink. Its room is reserved from the start, and the front of the room is filled. Behind the
+/// room there are 64 bytes more, so that a short text can always be copied as 64 bytes.
 #[derive(Drop)]
 pub struct Gather {
     room: Vec<u8>,
@@ -65,7 +65,7 @@ impl Model for Gather {
 }
 
 impl Gather {
-    /// A writer that keeps nothing yet, with room for so many bytes.
+    /// A writer that keeps nothing yet. It reserves room for `room` bytes of text; `NoMemory` if the room is not available.
     pub fn new(alloc: Global, room: u32) -> Result<Gather, NoMemory>
         ensures { IfOk result (λ gather. gather ≡ []) }
     {
@@ -87,7 +87,7 @@ impl Gather {
         self.filled == 0
     }
 
-    /// Keeps a text where it fits behind what is kept. Answers whether it does; where not, nothing changes.
+    /// Keeps a text if it fits behind what is kept, and says whether it does. If it does not fit, nothing changes.
     pub fn try_keep(&mut self, text: &[u8]) -> bool
         ensures fits { result ≡ true → self.new ≡ self.old ++ text.now }
         ensures full { result ≡ false → self.new ≡ self.old }
@@ -100,7 +100,7 @@ impl Gather {
         true
     }
 
-    /// Keeps the first `len` of these bytes, from 0 to 64, as [`Gather::try_keep`] does; the copy is of one size, so it takes less time.
+    /// Keeps the first `len` of these bytes, from 0 to 64, as [`Gather::try_keep`] does. It always copies 64 bytes, which takes less time.
     pub fn try_keep_short(&mut self, text: &[u8; 64], len: usize) -> bool
         requires { len ≤ 64 }
         ensures fits { result ≡ true → self.new ≡ self.old ++ take len text.now }
@@ -113,7 +113,7 @@ impl Gather {
         true
     }
 
-    /// Passes on what is kept. Nothing is kept after it, also where the sink failed.
+    /// Passes on what is kept. Afterwards nothing is kept, even if the sink failed.
     pub fn flush<T: Sink>(&mut self, sink: &mut T) -> Result<(), SinkFailed>
         ensures puts { Puts T.tells T.taken T.faults sink.old sink.new result self.old }
         ensures gathers { Gathers T.tells T.taken T.faults sink.old sink.new self.old self.new result [] }
@@ -124,7 +124,7 @@ impl Gather {
         result
     }
 
-    /// Puts a text where nothing is kept: keeps it, or passes it on at once where it does not fit.
+    /// Puts a text when nothing is kept: keeps it, or passes it on at once if it does not fit.
     fn put_first<T: Sink>(&mut self, text: &[u8], sink: &mut T) -> Result<(), SinkFailed>
         requires { self.old ≡ [] }
         ensures { Gathers T.tells T.taken T.faults sink.old sink.new [] self.new result text.now }
@@ -135,7 +135,8 @@ impl Gather {
         write_all(sink, text)
     }
 
-    /// Puts a text behind what is kept, and passes on before what is kept where it does not fit there.
+    /// Puts a text behind what is kept. If the text does not fit there, what is kept is passed on first. If the sink
+    /// fails, it has taken a front of what was kept and of the text, and nothing is kept.
     pub fn put<T: Sink>(&mut self, text: &[u8], sink: &mut T) -> Result<(), SinkFailed>
         ensures { Gathers T.tells T.taken T.faults sink.old sink.new self.old self.new result text.now }
     {
@@ -148,7 +149,7 @@ impl Gather {
         }
     }
 
-    /// Puts the first `len` of these bytes, from 0 to 64, as [`Gather::put`] does; the copy is of one size, so it takes less time.
+    /// Puts the first `len` of these bytes, from 0 to 64, as [`Gather::put`] does. It always copies 64 bytes, which takes less time.
     pub fn put_short<T: Sink>(
         &mut self,
         text: &[u8; 64],
@@ -165,8 +166,8 @@ impl Gather {
     }
 }
 
-/// The law of gathering: texts put one after another are one text, and what began and ends with nothing kept was put to the
-/// sink itself.
+/// The law of gathering: texts that are put one after another are one text. If nothing is kept at the beginning and at
+/// the end, the texts were put to the sink itself.
 pub fn gather_law<T: Sink>()
     ensures nothing { PutsNothing (Unit {0}) SinkFailed T.tells T.taken T.faults }
     ensures join { Join (Unit {0}) SinkFailed T.tells T.taken T.faults }

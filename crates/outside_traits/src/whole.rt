@@ -6,7 +6,7 @@ use crate::traits::{Sink, SinkFailed, Source, SourceFailed};
 use std::alloc::{AllocError, Global};
 use thiserror::Error;
 
-/// Writes all bytes. Where a call of the sink fails, a front of them was taken.
+/// Writes all bytes. If a call of the sink fails, the sink has taken a front of them.
 pub fn write_all<O: Sink>(out: &mut O, from: &[u8]) -> Result<(), SinkFailed>
     ensures { Puts O.tells O.taken O.faults out.old out.new result from.now }
 {
@@ -50,8 +50,7 @@ impl From<SourceFailed> for ReadAllFault {
     }
 }
 
-/// Reads a source to its end, or until there are more bytes than a limit. It takes one byte more than the limit at the
-/// most.
+/// Reads a source to its end, or until it gave more bytes than a limit. At most one byte more than the limit is taken from the source.
 pub fn read_all<S: Source>(
     alloc: Global,
     source: &mut S,
@@ -73,7 +72,7 @@ pub fn read_all<S: Source>(
     }
 }
 
-/// Reads a source to its end into a list that is empty, or until it has more bytes than a limit.
+/// Reads a source to its end into an empty list, or until it gave more bytes than a limit.
 fn read_into<S: Source>(
     source: &mut S,
     limit: usize,

@@ -6,7 +6,7 @@ use crate::traits::{Packs, StoreFailed};
 
 /// Packs that also give many bytes of an image, and of marks, in one call.
 pub trait WidePacks: Packs {
-    /// Reads the bytes of a unit's image from a block on, as many as fit. Missing ones are zeros.
+    /// Reads the bytes of a unit's image from a block on, as many as fit. Missing bytes are zeros.
     fn read_blocks(&mut self, unit: u8, block: u32, into: &mut [u8]) -> Result<(), StoreFailed>
         requires { unit < 32 }
         ensures never_again { IsTrue (Self.tells self.new) → IsTrue (Self.tells self.old) }
@@ -15,7 +15,7 @@ pub trait WidePacks: Packs {
         ensures same { IsTrue (Self.tells self.new) → Self.held self.new ≡ Self.held self.old }
         ensures cause { HasCause (Self.faults self.old) (Self.faults self.new) result };
 
-    /// Reads the mark bytes of a unit's blocks from a block on, as many as fit. Missing ones are zeros.
+    /// Reads the mark bytes of a unit's blocks from a block on, as many as fit. Missing bytes are zeros.
     fn read_marks(&mut self, unit: u8, block: u32, into: &mut [u8]) -> Result<(), StoreFailed>
         requires { unit < 32 }
         ensures never_again { IsTrue (Self.tells self.new) → IsTrue (Self.tells self.old) }

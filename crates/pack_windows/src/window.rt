@@ -11,15 +11,15 @@ use std::marker::Model;
 /// How many bytes of an image are read ahead at first.
 const FIRST_SIZE: usize = 4096;
 
-/// How many bytes of an image are read ahead where reading goes on: a first piece and three such hold the longest request, of
-/// 127 blocks.
+/// How many bytes of an image are read ahead if reading goes on. One piece of the first size and three of this size hold
+/// the longest request, which has 127 blocks.
 const LAST_SIZE: usize = 20480;
 
 /// How many marks are read ahead.
 const MARKS: u32 = 4096;
 
-/// Some bytes of an image or of marks, and the place of the first of them there. The room of a window stays when fewer
-/// bytes are in it.
+/// Some bytes of an image or of marks, and the place of the first of them in the image or the marks. The room of a window
+/// stays when the window has fewer bytes.
 #[derive(Drop)]
 pub struct Window {
     at: u64,
@@ -45,14 +45,14 @@ fn place_in_image(block: u32) -> u64
     512 * u64::from(block)
 }
 
-/// Makes room for so many bytes, and says whether there is as much.
+/// Makes room for `size` bytes, and says whether there is so much room.
 fn make_room(room: &mut Vec<u8>, size: usize) -> bool
     ensures { IsTrue result → size ≤ length room.new.items }
 {
     room.len() >= size || room.resize(size, 0).is_ok()
 }
 
-/// Reads so many bytes of a unit's image from a block on to the front of a room.
+/// Reads `size` bytes of a unit's image, from a block on, to the front of a room.
 fn read_blocks<W: WidePacks>(
     packs: &mut W,
     unit: u8,
@@ -71,7 +71,7 @@ fn read_blocks<W: WidePacks>(
     packs.read_blocks(unit, block, &mut room[..size])
 }
 
-/// Reads so many marks of a unit from a block on to the front of a room.
+/// Reads `size` marks of a unit, from a block on, to the front of a room.
 fn read_marks<W: WidePacks>(
     packs: &mut W,
     unit: u8,
@@ -99,7 +99,7 @@ fn put(room: &mut Vec<u8>, first: usize, from: &[u8])
 }
 
 impl Window {
-    /// A window that has nothing.
+    /// An empty window.
     pub fn new(alloc: Global) -> Window
         ensures { (whole : List ℕ) → IsPart result whole }
     {
@@ -110,14 +110,14 @@ impl Window {
         }
     }
 
-    /// Leaves nothing in the window.
+    /// Empties the window.
     pub fn clear(&mut self)
         ensures { (whole : List ℕ) → IsPart self.new whole }
     {
         self.size = 0;
     }
 
-    /// Where the bytes from a place on stand in the window, if it has so many.
+    /// The place in the window of `size` bytes from a place of the whole on. None if the window does not have them all.
     fn find(&self, at: u64, size: usize) -> Option<usize>
         ensures { IfSome result (λ i. (self.now.at + i ≡ at) × (i + size ≤ length self.now.bytes)) }
     {
@@ -129,7 +129,7 @@ impl Window {
         Some(first)
     }
 
-    /// Gives the bytes from a place on, as many as fit, if the window has them all.
+    /// Gives the bytes from a place on, as many as fit, if the window has them all. Says whether it does.
     fn read(&self, at: u64, into: &mut [u8]) -> bool
         ensures { (whole : List ℕ) → IsTrue result → IsPart self.now whole → into.new ≡ window (length into.old) at whole }
     {
@@ -141,14 +141,14 @@ impl Window {
         true
     }
 
-    /// Gives a block of an image, if the window has it.
+    /// Gives a block of an image, if the window has it. Says whether it does.
     pub fn read_block(&self, block: u32, into: &mut [u8; 512]) -> bool
         ensures { (image : List ℕ) → IsTrue result → IsPart self.now image → into.new ≡ block_at image block }
     {
         self.read(place_in_image(block), into)
     }
 
-    /// Gives the byte at a place, if the window has it.
+    /// The byte at a place. None if the window does not have it.
     pub fn byte(&self, at: u64) -> Option<u8>
         ensures { (whole : List ℕ) → IfSome result (λ byte. IsPart self.now whole → byte ≡ slice_index whole at) }
     {
@@ -156,7 +156,7 @@ impl Window {
         Some(self.room[i])
     }
 
-    /// Whether the window has none of so many bytes from a place on.
+    /// Whether the window has none of the `size` bytes from a place on.
     fn is_apart(&self, at: u64, size: usize) -> bool
         ensures { IsTrue result → (at + size ≤ self.now.at) ⊎ (self.now.at + length self.now.bytes ≤ at) }
     {
@@ -167,8 +167,8 @@ impl Window {
         }
     }
 
-    /// Follows a write to the whole: where the window has the bytes that were written, it has the new ones. Where it has
-    /// only some of them, nothing is left in it.
+    /// Follows a write to the whole. If the window has all bytes that were written, it gets the new ones. If it has only
+    /// some of them, it is emptied.
     pub fn write(&mut self, at: u64, from: &[u8])
         ensures { (whole : List ℕ) → IsPart self.old whole → IsPart self.new (with_window at from.now whole) }
     {
@@ -197,8 +197,7 @@ impl Window {
         self.write(u64::from(block), &[u8::from(on)]);
     }
 
-    /// How many bytes of an image are read ahead from a place on: few at first, and more where the place is just behind the
-    /// window.
+    /// How many bytes of an image are read ahead from a place on: few at first, and more if the place is directly behind the window.
     fn next_size(&self, at: u64) -> usize {
         if self.size > 0 && self.at.checked_add(self.size as u64) == Some(at) {
             LAST_SIZE
@@ -207,8 +206,8 @@ impl Window {
         }
     }
 
-    /// Reads so many bytes of a unit's image into the window, from a block on. Where that fails, or there is no memory for
-    /// it, nothing is left in the window.
+    /// Reads `size` bytes of a unit's image into the window, from a block on. If that fails, or if there is no memory for
+    /// them, the window is empty.
     fn fill_from_image<W: WidePacks>(&mut self, packs: &mut W, unit: u8, block: u32, size: usize)
         requires { unit < 32 }
         ensures never_again { IsTrue (W.tells packs.new) → IsTrue (W.tells packs.old) }
@@ -227,8 +226,7 @@ impl Window {
         }
     }
 
-    /// Reads so many marks of a unit into the window, from a block on. Where that fails, or there is no memory for it,
-    /// nothing is left in the window.
+    /// Reads `size` marks of a unit into the window, from a block on. If that fails, or if there is no memory for them, the window is empty.
     fn fill_from_marks<W: WidePacks>(&mut self, packs: &mut W, unit: u8, block: u32, size: usize)
         requires { unit < 32 }
         ensures never_again { IsTrue (W.tells packs.new) → IsTrue (W.tells packs.old) }
@@ -259,7 +257,7 @@ impl Window {
         self.fill_from_image(packs, unit, block, size);
     }
 
-    /// Reads a unit's marks ahead, with that of a block among them.
+    /// Reads a unit's marks ahead, including that of a block.
     pub(crate) fn read_marks_ahead<W: WidePacks>(&mut self, packs: &mut W, unit: u8, block: u32)
         requires { unit < 32 }
         ensures never_again { IsTrue (W.tells packs.new) → IsTrue (W.tells packs.old) }

@@ -7,10 +7,11 @@ use outside_traits::wide_packs::WidePacks;
 use std::alloc::{AllocError, Global};
 use std::marker::Model;
 
-/// Packs with a window of each unit's image and one of its marks in memory, read ahead where a block or a mark is asked for
-/// that is in none. A write goes to the packs at once, and its window follows. Nobody else may write to the packs meanwhile.
+/// Packs with two windows in memory for each unit, one of its image and one of its marks. If a block or a mark is asked
+/// for that is not in its window, the window is read ahead. A write goes to the packs at once, and its window follows it.
+/// Nobody else may write to the packs meanwhile.
 ///
-/// Contracts see it as the packs behind the windows.
+/// Contracts see this object as the packs behind the windows.
 #[derive(Drop)]
 pub struct WindowPacks<W: WidePacks> {
     packs: W,
@@ -30,7 +31,7 @@ impl<W: WidePacks> Model for WindowPacks<W> {
     ghost invariant = { λ p. AreCurrent (W.tells p.packs) (W.held p.packs) p.images.items p.marks.items };
 }
 
-/// A window for each of the 32 units, with nothing in them.
+/// An empty window for each of the 32 units.
 fn empty_windows(alloc: Global) -> Result<Vec<Window>, AllocError>
     ensures count { IfOk result (λ windows. length windows.items ≡ 32) }
     ensures parts { IfOk result (λ windows. (whole : ℕ → List ℕ) → AreParts windows.items whole) }
@@ -50,7 +51,7 @@ fn is_mark(byte: u8) -> bool
 }
 
 impl<W: WidePacks + Drop> WindowPacks<W> {
-    /// These packs, with nothing read ahead yet.
+    /// These packs, with nothing read ahead yet. `NoMemory` if there is no memory for the windows.
     pub fn new(alloc: Global, packs: W) -> Result<WindowPacks<W>, NoMemory>
         ensures { IfOk result (λ made. made ≡ packs) }
     {
