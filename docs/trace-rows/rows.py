@@ -593,12 +593,12 @@ def made(names):
     row_names = lambda which: '\n'.join(f"use Rattle.trace_rows.specs.Rows{k}.{{{', '.join(n for r in g for n in which(r['name']))}}}" for k, g in enumerate(groups, 1) if any(which(r['name']) for r in g))
     lib = LIB_HEAD.format(rows=len(rows), refused=len(refused))
     texts = ['first_read', 'empty_script', 'short_burst_repaired', 'until_offset', 'written_as_far_as_done', 'offline', 'partition_ends', 'each_fault']
-    laws = '/// The traces of the rows are legal: each plays its script, and its moments may come one after another.\npub fn rows_law()\n'
+    laws = '/// The traces of the rows are legal: each trace plays its script, and its moments may come one after another.\npub fn rows_law()\n'
     laws += ''.join(f'    ensures {n} {{ IsAccepted {n}_script {n}_start {n} }}\n' for n in rows) + '{}\n\n'
-    laws += ('/// What is refused: behind so many moments of a row, a moment that breaks the rule that is named, for each rule once no other.\n'
-             '/// And some traces that stop too early.\npub fn refusals_law()\n')
+    laws += ('/// What is refused: after a number of moments of a row, a moment that breaks the rule that is named. For each rule there is a moment\n'
+             '/// that breaks no other rule. Traces that stop too early are refused too.\npub fn refusals_law()\n')
     laws += '\n'.join(clauses) + '\n' + ''.join(f'    ensures {n}_unfinished {{ IsUnfinished {n}_start {n} {k} }}\n' for n, k in unfinished) + '{}\n\n'
-    laws += '/// The texts of traces of rows, byte for byte.\npub fn text_law()\n'
+    laws += '/// The texts of the traces of some rows, byte for byte.\npub fn text_law()\n'
     for n in texts:
         laws += f'    ensures {n} {{ trace_text {n} ≡ ended (' + ' ∷ '.join(f'codes "{l}"' for l in rows[n]['trace']) + ' ∷ []) }\n'
     laws += '{}\n'
@@ -659,10 +659,11 @@ PART_USES = """use Rattle.trace_replay.specs.Moments.{Moment}
 use Rattle.trace_replay.specs.Replay.{Replay, Follows, after_moments}
 use Rattle.trace_replay.proofs.Following.{follow_on}
 """
-LIB_HEAD = """//! Rows of traces: scripts over packs with the traces that belong to them, each proved legal by computation, and lines out of
-//! place, each refused by its rule. The rows stand as text in `docs/trace-rows`, and `rows.py` there writes this crate anew.
+LIB_HEAD = """//! Rows of traces: scripts over packs with the traces that belong to them, and lines out of place. Computation proves that each
+//! trace is legal, and that its rule refuses each line. The rows stand as text in `docs/trace-rows`, and `rows.py` there writes this
+//! crate anew.
 //!
-//! What is proved: {rows} worked traces are legal, and each of {refused} lines out of place is refused by its rule, by computation.
+//! What is proved: {rows} worked traces are legal, and the rule of each of {refused} lines out of place refuses that line, by computation.
 #![tactic(auto)]
 
 """

@@ -1,7 +1,8 @@
-//! Rows of traces: scripts over packs with the traces that belong to them, each proved legal by computation, and lines out of
-//! place, each refused by its rule. The rows stand as text in `docs/trace-rows`, and `rows.py` there writes this crate anew.
+//! Rows of traces: scripts over packs with the traces that belong to them, and lines out of place. Computation proves that each
+//! trace is legal, and that its rule refuses each line. The rows stand as text in `docs/trace-rows`, and `rows.py` there writes this
+//! crate anew.
 //!
-//! What is proved: 39 worked traces are legal, and each of 101 lines out of place is refused by its rule, by computation.
+//! What is proved: 39 worked traces are legal, and the rule of each of 101 lines out of place refuses that line, by computation.
 #![tactic(auto)]
 
 ghost use Rattle.std.specs.Prelude.{◌≡◌, ◌++◌, true, false, replicate, None, [], ◌∷◌, codes};
@@ -30,7 +31,7 @@ ghost use Rattle.trace_rows.specs.Rows10.{until_offset_script, until_offset_star
 ghost use Rattle.trace_rows.specs.Rows11.{users_run_script, users_run_start, users_run};
 ghost use Rattle.trace_rows.specs.Rows12.{write_by_events_script, write_by_events_start, write_by_events, written_as_far_as_done_script, written_as_far_as_done_start, written_as_far_as_done, written_short_script, written_short_start, written_short};
 
-/// The traces of the rows are legal: each plays its script, and its moments may come one after another.
+/// The traces of the rows are legal: each trace plays its script, and its moments may come one after another.
 pub fn rows_law()
     ensures alias_noise { IsAccepted alias_noise_script alias_noise_start alias_noise }
     ensures answers_in_service_order { IsAccepted answers_in_service_order_script answers_in_service_order_start answers_in_service_order }
@@ -73,8 +74,8 @@ pub fn rows_law()
     ensures written_short { IsAccepted written_short_script written_short_start written_short }
 {}
 
-/// What is refused: behind so many moments of a row, a moment that breaks the rule that is named, for each rule once no other.
-/// And some traces that stop too early.
+/// What is refused: after a number of moments of a row, a moment that breaks the rule that is named. For each rule there is a moment
+/// that breaks no other rule. Traces that stop too early are refused too.
 pub fn refusals_law()
     ensures wrong_search { BreaksAlone Conversation first_read_start first_read 1 (Told 2 0 1 (Search 0 18)) }
     ensures missing_search { Breaks Conversation first_read_start first_read 1 (Told 2 0 1 (Transfer false 0 1)) }
@@ -183,7 +184,7 @@ pub fn refusals_law()
     ensures attentions_together_unfinished { IsUnfinished attentions_together_start attentions_together 20 }
 {}
 
-/// The texts of traces of rows, byte for byte.
+/// The texts of the traces of some rows, byte for byte.
 pub fn text_law()
     ensures first_read { trace_text first_read ≡ ended (codes "cmd 2 0 1 search 0 19" ∷ codes "arrive 3 0 1" ∷ codes "attn 3 0 1" ∷ codes "cmd 3 0 1 rcom 0 1" ∷ codes "sector 3 0 1 0 clean" ∷ codes "intr 3 0 1" ∷ codes "end 3 0 1" ∷ []) }
     ensures empty_script { trace_text empty_script ≡ ended (codes "idle 1" ∷ []) }
