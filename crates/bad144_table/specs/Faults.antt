@@ -1,4 +1,4 @@
--- Why bytes spell no table of a drive, and how far they do.
+-- Why bytes spell no table of a drive, and up to which pair they do.
 use Rattle.std.specs.Prelude.{◌≡◌, ◌≢◌, ℕ, ◌<◌, ◌≤◌, ◌-◌, List, length, slice_index_or}
 use Rattle.pack_geometry.specs.declared.DriveKind.{DriveKind}
 use Rattle.pack_geometry.specs.declared.Place.{Place}

@@ -1,4 +1,4 @@
--- What adding a place to a table comes to.
+-- The outcomes of adding a place to a table.
 use Rattle.std.specs.Prelude.{◌≡◌, ℕ, ◌<◌, ◌≤◌, length, Some, slice_get, Contains}
 use Rattle.pack_geometry.specs.declared.Place.{Place}
 use Rattle.pack_geometry.specs.Geometry.{limit_of, block_number}

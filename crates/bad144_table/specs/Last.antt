@@ -1,4 +1,4 @@
--- A place beside the last that is listed.
+-- A place next to the last listed one.
 use Rattle.std.specs.Prelude.{◌<◌, ◌≤◌, ◌-◌, length, slice_index_or}
 use Rattle.pack_geometry.specs.declared.Place.{Place}
 use Rattle.pack_geometry.specs.Geometry.{block_number}

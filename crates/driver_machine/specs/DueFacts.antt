@@ -1,4 +1,4 @@
--- What is known where a deed is due: the phase that calls for it, and for a command that the drive may be given it.
+-- What is known when a deed is due: the phase that calls for the deed and, for a command, that the drive may be given the command.
 use Rattle.std.specs.Prelude.{◌≡◌, ◌⊎◌, ℕ, ◌+◌, Bool, true, false, List, [], ◌∷◌, drop, Some, None, ◌&&◌, ◌==◌}
 use Rattle.drive_registers.specs.Codes.{offset_field}
 use Rattle.hardware_table.specs.declared.Moved.{Moved}

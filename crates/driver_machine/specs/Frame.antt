@@ -1,4 +1,4 @@
--- What a deed leaves of its scene as it was.
+-- What a deed does not change of its scene.
 use Rattle.std.specs.Prelude.{◌≡◌}
 use Rattle.driver_machine.specs.Acts.{Scene}
 

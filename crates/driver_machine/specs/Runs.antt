@@ -1,4 +1,4 @@
--- Acts that come one after another, each where it may; and the conditions under which an input comes.
+-- Acts that come one after another, each when it may; and the conditions under which an input comes.
 use Rattle.std.specs.Prelude.{◌≡◌, ℕ, ◌<◌, true, IsTrue, List, [], ◌∷◌, None, Some}
 use Rattle.hardware_table.specs.Adapter.{next_block}
 use Rattle.trace_replay.specs.requests.Requests.{Request}

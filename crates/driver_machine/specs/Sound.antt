@@ -1,4 +1,4 @@
--- What holds of the driver between any two acts: of each unit, each adapter, each slot, and of the answers that wait.
+-- What holds of the driver between any two acts: of each unit, of each adapter, of each slot, and of the answers that wait.
 use Rattle.std.specs.Prelude.{◌≡◌, ◌≢◌, ◌⊎◌, ℕ, ◌+◌, ◌*◌, ◌<◌, ◌≤◌, Bool, true, false, if◌then◌else◌, List, [], ◌∷◌, length, map, Option, None, Some, Contains, slice_get, IsTrue}
 use Rattle.std.specs.Int.{bit_at}
 use Rattle.pack_geometry.specs.declared.DriveKind.{DriveKind}

@@ -1,4 +1,4 @@
--- The data of a sector, or the front of it, and its repair by a burst.
+-- The data of a sector, or the front of the data, and its repair by a burst.
 use Rattle.std.specs.Prelude.{ℕ, ◌-◌, ◌/◌, ◌%◌, nat_lt, if◌then◌else◌, List, [], ◌∷◌, bit_xor, slice_index, suc}
 use Rattle.std.specs.Int.{bit_at}
 use Rattle.fire_code.specs.Repair.{burst_byte}

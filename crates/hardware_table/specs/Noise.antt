@@ -1,4 +1,4 @@
--- Noise that is live: it flips places of a sector when that is read.
+-- Live noise: it flips places of a sector when the sector is read.
 use Rattle.std.specs.Prelude.{◌≡◌, ℕ, ◌+◌, ◌*◌, ◌-◌, ◌^◌, ◌==◌, ◌&&◌, nat_lt, nat_le, Bool, false, not, if◌then◌else◌, List, [], ◌∷◌, ◌++◌, filter, find, Contains, Option, None, Some}
 use Rattle.drive_registers.specs.Codes.{offset_code, offset_field}
 use Rattle.hardware_table.specs.declared.NoiseSpan.{NoiseSpan}

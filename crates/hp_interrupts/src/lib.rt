@@ -141,8 +141,7 @@ pub fn needs_pack(ds: u16) -> bool
     !Ds::from_bits_retain(ds).contains(Ds::VV)
 }
 
-/// The lowest drive whose attention is up, by the bits of an adapter's attention summary. None exactly if the summary is
-/// 0.
+/// The lowest drive whose attention is up, by the bits of an adapter's attention summary. None exactly if they are all 0.
 pub fn lowest_attention(summary: u8) -> Option<u8>
     ensures none { IsNone result ↔ (summary ≡ 0) }
     ensures lowest { IfSome result (λ drive. (drive < 8) × (bit_at summary drive ≡ 1)

@@ -57,8 +57,8 @@ impl Live {
         })
     }
 
-    /// Arms noise at a sector. It is live until it has struck a number of times, or until the sector is read with the
-    /// offset that ends it, as `span` says.
+    /// Arms noise at a sector. The noise is live until it has struck a number of times, or until the sector is read with
+    /// the offset that ends it, as `span` says.
     pub fn arm(&mut self, unit: u8, block: u32, noise: Noise, span: NoiseSpan)
         requires { self.old.armed < self.old.capacity }
         ensures { self.new ≡ book_armed (record { unit = unit; block = block; span = span; places = noise }) self.old }

@@ -1,4 +1,4 @@
--- Parts of a list of bytes, and bytes with zeros behind them.
+-- Parts of a list of bytes, and bytes that are followed by zeros.
 use Rattle.std.specs.Prelude.{ℕ, ◌≡◌, ◌<◌, ◌*◌, Option, Some, None, slice_index, slice_index_or, ◌+◌, ◌-◌, ◌≤◌, List, ◌++◌, take, drop, length, replicate}
 
 -- so many bytes from a place on

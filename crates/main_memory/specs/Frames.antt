@@ -1,4 +1,4 @@
--- Frames of main memory: which are free, and which a buffer needs.
+-- Frames of main memory: which ones are free, and which ones a buffer needs.
 use Rattle.std.specs.Prelude.{ℕ, ◌+◌, ◌-◌, ◌*◌, ◌/◌, ◌%◌, ◌==◌, Bool, true, if◌then◌else◌, List, [], ◌∷◌, nat_lt, slice_index, zero, suc}
 use Rattle.std.specs.Int.{bit_at}
 

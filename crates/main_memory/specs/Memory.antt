@@ -1,4 +1,4 @@
--- What main memory holds, and what it lent.
+-- What main memory holds, and which frames it lent.
 use Rattle.std.specs.Prelude.{ℕ, ◌≡◌, ◌≢◌, ◌<◌, List, length, slice_index, Contains}
 use Rattle.std.specs.List.Sorted.{IsStrictlyIncreasing}
 use Rattle.main_memory.specs.Frames.{free_frames}

@@ -1,4 +1,4 @@
--- What attaching leaves and answers.
+-- What attaching leaves of a drive, and what it gives.
 use Rattle.std.specs.Prelude.{◌≡◌, ◌<◌, ◌≤◌, ◌*◌, length, Result, Ok, Err}
 use Rattle.pack_geometry.specs.declared.DriveKind.{DriveKind}
 use Rattle.pack_geometry.specs.Geometry.{block_count}

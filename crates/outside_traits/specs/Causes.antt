@@ -1,4 +1,4 @@
--- A call answers that it failed only where the count of faults rose in it.
+-- A call says that it failed only if the count of faults rose in that call, or stands at its last value.
 use Rattle.std.specs.Prelude.{◌≡◌, ℕ, ◌+◌, ◌-◌, ◌^◌, ◌≤◌, min, Result, Ok, Err, MatchResult, OnErr}
 
 -- a count rose, or stands at its last value

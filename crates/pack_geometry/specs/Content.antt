@@ -1,4 +1,4 @@
--- What bytes a home has.
+-- The bytes that a home has.
 use Rattle.std.specs.Prelude.{ℕ, List, Option, None, Some}
 use Rattle.pack_geometry.specs.Pack.{Pack, block_at}
 

@@ -1,4 +1,4 @@
--- Where a data block's bytes live on a pack with a bad-sector table, and what they are.
+-- The home of a data block, where its bytes are on a pack with a bad-sector table, and what these bytes are.
 use Rattle.std.specs.Prelude.{◌≡◌, ℕ, ◌==◌, ◌&&◌, nat_lt, Bool, if◌then◌else◌, List, Option, None, Some}
 use Rattle.std.specs.List.{position}
 use Rattle.pack_geometry.specs.declared.DriveKind.{DriveKind}

@@ -1,4 +1,4 @@
--- The bad-sector table of a pack, of which the pack has five copies.
+-- The bad-sector table of a pack. A pack has five copies of its table.
 use Rattle.std.specs.Prelude.{◌≡◌, ℕ, ◌<◌, false, List, [], Option, None, Some}
 use Rattle.pack_geometry.specs.declared.DriveKind.{DriveKind}
 use Rattle.pack_geometry.specs.declared.Place.{Place}

@@ -1,2 +1,2 @@
--- What is passed on of the crates below, so that those above stand on this one.
+-- What this crate passes on from the crates below, so that the crates above depend on this one only.
 pub use Rattle.pack_geometry.specs.declared.DriveKind.{DriveKind}

@@ -1,4 +1,4 @@
--- The slots as they stand in memory: which request each has, and who has its buffer.
+-- The slots as they are stored in memory: which request each slot has, and who has its buffer.
 use Rattle.std.specs.Prelude.{◌≡◌, ◌≢◌, ℕ, zero, suc, ◌+◌, ◌≤◌, Bool, true, false, List, [], ◌∷◌, map, length, slice_index_or, Option, None, Some}
 use Rattle.std.specs.Option.{option_map}
 use Rattle.slab.specs.Slab.{Slab}

@@ -1,4 +1,4 @@
--- Which deed a line of the trace tells of.
+-- The deed that a line of the trace tells.
 use Rattle.std.specs.Prelude.{ℕ, List, ◌++◌}
 use Rattle.trace_lines.specs.declared.telling.Told.{Told}
 use Rattle.trace_lines.specs.declared.telling.Told.TheVariants as told

@@ -1,5 +1,5 @@
--- THE RULE OF ADAPTERS. Each adapter does what the hardware table says: one transfer at a time, sector by sector, until its
--- interrupt is taken. And it keeps the units that are ready to transfer, in the order in which they became ready.
+-- THE RULE OF ADAPTERS. Each adapter does what the hardware table says: it has one transfer at a time, sector by sector, until its
+-- interrupt is taken. It also keeps the units that are ready to transfer, in the order in which they became ready.
 use Rattle.std.specs.Prelude.{◌≡◌, ℕ, ◌==◌, ◌&&◌, ◌/◌, ◌%◌, ◌*◌, ◌+◌, Bool, true, false, not, if◌then◌else◌, List, [], ◌∷◌, ◌++◌, filter}
 use Rattle.std.specs.Int.{bit_at}
 use Rattle.std.specs.List.{list_any}

@@ -1,4 +1,4 @@
--- How much a request costs whose sectors are all clean.
+-- How much a request costs if all its sectors are clean.
 use Rattle.std.specs.Prelude.{◌≡◌, ℕ, ◌+◌, ◌≤◌, List, [], ◌∷◌, ◌++◌, Option}
 use Rattle.pack_geometry.specs.declared.DriveKind.{DriveKind}
 use Rattle.pack_geometry.specs.TableSpelling.{Table}

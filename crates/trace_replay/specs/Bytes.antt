@@ -1,4 +1,4 @@
--- What reads and repairs give: the bytes of the hardware table and of the code. (A bit that is flipped is flipped in both.)
+-- What reads and repairs give: the bytes of the hardware table and of the Fire code. (Both flip the same bits.)
 use Rattle.std.specs.Prelude.{◌≡◌, ℕ, ◌≤◌, List, length, take, Option, Some}
 use Rattle.fire_code.specs.Remainder.{remainder}
 use Rattle.fire_code.specs.Burst.{IsPlaces, IsShortBurst, IsBurst}

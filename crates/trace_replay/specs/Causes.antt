@@ -1,4 +1,4 @@
--- WHY a request is answered as it is: each cause exactly, by its lines, its unit as its end comes, and the table of its pack.
+-- WHY a request is answered as it is: an answer has a cause exactly if its lines, its unit when its end comes, and its pack's table say so.
 use Rattle.std.specs.Prelude.{◌≡◌, ◌⊎◌, ℕ, ◌<◌, ◌≤◌, true, false, Bool, List, [], ◌∷◌, ◌++◌, Option, None, ◌+◌, Some}
 use Rattle.pack_geometry.specs.declared.DriveKind.{DriveKind}
 use Rattle.pack_geometry.specs.Pack as model

@@ -1,4 +1,4 @@
--- A drive's condition is what the script said last of it: no command, event or sector changes it.
+-- The condition of a drive is what the script said last of that drive. No command, event or sector changes it.
 use Rattle.std.specs.Prelude.{◌≡◌, ℕ, ◌==◌, if◌then◌else◌, Bool, true, false, List, [], ◌∷◌, Option}
 use Rattle.pack_geometry.specs.declared.DriveKind.{DriveKind}
 use Rattle.pack_geometry.specs.TableSpelling.{Table}

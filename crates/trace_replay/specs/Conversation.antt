@@ -1,6 +1,6 @@
--- THE RULE OF CONVERSATION. The lines of one request, in order: its search, its segments with their interrupts, what each
--- verdict asks for, the retries with their steps, and its end. It says which line is due next for a unit by itself, and which
--- ones an event brings.
+-- THE RULE OF CONVERSATION. The lines of one request come in order: its search, its segments with their interrupts, what each
+-- verdict asks for, the retries with their steps, and its end. The rule says which line is due next for a unit by itself, and which
+-- lines an event brings.
 use Rattle.std.specs.Prelude.{◌≡◌, ℕ, ◌+◌, ◌-◌, ◌/◌, ◌==◌, ◌&&◌, ◌||◌, nat_lt, Bool, true, false, not, if◌then◌else◌, List, [], ◌∷◌, ◌++◌, Option, None, Some, is_some, drop}
 use Rattle.pack_geometry.specs.declared.DriveKind.{DriveKind}
 use Rattle.pack_geometry.specs.declared.Place.{Place}

@@ -1,5 +1,5 @@
--- THE RULE OF DRIVES. Each drive does what the hardware table says: a command meets a drive that is ready and, unless it is
--- DCLR or RTC, online; a positioning ends that was under way; an attention is taken that is up.
+-- THE RULE OF DRIVES. Each drive does what the hardware table says. A command meets a drive that is ready and, unless the command
+-- is DCLR or RTC, online. A positioning ends only if it was under way, and an attention is taken only if it is up.
 use Rattle.std.specs.Prelude.{◌≡◌, ℕ, ◌==◌, ◌&&◌, ◌||◌, Bool, true, not, if◌then◌else◌, bit_or}
 use Rattle.pack_geometry.specs.declared.DriveKind.{DriveKind}
 use Rattle.pack_geometry.specs.declared.Place.{Place}

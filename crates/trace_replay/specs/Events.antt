@@ -1,4 +1,4 @@
--- THE RULE OF EVENTS. What a line of the script sets going, whose line comes next in it, and when it is over.
+-- THE RULE OF EVENTS. What a line of the script starts, whose line comes next in that event, and when the event is over.
 use Rattle.std.specs.Prelude.{ℕ, ◌&&◌, ◌||◌, Bool, true, false, if◌then◌else◌, List, [], ◌∷◌, find, drop, Option, None, Some}
 use Rattle.hardware_table.specs.Adapter.{AdapterState}
 use Rattle.trace_replay.specs.requests.Requests.{Rejection}

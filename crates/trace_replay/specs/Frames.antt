@@ -1,4 +1,4 @@
--- A line of a unit changes no other unit, and no other adapter than its own.
+-- A line of a unit changes no other unit, and no adapter except that unit's own.
 use Rattle.std.specs.Prelude.{◌≡◌, ◌≢◌, ℕ}
 use Rattle.trace_replay.specs.Moments.{Deed, Told}
 use Rattle.trace_replay.specs.Adapters.{adapter_of}

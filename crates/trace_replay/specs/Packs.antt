@@ -1,5 +1,5 @@
--- THE RULE OF PACKS AND NOISE. The verdict of a tried sector is the hardware table's, from the drive, the pack's mark and
--- the noise that is live; and the bytes of reads and of the packs follow.
+-- THE RULE OF PACKS AND NOISE. The verdict of a tried sector is that of the hardware table, by the drive, the mark of the pack and
+-- the live noise. The bytes of reads and of the packs follow from the verdict.
 use Rattle.std.specs.Prelude.{ℕ, ◌+◌, ◌*◌, ◌/◌, ◌%◌, ◌^◌, ◌==◌, ◌&&◌, Bool, true, false, if◌then◌else◌, List, [], ◌∷◌, ◌++◌, take, drop, replicate, Option, None, Some, bit_xor}
 use Rattle.pack_geometry.specs.Pack as model
 use Rattle.fire_code.specs.Repair.{burst_byte}

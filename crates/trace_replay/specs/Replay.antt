@@ -1,8 +1,8 @@
--- THE REPLAY. One state of all drives, adapters, packs and requests, which the lines so far leave; and which line may come.
+-- THE REPLAY. One state of all drives, adapters, packs and requests, as the lines so far leave it; and which line may come next.
 --
--- It is one state, and not one for each rule: the order of lines inside an event, the order of ready units, the noise and the
--- packs concern several units at once, and each rule would have to keep the others' states to know when it applies. Each rule
--- reads just the part that is its own.
+-- There is one state, and not one for each rule, since the order of lines inside an event, the order of ready units, the noise and
+-- the packs concern several units at once: each rule would have to keep the states of the others to know when it applies. Each rule
+-- reads only the part that it needs.
 use Rattle.std.specs.Prelude.{◌≡◌, ℕ, ◌<◌, ◌+◌, ◌-◌, ◌*◌, ◌==◌, ◌&&◌, ◌||◌, nat_lt, nat_le, Bool, true, false, not, if◌then◌else◌, List, [], ◌∷◌, drop, filter, Option, None, Some, is_some, unwrap_or}
 use Rattle.std.specs.List.{list_all}
 use Rattle.pack_geometry.specs.declared.DriveKind.{DriveKind}

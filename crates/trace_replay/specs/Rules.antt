@@ -1,4 +1,4 @@
--- The rules by their names, and rows that are refused: behind a legal beginning a moment that one rule does not let come.
+-- The rules by their names, and rows that are refused: after a legal beginning comes a moment that one rule does not allow.
 use Rattle.std.specs.Prelude.{◌≡◌, ◌≢◌, ◌↔◌, ◌++◌, ◌&&◌, ℕ, nat_lt, true, false, List, take}
 use Rattle.trace_replay.specs.requests.Requests.{Rejection, rejection_answer}
 use Rattle.trace_replay.specs.Moments.{Deed, End, Moment, Played, Told, Idle}

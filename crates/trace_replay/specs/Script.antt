@@ -1,5 +1,5 @@
--- A script: what is asked for and said, line by line. A reader of its bytes gives these lines; what bytes spell them is the
--- grammar's.
+-- A script: what is asked for and said, line by line. A reader turns the bytes of a script into these lines; the grammar says which
+-- bytes spell which lines.
 use Rattle.std.specs.Prelude.{◌≡◌, ℕ, ◌<◌, ◌≤◌, ◌+◌, ◌==◌, if◌then◌else◌, Bool, false, List, [], ◌∷◌, Option, Some, None, All}
 use Rattle.std.specs.List.{list_any}
 use Rattle.pack_geometry.specs.declared.DriveKind.{DriveKind}

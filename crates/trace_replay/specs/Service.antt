@@ -1,5 +1,5 @@
--- THE RULE OF SERVICE ORDER. Each unit serves its requests sweep by sweep: each line names the head of its queue, and the
--- head's end removes it.
+-- THE RULE OF SERVICE ORDER. Each unit serves its requests sweep by sweep. Each line of a unit names the head of its queue, and the
+-- end of that head removes it.
 use Rattle.std.specs.Prelude.{◌≡◌, ℕ, ◌+◌, ◌-◌, ◌*◌, ◌/◌, List, [], ◌∷◌, Option, None, Some}
 use Rattle.pack_geometry.specs.declared.DriveKind.{DriveKind}
 use Rattle.pack_geometry.specs.declared.Place.{Place}

@@ -1,4 +1,4 @@
--- For one script and packs there is at most one legal trace.
+-- For one script over the same packs there is at most one legal trace.
 use Rattle.std.specs.Prelude.{◌≡◌, List}
 use Rattle.trace_replay.specs.Moments.{Moment, Played, played}
 use Rattle.trace_replay.specs.Replay.{Replay, MayCome, Legal}

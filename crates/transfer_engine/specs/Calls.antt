@@ -1,4 +1,4 @@
--- What each end of a segment makes of a transfer.
+-- What each way in which a segment ends makes of a transfer.
 use Rattle.std.specs.Prelude.{ℕ, ◌+◌, ◌==◌, not, if◌then◌else◌, Option, None, Some, Result, Ok, Err}
 use Rattle.pack_geometry.specs.declared.Place.{Place}
 use Rattle.pack_geometry.specs.Geometry.{place_at}

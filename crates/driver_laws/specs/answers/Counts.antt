@@ -1,4 +1,5 @@
--- How many requests stand in slots, how much noise was armed, and how many faults; and what each act and each input brings of them.
+-- How many requests are in slots, how much noise was armed and how many faults were armed; and how much each act and each input
+-- adds.
 use Rattle.std.specs.Prelude.{◌≡◌, ℕ, ◌+◌, ◌*◌, ◌≤◌, List, [], ◌∷◌, Option, Some, None}
 use Rattle.hardware_table.specs.declared.FaultKind.{FaultKind}
 use Rattle.hardware_table.specs.Events.{times_armed}

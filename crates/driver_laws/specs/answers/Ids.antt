@@ -1,4 +1,4 @@
--- The ids of the requests that stand in slots are among those that were asked for.
+-- The ids of the requests in slots are among those that were submitted.
 use Rattle.std.specs.Prelude.{◌≡◌, ◌≢◌, ℕ, List, [], ◌∷◌, Some, Contains}
 use Rattle.trace_replay.specs.requests.Requests.{Request}
 use Rattle.trace_replay.specs.Script.{Input}

@@ -1,4 +1,4 @@
--- How the counts go up with what a script brings, that what is set up stays, and what the counts say of slots.
+-- The counts rise by what a script brings, what is set up stays, and what the counts say of slots.
 use Rattle.std.specs.Prelude.{◌≡◌, ℕ, ◌+◌, ◌<◌, ◌≤◌, false, List, [], length, slice_index_or, Option, None, Some, IsSome}
 use Rattle.trace_replay.specs.requests.Requests.{Request}
 use Rattle.trace_replay.specs.Script.{Input}

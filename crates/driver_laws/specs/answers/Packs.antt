@@ -1,4 +1,4 @@
--- The packs' side of acts: what is tried is what they hold, and what acts leave of them.
+-- The packs' side of acts: what is tried is what the packs hold, and what acts leave of the packs.
 use Rattle.std.specs.Prelude.{◌≡◌, ℕ, IsTrue, if◌then◌else◌, List, [], ◌∷◌}
 use Rattle.main_memory.specs.Bytes.{filled}
 use Rattle.main_memory.specs.Blocks.{size_at}

@@ -1,4 +1,4 @@
--- The answers that wait in the driver, as a trace tells them: they are those of the end lines, until they are taken.
+-- The answers that wait in the driver, as a trace tells them: each end line makes one, which waits until it is taken.
 use Rattle.std.specs.Prelude.{◌≡◌, ℕ, ◌<◌, Bool, true, false, List, [], ◌∷◌, ◌++◌, drop, length, map, Option, None, Some}
 use Rattle.trace_replay.specs.requests.Requests.{Request}
 use Rattle.trace_replay.specs.Script.{Input}

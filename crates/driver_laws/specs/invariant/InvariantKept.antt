@@ -1,4 +1,4 @@
--- What holds of the driver between any two acts is kept by each, and between any two calls nothing is left undone.
+-- Each act keeps what holds of the driver between any two acts, and between any two calls nothing is left undone.
 use Rattle.std.specs.Prelude.{◌≡◌, ℕ, ◌<◌, List, [], ◌∷◌, length}
 use Rattle.trace_replay.specs.requests.Requests.{Request}
 use Rattle.trace_replay.specs.Script.{Input}

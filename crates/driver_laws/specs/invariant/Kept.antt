@@ -1,4 +1,4 @@
--- What each act keeps of units and adapters: the world behind it is one in which these hold.
+-- What each act keeps of units and adapters: these facts hold in the world after it.
 use Rattle.std.specs.Prelude.{◌≡◌, ℕ, ◌<◌, Some}
 use Rattle.pack_geometry.specs.TableSpelling.{Table}
 use Rattle.driver_machine.specs.World.{World, adapter_of, unit_at, adapter_at, held_in, slot_in_hand}

@@ -1,4 +1,4 @@
--- Those parts of what holds of the world that speak of queues, slots, frames and answers; and the setups of a world.
+-- The parts of the invariant that speak of queues, slots, frames and answers; and the setups of a world.
 use Rattle.std.specs.Prelude.{◌≡◌, ◌≢◌, ℕ, ◌<◌, ◌≤◌, false, List, [], length, map, Some, None, Contains, IsTrue}
 use Rattle.pack_geometry.specs.TableSpelling.{Table}
 use Rattle.disksort.specs.declared.Waiter.{Waiter}

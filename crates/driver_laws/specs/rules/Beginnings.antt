@@ -1,4 +1,5 @@
--- What is promised of a run that was begun, however it goes on: of a play that stopped as much as of one that came to its end.
+-- What is promised of a run that was begun, however it goes on. It holds of a run that stopped as well as of one that came to its
+-- end.
 use Rattle.std.specs.Prelude.{◌≡◌, ◌⊎◌, ℕ, ◌<◌, ◌≤◌, true, false, List, [], ◌∷◌, ◌++◌, Option, None, Some, is_some}
 use Rattle.pack_geometry.specs.declared.DriveKind.{DriveKind}
 use Rattle.pack_geometry.specs.Geometry.{limit_of, block_count}

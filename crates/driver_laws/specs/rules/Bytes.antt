@@ -1,4 +1,4 @@
--- THE BYTES OF A PARTITION: those of its blocks, one behind the other, each at its place in the partition.
+-- THE BYTES OF A PARTITION: those of its blocks, one after another, each at its place in the partition.
 use Rattle.std.specs.Prelude.{◌≡◌, ◌⊎◌, ℕ, zero, suc, ◌+◌, ◌-◌, ◌*◌, ◌/◌, ◌%◌, ◌<◌, ◌≤◌, nat_le, if◌then◌else◌, List, [], ◌∷◌, ◌++◌, drop, length, replicate, get_or, Option, None, Some, IsSome}
 use Rattle.pack_geometry.specs.declared.DriveKind.{DriveKind}
 use Rattle.partitions.specs.declared.Part.{Part}

@@ -1,5 +1,5 @@
--- RANGES AND REQUESTS for whole blocks: what a read of them gives is a range, and what a write of them leaves goes on with a range that was
--- replaced up to it.
+-- RANGES AND REQUESTS for whole blocks: what a read of whole blocks gives is a range. If a range was replaced up to the blocks of a
+-- write, what the write leaves goes on with that range.
 use Rattle.std.specs.Prelude.{◌≡◌, ◌⊎◌, ℕ, ◌+◌, ◌*◌, ◌<◌, ◌≤◌, List, take, drop, length, Option, Some, IsSome}
 use Rattle.trace_replay.specs.requests.Requests.{Request}
 use Rattle.trace_replay.specs.Packs.{size_of_block}

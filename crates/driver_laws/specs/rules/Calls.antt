@@ -1,5 +1,6 @@
--- WHAT THE CALLS OF THE CACHE COME TO: the cache behind each, and the requests that it makes. `held` is what a block that is no entry was
--- found to hold, or none where it can't be used; `refuses` is whether memory refused the insertion, which no clause ties to anything.
+-- WHAT THE CALLS OF THE CACHE COME TO: the cache after each call, and the requests that the call makes. `held` is what a block
+-- without an entry was found to hold, or none if the block cannot be used. `refuses` says whether memory refused the insertion, and
+-- no clause ties it to anything.
 use Rattle.std.specs.Prelude.{ℕ, Bool, true, false, if◌then◌else◌, List, [], ◌∷◌, ◌++◌, Option, None, Some}
 use Rattle.trace_replay.specs.requests.Requests.{Request}
 use Rattle.driver_laws.specs.rules.Requests.{reads, writes}

@@ -1,4 +1,4 @@
--- EACH BLOCK THAT IS DONE MOVED CLEAN: among the lines of its request is one that tells of a sector at the block's home, with that verdict.
+-- EACH BLOCK THAT IS DONE MOVED CLEAN: one of the lines of its request tells this verdict for a sector at the block's home.
 use Rattle.std.specs.Prelude.{◌≡◌, ℕ, ◌+◌, ◌<◌, List, Contains, Some}
 use Rattle.hardware_table.specs.declared.Moved.TheVariants.{Clean}
 use Rattle.trace_replay.specs.requests.Requests.{Request, Answer, ReadOk, WriteOk, Failed}

@@ -1,4 +1,4 @@
--- A REQUEST THAT NOTHING HINDERS, which is then answered ok.
+-- A REQUEST THAT NOTHING HINDERS. Such a request is answered ok.
 use Rattle.std.specs.Prelude.{◌≡◌, ◌⊎◌, ℕ, ◌<◌, ◌+◌, ◌==◌, if◌then◌else◌, true, false, List, [], ◌∷◌, ◌++◌, Option, IsSome, is_some}
 use Rattle.pack_geometry.specs.declared.DriveKind.{DriveKind}
 use Rattle.pack_geometry.specs.Pack.{Pack}

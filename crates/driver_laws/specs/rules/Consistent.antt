@@ -1,5 +1,5 @@
--- THE PARTS AGREE. Where each unit stands, what its drive does, for whom its adapter is busy and which units are ready at it
--- are one state told four times, and each moment that may come keeps it so.
+-- THE PARTS AGREE. The stage of each unit, what its drive does, the unit for which its adapter is busy and the units that are ready
+-- at the adapter tell one state in four ways, and each moment that may come keeps them in agreement.
 use Rattle.std.specs.Prelude.{◌≡◌, ◌⊎◌, ℕ, ◌<◌, ◌==◌, ◌&&◌, ◌||◌, Bool, true, false, not, List, [], ◌∷◌, is_some, Option, ◌*◌}
 use Rattle.std.specs.Int.{bit_at}
 use Rattle.std.specs.List.{list_any}

@@ -1,4 +1,5 @@
--- THE CACHED CONTENT of a block: its entry's bytes, else what the packs hold; and what each call makes of it.
+-- THE CACHED CONTENT of a block: the bytes of its entry, if it has one, and otherwise what the packs hold; and how each call
+-- changes it.
 use Rattle.std.specs.Prelude.{◌≡◌, ◌⊎◌, ℕ, ◌==◌, ◌&&◌, Bool, true, false, if◌then◌else◌, List, Option, None, Some, IsSome}
 use Rattle.std.specs.List.{AllByRecursion}
 use Rattle.driver_laws.specs.declared.rules.cached.Entry.{Entry}

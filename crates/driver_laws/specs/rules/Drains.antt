@@ -1,4 +1,4 @@
--- How many event lines a drain has, which tell an arrival, a sector, an interrupt or an attention.
+-- How many event lines a drain has. An event line tells an arrival, a sector, an interrupt or an attention.
 use Rattle.std.specs.Prelude.{◌≡◌, ◌⊎◌, ◌↔◌, ℕ, ◌+◌, ◌*◌, ◌≤◌, ◌==◌, true, false, List, [], ◌∷◌, ◌++◌, Option, codes}
 use Rattle.std.specs.List.{list_any}
 use Rattle.pack_geometry.specs.declared.DriveKind.{DriveKind}

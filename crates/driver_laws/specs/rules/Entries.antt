@@ -1,4 +1,4 @@
--- THE CACHE: a list of blocks, the most recent first, with what each holds and whether that was changed.
+-- THE CACHE: a list of blocks, the most recent one first, with what each block holds and whether it was changed.
 use Rattle.std.specs.Prelude.{◌≡◌, ℕ, ◌+◌, ◌-◌, ◌^◌, ◌≤◌, ◌==◌, ◌&&◌, min, Bool, true, false, if◌then◌else◌, List, [], ◌∷◌, ◌++◌, length, take, drop, map, slice_get, Option, None, Some}
 use Rattle.trace_replay.specs.requests.Requests.{Request}
 use Rattle.driver_laws.specs.rules.Requests.{writes}

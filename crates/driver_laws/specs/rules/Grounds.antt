@@ -1,4 +1,4 @@
--- WHAT IS KNOWN OF A CAUSE from the script and the packs alone.
+-- WHAT IS KNOWN OF A CAUSE, by the script and the packs alone.
 use Rattle.std.specs.Prelude.{◌≡◌, ◌⊎◌, ℕ, ◌<◌, ◌+◌, true, false, List, [], ◌∷◌, ◌++◌, Option, None, Some, is_some}
 use Rattle.pack_geometry.specs.declared.DriveKind.{DriveKind}
 use Rattle.pack_geometry.specs.Pack as model

@@ -1,5 +1,5 @@
--- THE SAME IN FEWER WORDS, of the script and its answers alone: a read gives what the writes that were answered before it left, or what
--- the packs held first.
+-- THE SAME IN FEWER WORDS, by the script and its answers alone: a read gives what the writes that were answered before it left, or
+-- what the packs held first.
 use Rattle.std.specs.Prelude.{◌≡◌, ℕ, ◌==◌, if◌then◌else◌, List, [], ◌∷◌, Option, None, Some}
 use Rattle.pack_geometry.specs.declared.DriveKind.{DriveKind}
 use Rattle.trace_replay.specs.requests.Requests.{Request, first_block, Answer, ReadOk, OutsidePartition, EndOfPartition, NoFrames}

@@ -1,5 +1,5 @@
--- THE BLOCK MACHINE: what requests may be answered, and what an answer leaves. No cylinder, register, queue, code or replacement
--- occurs here, and a request changes whole at its answer.
+-- THE BLOCK MACHINE: how requests may be answered, and what an answer leaves. No cylinder, register, queue, code or replacement
+-- occurs here, and a request changes all its blocks at its answer.
 use Rattle.std.specs.Prelude.{◌≡◌, ℕ, ◌<◌, ◌+◌, ◌-◌, ◌*◌, ◌==◌, ◌&&◌, nat_le, nat_lt, if◌then◌else◌, zero, suc, List, [], ◌∷◌, ◌++◌, take, length, Option, None, Some, is_some, unwrap_or, IsSome, true}
 use Rattle.pack_geometry.specs.declared.DriveKind.{DriveKind}
 use Rattle.pack_geometry.specs.declared.DriveKind.TheVariants.{Rp06}

@@ -1,5 +1,5 @@
--- How many event lines are left: those that tell an arrival, a sector, an interrupt or an attention, of which the requests that are
--- outstanding may take so many still.
+-- How many event lines are left. An event line tells an arrival, a sector, an interrupt or an attention, and the outstanding
+-- requests may still take this many.
 use Rattle.std.specs.Prelude.{ℕ, zero, suc, ◌+◌, ◌-◌, ◌*◌, nat_lt, Bool, true, false, if◌then◌else◌, List, [], ◌∷◌, drop, length}
 use Rattle.hardware_table.specs.declared.Moved.{Moved}
 use Rattle.hardware_table.specs.declared.Moved.TheVariants as verdict

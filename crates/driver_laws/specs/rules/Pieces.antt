@@ -1,4 +1,4 @@
--- HOW FAR WHOLE BLOCKS COME, and a piece of a range that lies in them.
+-- HOW MANY WHOLE BLOCKS CAN BE USED, and the piece of a range that lies in these blocks.
 use Rattle.std.specs.Prelude.{◌≡◌, ◌⊎◌, ℕ, ◌+◌, ◌-◌, ◌*◌, ◌%◌, ◌<◌, ◌==◌, min, if◌then◌else◌, None, IsSome}
 use Rattle.driver_laws.specs.rules.Machine.{Blocks}
 

@@ -1,4 +1,5 @@
--- WHERE A REQUEST IS REFUSED: behind its own line of the script, before anything else happens, and by what it meets there.
+-- WHEN A REQUEST IS REFUSED: directly after its own line of the script, before anything else happens, by what the request meets
+-- there.
 use Rattle.std.specs.Prelude.{◌≡◌, ℕ, true, List, [], ◌∷◌, ◌++◌, Option}
 use Rattle.pack_geometry.specs.Pack as model
 use Rattle.pack_geometry.specs.TableSpelling.{Table}

@@ -1,6 +1,6 @@
--- A REPLAY AT REST over packs: no request is outstanding, none is begun, nothing hinders, and drives, tables and sectors are those of the
--- packs. The start of a script over the packs as they then stand is one; any other differs from it in where the heads are, in registers
--- that no rule asks for, and in the number of the last line.
+-- A REPLAY AT REST over packs: no request is outstanding, no request is begun, nothing hinders, and drives, tables and sectors are
+-- those of the packs. The start of a script over the packs as they then are is such a replay. Any other one differs from this start
+-- only in the places of the heads, in registers that no rule asks for, and in the number of the last line.
 use Rattle.std.specs.Prelude.{◌≡◌, ℕ}
 use Rattle.pack_geometry.specs.Pack as model
 use Rattle.pack_geometry.specs.PackTable.{AreTablesOf}

@@ -1,4 +1,5 @@
--- ONE REQUEST AT A TIME, WAITED FOR. From a replay at rest it has one answer, which the map alone gives; and the replay behind it rests again.
+-- ONE REQUEST AT A TIME, WAITED FOR. From a replay at rest a request has one answer, which the map alone gives, and the replay
+-- after it rests again.
 use Rattle.std.specs.Prelude.{◌≡◌, ℕ, ◌+◌, zero, suc, List, [], ◌∷◌, Option, None, Some, is_some, if◌then◌else◌}
 use Rattle.pack_geometry.specs.Pack as model
 use Rattle.pack_geometry.specs.Homes.{contents_of}

@@ -1,5 +1,5 @@
--- THE DRIVER'S BYTES. For which map the driver stands with its packs: what the homes, the buffers and the tables hold between any two
--- acts, whatever led to it.
+-- THE DRIVER'S BYTES. For which map the driver and its packs stand: what the homes, the buffers and the tables hold between any two
+-- acts, whatever led to them.
 use Rattle.std.specs.Prelude.{◌≡◌, ℕ, ◌+◌, ◌-◌, ◌<◌, ◌==◌, ◌&&◌, nat_le, nat_lt, true, false, if◌then◌else◌, List, [], ◌∷◌, take, All, Option, None, Some, IsSome}
 use Rattle.pack_geometry.specs.declared.DriveKind.{DriveKind}
 use Rattle.pack_geometry.specs.Geometry.{place_at, replacement_at}

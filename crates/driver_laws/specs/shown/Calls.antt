@@ -1,5 +1,5 @@
--- A call of the driver in the replay: its lines follow, and behind them the replay shows the world behind its acts, with the
--- packs as they are left.
+-- A call of the driver in the replay: its lines follow, and after them the replay shows the world after its acts, with the packs as
+-- they are left.
 use Rattle.std.specs.Prelude.{◌≡◌, ℕ, Bool, false, filter, ◌&&◌, nat_lt, IsTrue}
 use Rattle.pack_geometry.specs.Pack.{Pack, block_at, is_marked}
 use Rattle.hardware_table.specs.Adapter.{next_block}

@@ -1,4 +1,4 @@
--- A drain comes to its end: how many event lines are left falls with each of its events.
+-- A drain comes to its end: with each of its events, the number of event lines that are left falls.
 use Rattle.std.specs.Prelude.{◌≡◌, ℕ, ◌*◌, ◌<◌, ◌≤◌, List, [], ◌∷◌, ◌++◌, Option, Some}
 use Rattle.pack_geometry.specs.declared.DriveKind.{DriveKind}
 use Rattle.pack_geometry.specs.Pack.{Pack}

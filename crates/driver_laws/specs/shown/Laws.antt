@@ -1,4 +1,4 @@
--- The lines that the machine tells are those that the replay lets come.
+-- The lines that the machine tells are lines that may come in the replay.
 use Rattle.std.specs.Prelude.{◌≡◌, ℕ, List, [], ◌∷◌}
 use Rattle.trace_replay.specs.Moments as moment
 use Rattle.trace_replay.specs.Replay.{Replay, unit_after, replay_told}

@@ -1,4 +1,4 @@
--- The packs as a run leaves them, in the replay's words.
+-- The packs as a run leaves them, in the terms of the replay.
 use Rattle.std.specs.Prelude.{◌≡◌, ℕ, List}
 use Rattle.pack_geometry.specs.Pack.{Pack, block_at}
 use Rattle.trace_replay.specs.Moments.{Moment}

@@ -1,4 +1,5 @@
--- HOW LONG IMAGES GET: a block that is written makes the image of its unit end no earlier than the block does, and nothing else does.
+-- HOW LONG IMAGES BECOME: if a block is written, the image of its unit ends no earlier than that block, and nothing else makes it
+-- longer.
 use Rattle.std.specs.Prelude.{◌≡◌, ℕ, ◌+◌, ◌*◌, ◌==◌, ◌&&◌, nat_lt, if◌then◌else◌, List, [], ◌∷◌, ◌++◌, length}
 use Rattle.hardware_table.specs.Moves.{was_written}
 use Rattle.pack_geometry.specs.Pack.{Pack}

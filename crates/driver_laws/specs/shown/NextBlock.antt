@@ -1,4 +1,4 @@
--- Where the packs failed at a block that was to be written: it is the next block of a write, as the replay has it.
+-- If the packs failed at a block that was to be written, that block is the next block of a write, as the replay has it.
 use Rattle.std.specs.Prelude.{◌≡◌, ℕ, Option, Some}
 use Rattle.pack_geometry.specs.declared.DriveKind.{DriveKind}
 use Rattle.pack_geometry.specs.Pack.{Pack}

@@ -1,4 +1,4 @@
--- Noise that is live flips places of a sector, as what a read gives asks for.
+-- Live noise flips places of a sector, as the laws of what a read gives require.
 use Rattle.std.specs.Prelude.{ℕ, List, [], ◌∷◌}
 use Rattle.fire_code.specs.Burst.{IsPlaces}
 use Rattle.hardware_table.specs.Drive.{DriveState}

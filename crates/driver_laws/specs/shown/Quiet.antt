@@ -1,5 +1,5 @@
--- A QUIET DRIVER: no request is outstanding, no answer waits, and nothing hinders. It stands for a replay at rest over its packs, whatever
--- these hold.
+-- A QUIET DRIVER: no request is outstanding, no answer waits, and nothing hinders. Such a driver stands for a replay at rest over
+-- its packs, whatever these packs hold.
 use Rattle.std.specs.Prelude.{List, ◌≡◌, ◌&&◌, ℕ, nat_lt, Bool, true, false, [], filter, Option, None, Some}
 use Rattle.pack_geometry.specs.declared.DriveKind.{DriveKind}
 use Rattle.pack_geometry.specs.declared.DriveKind.TheVariants.{Rp06}

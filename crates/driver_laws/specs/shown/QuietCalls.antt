@@ -1,5 +1,5 @@
--- A CALL OF THE DRIVER FROM ANY STATE of a replay that is consistent and shows it: no history is asked for, and the number of the line
--- before is not seen.
+-- A CALL OF THE DRIVER FROM ANY STATE of a replay that is consistent and shows the driver. No history is asked for, and the number
+-- of the line before is not seen.
 use Rattle.std.specs.Prelude.{◌≡◌, ◌≤◌, ◌<◌, ℕ, List, [], ◌∷◌, ◌++◌, length, Some, None}
 use Rattle.pack_geometry.specs.Pack.{Pack}
 use Rattle.trace_replay.specs.requests.Requests.{Request}

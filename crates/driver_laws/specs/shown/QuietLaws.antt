@@ -1,5 +1,5 @@
--- What is proved of the driver's bytes: with nothing outstanding the driver stands for what its packs hold, and each call keeps what it
--- stands for.
+-- What is proved of the driver's bytes: a driver with nothing outstanding stands for what its packs hold, and each call keeps what
+-- the driver stands for.
 use Rattle.std.specs.Prelude.{◌≡◌, ℕ, ◌<◌, List, [], ◌∷◌, ◌++◌, length, Contains, Some, true}
 use Rattle.pack_geometry.specs.Pack.{Pack}
 use Rattle.pack_geometry.specs.PackTable.{IsTableOf}

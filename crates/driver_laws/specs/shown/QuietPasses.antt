@@ -1,4 +1,4 @@
--- What is passed on of the crates below, so that those above stand on this one.
+-- What this crate passes on from the crates below, so that the crates above depend on this one only.
 pub use Rattle.driver_laws.specs.shown.TracePasses.{in_use}
 pub use Rattle.driver_laws.specs.shown.TracePasses.{Does, IsFront, Outcome, Site, StopsAtTrace, StopsBefore, Told, stop_in}
 pub use Rattle.driver_laws.specs.shown.TracePasses.{ReadAll, packs_after_all}

@@ -1,4 +1,4 @@
--- How far the writes of a run reach: what an image has from there on stays, and reads reach nowhere.
+-- How far the writes of a run reach. What an image has from there on stays, and reads change nothing.
 use Rattle.std.specs.Prelude.{◌≡◌, ℕ, ◌+◌, ◌*◌, ◌<◌, ◌≤◌, true, List, [], ◌∷◌, drop, length, Option, Some, None, is_some}
 use Rattle.pack_geometry.specs.declared.DriveKind.{DriveKind}
 use Rattle.pack_geometry.specs.Geometry.{block_count}

@@ -1,4 +1,4 @@
--- A run, call by call: the lines so far follow from the start, and the replay behind them stands for the driver.
+-- A run, call by call: the lines so far follow from the start, and the replay after them stands for the driver.
 use Rattle.std.specs.Prelude.{◌≡◌, ℕ, ◌<◌, true, List, [], ◌∷◌, ◌++◌, length, Option, Some, None, is_some}
 use Rattle.pack_geometry.specs.declared.DriveKind.{DriveKind}
 use Rattle.pack_geometry.specs.Pack.{Pack}

@@ -1,4 +1,4 @@
--- What a run leaves of the packs is what the replay leaves; and at its end it is a legal run.
+-- A run leaves its packs as the replay leaves them, and at its end it is a legal run.
 use Rattle.std.specs.Prelude.{◌≡◌, ℕ, ◌<◌, ◌*◌, false, List, drop, length, Option, Some, None, is_some}
 use Rattle.pack_geometry.specs.declared.DriveKind.{DriveKind}
 use Rattle.pack_geometry.specs.Geometry.{block_count}

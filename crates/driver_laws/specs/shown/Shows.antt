@@ -1,4 +1,4 @@
--- Which replay a world stands for between two acts, and which line it may then say.
+-- Which replay a world stands for between two acts, and which line it may then tell.
 use Rattle.std.specs.Prelude.{◌≡◌, ◌≢◌, ℕ, ◌+◌, ◌-◌, ◌*◌, ◌<◌, Bool, true, false, IsTrue, List, [], ◌∷◌, ◌++◌, take, Option, None, Some}
 use Rattle.pack_geometry.specs.declared.DriveKind.{DriveKind}
 use Rattle.hardware_table.specs.Adapter.{AdapterState, next_window}

@@ -1,4 +1,4 @@
--- Where a request of the machine stands, as the replay sees it: its stage, and how far it is.
+-- The stage of a request of the machine, as the replay sees it, and how far the request is.
 use Rattle.std.specs.Prelude.{◌≡◌, ℕ, ◌+◌, ◌-◌, ◌==◌, if◌then◌else◌, List, [], ◌∷◌, ◌++◌, take, drop, Option, None, Some}
 use Rattle.pack_geometry.specs.declared.DriveKind.{DriveKind}
 use Rattle.pack_geometry.specs.Geometry.{replacement_at}

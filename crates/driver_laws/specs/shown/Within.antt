@@ -1,4 +1,4 @@
--- What the replay shows within an event: there a drain does not go on to its next one.
+-- What the replay shows inside an event: a drain does not go on to its next event there.
 use Rattle.std.specs.Prelude.{◌≡◌, ℕ, ◌<◌, Bool, false}
 use Rattle.trace_replay.specs.Conversation.{goes_on}
 use Rattle.trace_replay.specs.Events.{Act}

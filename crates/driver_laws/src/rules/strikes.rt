@@ -5,7 +5,7 @@
 ghost use Rattle.driver_laws.specs.rules.Strikes.{FailuresAreFew};
 
 /// A try that fails uses up one of the times for which a `fault` line armed a fault of its unit, or for which a noise
-/// line arms noise that shows at that unit. Hence, if these times are fewer than 28 in all, fewer than 28 tries of the unit fail.
+/// line lets noise that shows strike there. Hence, if these times are fewer than 28 in all, fewer than 28 tries of the unit fail.
 pub fn strikes_law()
     ensures few { FailuresAreFew }
 {}

@@ -1,4 +1,4 @@
--- Which answer a kind is.
+-- Which answer has which kind.
 use Rattle.std.specs.Prelude.{ℕ, List}
 use Rattle.trace_replay.specs.requests.Requests as told
 use Rattle.trace_replay.specs.declared.requests.answers.AnswerKind.{AnswerKind}

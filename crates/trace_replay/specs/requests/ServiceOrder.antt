@@ -1,7 +1,7 @@
 -- The order in which a unit serves the requests that wait at it.
 --
--- The arm sweeps from low cylinders to high ones, then begins again. A request that joins an empty queue has sweep 0.
--- Any other has the head's sweep, or the next one where its cylinder is below the head's. The queue is the list of those
+-- The arm sweeps from low cylinders to high ones, and then begins again. A request that joins an empty queue has sweep 0. Any other
+-- request has the sweep of the head, or the next sweep if its cylinder is below the head's. The queue is the list of the requests
 -- that wait, sorted by sweep, then by cylinder, then by order of joining.
 use Rattle.std.specs.Prelude.{◌≡◌, ℕ, ◌+◌, ◌==◌, nat_lt, Bool, not, if◌then◌else◌, List, [], ◌∷◌, ◌++◌, map, filter, drop, length}
 use Rattle.std.specs.List.Sorted.{IsNonDecreasingBy}
