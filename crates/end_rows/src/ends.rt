@@ -1,17 +1,17 @@
-// The status of each end, in the working folder.
+// The status of each end of `hpsim`, in the working folder.
 use hpsim_run::end_told;
 use outside_files::start::{TRACE_NAME, words_of};
 use std::alloc::Global;
 use std::os::unix::fs::{FileExt, symlink};
 use std::{fs, io};
 
-/// The device that takes no byte, and gives zeros.
+/// The device that takes no byte and gives zeros.
 const FULL: &str = "/dev/full";
 
-/// The file that answers go to.
+/// The file for the answers.
 const OUT: &str = "hp.out";
 
-/// A command and its script, the files that its answers and its trace go to, the status of its end, and what both files hold then.
+/// A command and its script, the files for its answers and its trace, the status of its end, and what both files hold afterwards.
 type End = (
     &'static str,
     &'static [u8],
@@ -28,8 +28,8 @@ const READ: &str =
 const WRITE: &str =
     "cmd 2 18 1 rcom 5 1\nsector 3 18 1 5 clean\nintr 3 18 1\nend 3 18 1\ncmd 4 18 2 search 0 2\narrive 5 18 2\nattn 5 18 2\ncmd 5 18 2 wcom 5 1\n";
 
-/// Unit 22 has no files at first, the image of unit 21 is a byte too long, and that of unit 18 is a full disk. Where a run writes no
-/// trace, the one before stays.
+/// Unit 22 has no files at first, the image of unit 21 is a byte too long, and the image of unit 18 is a full disk. If a run writes no
+/// trace, the trace of the run before stays.
 static ENDS: [End; 10] = [
     (
         "play",
@@ -90,7 +90,7 @@ static ENDS: [End; 10] = [
         6,
         ["ans 1 at 3 ok\nblk 0 fill 00\n", WRITE],
     ),
-    // The lines stand whole where the answers have no room; nothing is answered where the lines have none.
+    // If there is no room for the answers, the trace has all its lines. If there is no room for the trace, nothing is answered.
     (
         "play",
         b"unit 22 rp06\nread 1 22 c 0 1\n",
@@ -107,7 +107,7 @@ static ENDS: [End; 10] = [
     ),
 ];
 
-/// The words of a line, which stand between its blanks.
+/// The words of a line, which are separated by blanks.
 fn words(alloc: Global, line: &str) -> io::Result<Vec<String>> {
     let mut all = Vec::new(alloc);
     for word in line.split_whitespace() {
@@ -116,7 +116,7 @@ fn words(alloc: Global, line: &str) -> io::Result<Vec<String>> {
     Ok(all)
 }
 
-/// The status of the command of a line in the working folder, whose answers and trace go to files.
+/// Runs the command of a line in the working folder, with files for its answers and its trace, and answers its status.
 fn status_of(rt: &HostRuntime, line: &str, script: &[u8], files: [&str; 2]) -> io::Result<u8> {
     let out = fs::create(rt, files[0])?;
     let words = words_of(rt.alloc(), words(rt.alloc(), line));
@@ -124,7 +124,7 @@ fn status_of(rt: &HostRuntime, line: &str, script: &[u8], files: [&str; 2]) -> i
     Ok(end_told(rt, words, script, out, files[1], &mut errors))
 }
 
-/// Whether a file holds this text, unless it is on the full disk.
+/// Whether a file holds this text, or is the full disk.
 fn holds(rt: &HostRuntime, name: &str, text: &str) -> bool {
     if name == FULL {
         return true;
@@ -135,7 +135,7 @@ fn holds(rt: &HostRuntime, name: &str, text: &str) -> bool {
     }
 }
 
-/// Whether a command ends so.
+/// Whether a command ends as its row says.
 fn ends_so(rt: &HostRuntime, end: &End) -> bool {
     let (line, script, files, wanted, texts) = *end;
     match status_of(rt, line, script, files) {
@@ -152,7 +152,7 @@ fn make_images(rt: &HostRuntime) -> io::Result<()> {
     symlink(rt, FULL, "hp18.dsk")
 }
 
-/// What is left at last.
+/// The files that are left at the end.
 static LEFT: [&str; 5] = ["hp18.dsk", "hp21.dsk", "hp22.dsk", TRACE_NAME, OUT];
 
 #[test]

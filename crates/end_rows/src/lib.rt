@@ -1,5 +1,5 @@
-//! The programs by the status of their end, over files of the working folder and a full disk, with what stands on standard error
-//! then; and wrong ends, which what is promised of `hpsim_run::end_status` refuses.
+//! The ends of the programs, over files of the working folder and a full disk: each status, and what the programs print on standard
+//! error. There are also wrong ends, which the contract of `hpsim_run::end_status` rules out.
 #![tactic(auto)]
 
 ghost use Rattle.end_rows.specs.Wrong.{NothingRun, NothingListed};
@@ -11,8 +11,8 @@ mod sentences;
 #[cfg(test)]
 mod views;
 
-/// An end at which nothing was run is refused: with a script that is not read, and with the status of words that there was no memory
-/// for. The function does nothing: it stands for a law.
+/// The contract rules out an end at which nothing was run: one whose script was not read, and one that has the status of words for
+/// which there was no memory. The function does nothing: its contract is the law.
 pub fn nothing_run()
     ensures unread { NothingRun }
     ensures unlisted { NothingListed }

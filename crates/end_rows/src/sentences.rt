@@ -1,20 +1,20 @@
-// The reason of each end of `hpsim`, on standard error, in the working folder.
+// What `hpsim` prints on standard error at each end, in the working folder.
 use hpsim_run::end_told;
 use outside_files::start::{TRACE_NAME, words_of};
 use std::alloc::Global;
 use std::os::unix::fs::{FileExt, symlink};
 use std::{fs, io};
 
-/// The device that takes no byte, and gives zeros.
+/// The device that takes no byte and gives zeros.
 const FULL: &str = "/dev/full";
 
-/// The file that answers go to.
+/// The file for the answers.
 const OUT: &str = "hp.out";
 
-/// A file that may only be read, by the superuser too.
+/// A file that even the superuser may only read.
 const READ_ONLY: &str = "/proc/sys/kernel/ostype";
 
-/// A command and its script, its files for the answers and the trace, its status, and its first line on standard error.
+/// A command and its script, the files for its answers and its trace, its status, and its first line on standard error.
 type Row = (
     &'static str,
     &'static [u8],
@@ -23,8 +23,8 @@ type Row = (
     &'static str,
 );
 
-/// An image of unit 21 is a block too long, that of unit 20 is a folder, of unit 19 a link to itself, of unit 18 a full disk, of unit 17
-/// a file that may only be read; unit 16 has an RM03's table; the other units have no files.
+/// The image of unit 21 is a block too long, that of unit 20 is a folder, that of unit 19 is a link to itself, that of unit 18 is a
+/// full disk, and that of unit 17 is a file that may only be read. Unit 16 has the table of an RM03. The other units have no files.
 static ROWS: [Row; 50] = [
     // words
     (
@@ -359,7 +359,7 @@ static ROWS: [Row; 50] = [
     ),
 ];
 
-/// The words of a line, which stand between its blanks.
+/// The words of a line, which are separated by blanks.
 fn words(alloc: Global, line: &str) -> io::Result<Vec<String>> {
     let mut all = Vec::new(alloc);
     for word in line.split_whitespace() {
@@ -368,7 +368,7 @@ fn words(alloc: Global, line: &str) -> io::Result<Vec<String>> {
     Ok(all)
 }
 
-/// The status of the command of a line in the working folder, and what is printed on standard error.
+/// Runs the command of a line in the working folder, and answers its status and what it prints on standard error.
 fn told(
     rt: &HostRuntime,
     line: &str,
@@ -382,7 +382,7 @@ fn told(
     Ok((status, errors))
 }
 
-/// Whether the first line of a text is this one.
+/// Whether this is the first line of a text.
 fn begins_so(text: &[u8], wanted: &str) -> bool {
     match str::from_utf8(text) {
         Ok(text) => text.lines().next().unwrap_or("") == wanted,
@@ -390,7 +390,7 @@ fn begins_so(text: &[u8], wanted: &str) -> bool {
     }
 }
 
-/// Whether a command ends so.
+/// Whether a command ends as its row says.
 fn ends_so(rt: &HostRuntime, row: &Row) -> bool {
     let (line, script, files, wanted, reason) = *row;
     match told(rt, line, script, files) {
@@ -410,7 +410,7 @@ fn make_images(rt: &HostRuntime) -> io::Result<()> {
     Ok(())
 }
 
-/// What is left at last.
+/// The files that are left at the end.
 static LEFT: [&str; 8] = [
     "hp16.dsk", "hp17.dsk", "hp18.dsk", "hp19.dsk", "hp20.dsk", "hp21.dsk", TRACE_NAME, OUT,
 ];

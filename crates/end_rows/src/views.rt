@@ -1,4 +1,4 @@
-// The reason of each end of `hpview`, on standard error.
+// What `hpview` prints on standard error at each end.
 use hpview_run::end_status;
 use outside_files::start::words_of;
 use std::alloc::Global;
@@ -69,7 +69,7 @@ static VIEWS: [View; 10] = [
     ),
 ];
 
-/// The words of a line, which stand between its blanks.
+/// The words of a line, which are separated by blanks.
 fn words(alloc: Global, line: &str) -> io::Result<Vec<String>> {
     let mut all = Vec::new(alloc);
     for word in line.split_whitespace() {
@@ -92,7 +92,7 @@ impl Write for Nothing {
     }
 }
 
-/// Whether a command ends so.
+/// Whether a command ends as its row says.
 fn ends_so(alloc: Global, view: &View) -> bool {
     let (line, script, trace, wanted, told) = *view;
     let trace = match trace {

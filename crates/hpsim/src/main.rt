@@ -1,5 +1,7 @@
-//! The program: it makes the real words and streams, and ends with the status of the command, which is `hpsim_run::end_told`. Only
-//! tested: its stored run, and its ends over real files in `end_rows`.
+//! The program `hpsim`. It gets the real words and streams, calls `hpsim_run::end_told`, and ends with the status that this call
+//! answers.
+//!
+//! Only tested: its stored run, and its ends over real files in `end_rows`.
 #![tactic(auto)]
 
 use hpsim_run::end_told;

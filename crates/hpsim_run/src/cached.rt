@@ -14,7 +14,7 @@ use outside_traits::whole::write_all;
 use script_lines::refusal;
 use std::alloc::Global;
 
-/// Reads a script from the source and plays it over the packs through a cache of so many blocks.
+/// Reads a script from the source and plays it over the packs through a cache of `capacity` blocks.
 pub(crate) fn run_cached<S: Source, P: Packs, O: Sink, T: Sink>(
     alloc: Global,
     capacity: u32,

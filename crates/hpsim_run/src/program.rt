@@ -10,8 +10,8 @@ use crate::{Status, run};
 use outside_traits::traits::{Packs, Sink, Source};
 use std::alloc::Global;
 
-/// The status of the command that the words name, and all that `crate::run` promises of it; 9 if there was no memory for the words,
-/// and then nothing else is done.
+/// Runs the command that the words name and answers its status. All that `crate::run` promises of the command holds. If there was no
+/// memory for the words, the status is 9 and nothing is done.
 pub fn end_status<S: Source, P: Packs, O: Sink, T: Sink>(
     alloc: Global,
     words: Option<&[String]>,

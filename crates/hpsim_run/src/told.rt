@@ -1,4 +1,4 @@
-// The program over real files and streams, with the reason of its end on standard error.
+// The program over real files and streams. It prints on standard error why it ended.
 ghost use Rattle.std.specs.Prelude.{◌≡◌, ◌⊎◌, None, IfSome};
 ghost use Rattle.command_parts.specs.Statuses.{status_code};
 ghost use Rattle.command_parts.specs.declared.status.Status.TheVariants.{OutOfMemory};
@@ -24,8 +24,8 @@ use std::io::{Read, Write};
 use std::os::unix::fs::FileExt;
 use std::rt::Files;
 
-/// The status of the command that the words name, over packs in the files of a folder that are read ahead, and what these packs
-/// keep.
+/// Runs the command that the words name over packs in the files of a folder, which read ahead. Answers its status, and what these
+/// packs keep so that a message can say why the run failed.
 fn status_over<F: PackFolder + Drop, S: Source, O: Sink, T: Sink>(
     alloc: Global,
     words: Option<&[String]>,
@@ -46,9 +46,9 @@ fn status_over<F: PackFolder + Drop, S: Source, O: Sink, T: Sink>(
     }
 }
 
-/// Runs the command that the words name over the packs in the working folder, with the script from a reader, the answers to a writer
-/// and the trace to a file of this name, and answers its status. Before, it prints warnings on `errors`, and behind, unless the
-/// status is 0, the reason. A failure to print either is passed over.
+/// Runs the command that the words name over the packs in the working folder, and answers its status. The script comes from a reader,
+/// the answers go to a writer, and the trace goes to a file of this name. Before the run, this call prints warnings on `errors`. After
+/// the run, it prints the reason there unless the status is 0. If either cannot be printed, the failure is ignored.
 pub fn end_told<R: Files + AllocGlobal + Copy, I: Read + Drop, O: Write + Drop, E: Write>(
     rt: R,
     words: Option<Vec<String>>,

@@ -1,5 +1,7 @@
-//! The program: it makes the real words, readers and writer, and ends with the status of the command, which is
-//! `hpview_run::end_status`. Only tested: its stored run, with real streams and files.
+//! The program `hpview`. It gets the real words, readers and writer, calls `hpview_run::end_status`, and ends with the status that
+//! this call answers.
+//!
+//! Only tested: its stored run, with real streams and files.
 #![tactic(auto)]
 
 use hpview_run::end_status;

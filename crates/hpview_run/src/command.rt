@@ -16,7 +16,7 @@ use crate::words::{Command, command_of};
 use outside_traits::traits::{Sink, Source};
 use std::alloc::Global;
 
-/// What is drawn of the run of a script and of the trace that a source gives.
+/// Draws the run of a script and of the trace that a source gives.
 fn drawn_beside<T: Source>(
     alloc: Global,
     command: Command,
@@ -35,7 +35,7 @@ fn drawn_beside<T: Source>(
     }
 }
 
-/// What is drawn of the run that two sources tell of.
+/// Draws the run of the script and the trace that two sources give.
 fn drawn<S: Source, T: Source>(
     alloc: Global,
     command: Command,
@@ -52,7 +52,7 @@ fn drawn<S: Source, T: Source>(
     }
 }
 
-/// Draws what is shown of the run that two sources tell of.
+/// Draws the run of the script and the trace that two sources give, and prints what is drawn on `out`.
 fn run_command<S: Source, T: Source, O: Sink>(
     alloc: Global,
     command: Command,
@@ -75,19 +75,21 @@ fn run_command<S: Source, T: Source, O: Sink>(
     }
 }
 
-/// Runs the command that the words name, and answers the code of its `Status`. `svg` and `text` draw a run, `tsv` prints a line for
-/// each request, and `json` prints trace events for a viewer: of all events of the run, or with two numbers of those from one to
-/// another, counted from 1. `summary` prints a line for each drive and one for all, of the whole run. The run is that of a script,
-/// whose text one source gives, and of its trace, which another gives. What is drawn or printed goes to `out`.
+/// Runs the command that the words name, and answers the code of its `Status`. The source `script` gives the text of a script, the
+/// source `trace` gives the trace of its run, and what is drawn or printed goes to `out`.
+///
+/// `svg` and `text` draw the run, `tsv` prints a line for each request, and `json` prints trace events for a viewer. Each of them
+/// covers all events of the run. If two numbers follow, it covers the events from the first number to the second, counted from 1.
+/// `summary` prints a line for each drive and a line for all drives, always of the whole run.
 ///
 /// | code | status | comes | printed on `out` |
 /// |---|---|---|---|
-/// | 0 | Done | it is drawn | the picture |
-/// | 2 | Usage | exactly where the words are no command | the usage |
-/// | 3 | Refused | only where the script's bytes spell none, or the trace's spell none of the script | `refused line L KIND`, or `refused trace line L KIND` |
-/// | 4 | SourceFailed | only where a source's count of faults rose | nothing |
-/// | 5 | SinkFailed | only where the count of `out` rose | a front of the picture |
-/// | 9 | OutOfMemory | there was no memory | nothing |
+/// | 0 | Done | if the run is drawn | the picture |
+/// | 2 | Usage | exactly if the words are no command | the usage |
+/// | 3 | Refused | only if the script's bytes are no script, or the trace's bytes are no trace of the script | `refused line L KIND`, or `refused trace line L KIND` |
+/// | 4 | SourceFailed | only if a source's count of faults rose | nothing |
+/// | 5 | SinkFailed | only if the count of faults of `out` rose | a front of the picture |
+/// | 9 | OutOfMemory | if there was no memory | nothing |
 pub fn view<S: Source, T: Source, O: Sink>(
     alloc: Global,
     words: &[String],

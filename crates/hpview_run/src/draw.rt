@@ -1,4 +1,4 @@
-// A run is drawn.
+// Draws a run.
 ghost use Rattle.std.specs.Prelude.{◌≡◌, ◌-◌, ◌≢◌, ℕ, List, IfOk, IfErr};
 ghost use Rattle.hpview_run.specs.Drawing.{Draws, IsDrawn, IsDrawnAs};
 ghost use Rattle.hpview_run.specs.Loading.{Loads, RefusesScript, RefusesTrace};
@@ -13,7 +13,7 @@ use run_plan::{events_text, plan_of, requests_text, summary_text};
 use run_view::{View, caption_of, script_law, view_run};
 use std::alloc::{AllocError, Global};
 
-/// The requests that a sheet shows, a line each.
+/// The requests that a sheet shows, one on each line.
 fn requests(alloc: Global, sheet: &Sheet<'_>) -> Result<Vec<u8>, AllocError>
     ensures { IfOk result (λ text. IsDrawnAs Form.Requests sheet.now text.items) }
 {
@@ -21,7 +21,7 @@ fn requests(alloc: Global, sheet: &Sheet<'_>) -> Result<Vec<u8>, AllocError>
     requests_text(alloc, &plan)
 }
 
-/// What the requests of a sheet come to, a line for each drive.
+/// The summary of the requests of a sheet, with a line for each drive.
 fn summary(alloc: Global, sheet: &Sheet<'_>) -> Result<Vec<u8>, AllocError>
     ensures { IfOk result (λ text. IsDrawnAs Form.Summary sheet.now text.items) }
 {
@@ -37,7 +37,7 @@ fn events(alloc: Global, sheet: &Sheet<'_>) -> Result<Vec<u8>, AllocError>
     events_text(alloc, &plan)
 }
 
-/// What is shown of a sheet, in a form.
+/// Draws a sheet in a form.
 fn draw_sheet(alloc: Global, form: Form, sheet: &Sheet<'_>) -> Result<Vec<u8>, AllocError>
     ensures { IfOk result (λ picture. IsDrawnAs form sheet.now picture.items) }
 {
@@ -50,7 +50,7 @@ fn draw_sheet(alloc: Global, form: Form, sheet: &Sheet<'_>) -> Result<Vec<u8>, A
     }
 }
 
-/// The picture of what is shown of a run, in a form, under the caption of its script.
+/// Draws what a view shows of a run in a form, under the caption of its script.
 fn draw(alloc: Global, form: Form, text: &[u8], view: &View<'_>) -> Result<Vec<u8>, ViewFault>
     ensures ok { IfOk result (λ picture. IsDrawn form (caption_in text.now) view.now picture.items) }
     ensures memory { IfErr result (λ fault. fault ≡ ViewFault.Memory) }
@@ -68,7 +68,7 @@ fn draw(alloc: Global, form: Form, text: &[u8], view: &View<'_>) -> Result<Vec<u
     }
 }
 
-/// What is drawn of the run of a script and of the bytes of its trace.
+/// Draws the run of a script and of the bytes of its trace.
 pub(crate) fn draw_run(
     alloc: Global,
     command: Command,

@@ -1,8 +1,10 @@
 //! The command of the program that draws a run, or prints tables and trace events of it: what its words, script, trace and sink come
 //! to, and its status.
 //!
-//! What its contract says, `view`: each status with its cause; what is drawn where it is done; what refusals say; no other status.
-//! Each clause hangs on the objects that it speaks of alone. Only tested: the stored run of `hpview`.
+//! What is proved, in the contract of `view`: the cause of each status, what is drawn if the status is 0, and what refusals print. No
+//! other status comes. Each clause depends only on the objects that it names.
+//!
+//! Only tested: the stored run of `hpview`.
 #![tactic(auto)]
 
 mod command;

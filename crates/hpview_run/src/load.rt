@@ -11,13 +11,13 @@ pub(crate) enum ViewFault {
     /// There was no memory.
     #[error("there is no memory")]
     Memory,
-    /// A call of the source failed.
+    /// A call of a source failed.
     #[error("the source failed")]
     Failed,
-    /// The script's first faulty line, and its fault.
+    /// The script is refused: its first faulty line, and the fault of that line.
     #[error("line {line} is refused")]
     Script { line: u64, kind: ScriptKind },
-    /// The trace's first faulty line, and its fault.
+    /// The trace is refused: its first faulty line, and the fault of that line.
     #[error("trace line {line} is refused")]
     Trace { line: u64, kind: TraceKind },
 }

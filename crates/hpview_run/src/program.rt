@@ -15,7 +15,7 @@ use std::alloc::Global;
 use std::io;
 use std::io::{Read, Write};
 
-/// The words as bytes; none if there is no memory for them.
+/// The words as bytes. There are none if there is no memory for them.
 fn words_of<'a>(alloc: Global, words: &'a Option<Vec<String>>) -> Vec<&'a [u8]> {
     let list = match words {
         Some(words) => bytes_of(alloc, words.as_slice()),
@@ -27,7 +27,7 @@ fn words_of<'a>(alloc: Global, words: &'a Option<Vec<String>>) -> Vec<&'a [u8]> 
     }
 }
 
-/// The status of the command that the words name, and 9 if there was no memory for them.
+/// Runs the command that the words name and answers its status. The status is 9 if there was no memory for the words.
 fn status_of<S: Source, T: Source, O: Sink>(
     alloc: Global,
     words: &Option<Vec<String>>,
@@ -45,9 +45,9 @@ fn status_of<S: Source, T: Source, O: Sink>(
     }
 }
 
-/// The status of the command that the words name, with the script from a reader, the trace from its file, if that could be
-/// opened, and the picture to a writer: that of `crate::view`, and 9 if there was no memory for the words. Unless it is 0, the
-/// reason is printed on `errors`; a failure to print it is passed over.
+/// Runs the command that the words name, as `crate::view` does, and answers its status. The script comes from a reader, the trace
+/// from its file if that could be opened, and the picture goes to a writer. The status is 9 if there was no memory for the words.
+/// Unless the status is 0, this call prints the reason on `errors`. If that fails, the failure is ignored.
 pub fn end_status<R: Read + Drop, T: Read + Drop, W: Write + Drop, E: Write>(
     alloc: Global,
     words: Option<Vec<String>>,

@@ -1,4 +1,4 @@
-// What is printed, and the status that comes of it.
+// Prints a picture or a line, and gives the status that follows.
 ghost use Rattle.std.specs.Prelude.{◌≡◌, ◌⊎◌, ◌++◌, IsTrue};
 ghost use Rattle.outside_traits.specs.Causes.{Rose};
 ghost use Rattle.outside_traits.specs.Puts.{TakesFront};
@@ -15,7 +15,7 @@ use outside_traits::traits::Sink;
 use outside_traits::whole::write_all;
 use script_lines::refusal;
 
-/// A picture is printed.
+/// Prints a picture.
 pub(crate) fn put_picture<O: Sink>(picture: &[u8], out: &mut O) -> Status
     ensures status { (result ≡ Done) ⊎ (result ≡ SinkFailed) }
     ensures done { result ≡ Done → IsTrue (O.tells out.new) → O.taken out.new ≡ O.taken out.old ++ picture.now }
@@ -28,14 +28,14 @@ pub(crate) fn put_picture<O: Sink>(picture: &[u8], out: &mut O) -> Status
     }
 }
 
-/// A line is printed, as far as the sink takes it.
+/// Prints a line, as far as the sink takes it.
 fn put_line<O: Sink>(line: &LineBuf, out: &mut O)
     ensures { IsTrue (O.tells out.new) → Told (O.taken out.old) (O.taken out.new) line.now (O.faults out.old) (O.faults out.new) }
 {
     let _ = write_all(out, line.as_bytes());
 }
 
-/// The usage is printed.
+/// Prints the usage.
 pub(crate) fn put_usage<O: Sink>(out: &mut O) -> Status
     ensures status { result ≡ Usage }
     ensures told { IsTrue (O.tells out.new) → Told (O.taken out.old) (O.taken out.new) usage_text (O.faults out.old) (O.faults out.new) }
@@ -44,7 +44,7 @@ pub(crate) fn put_usage<O: Sink>(out: &mut O) -> Status
     Status::Usage
 }
 
-/// What is wrong is printed, where that is the script or the trace.
+/// Prints what is wrong with the script or the trace. Prints nothing if the fault is another one.
 pub(crate) fn put_fault<O: Sink>(fault: ViewFault, out: &mut O) -> Status
     ensures status { result ≡ status_of fault }
     ensures told { IsTrue (O.tells out.new) → TellsFault fault (O.taken out.old) (O.taken out.new) (O.faults out.old) (O.faults out.new) }

@@ -1,4 +1,4 @@
-// What is read from outside.
+// Reads the script and the trace from outside.
 ghost use Rattle.std.specs.Prelude.{◌≡◌, ◌⊎◌, ℕ, ◌≤◌, IsTrue, List, IfOk, IfErr, IsErrOf};
 ghost use Rattle.outside_traits.specs.Causes.{Rose};
 ghost use Rattle.hpview_run.specs.Loading.{IsRead, Loads, RefusesScript, RefusesTrace};
@@ -15,7 +15,7 @@ const LONGEST_SCRIPT: usize = 16_777_216;
 /// The most bytes of a trace: 256 MiB.
 const LONGEST_TRACE: usize = 268_435_456;
 
-/// Reads the script that a source gives, to its end or to 16 MiB and one byte.
+/// Reads the script that a source gives, up to its end or up to 16 MiB and one byte.
 pub(crate) fn load_script<S: Source>(alloc: Global, source: &mut S) -> Result<Loaded, ViewFault>
     ensures never_again { IsTrue (S.tells source.new) → IsTrue (S.tells source.old) }
     ensures loads { IfOk result (λ loaded. Loads loaded.text.items loaded.script) }
@@ -33,7 +33,7 @@ pub(crate) fn load_script<S: Source>(alloc: Global, source: &mut S) -> Result<Lo
     }
 }
 
-/// Reads the trace that a source gives, to its end or to 256 MiB and one byte.
+/// Reads the trace that a source gives, up to its end or up to 256 MiB and one byte.
 pub(crate) fn load_trace<T: Source>(alloc: Global, source: &mut T) -> Result<Vec<u8>, ViewFault>
     ensures never_again { IsTrue (T.tells source.new) → IsTrue (T.tells source.old) }
     ensures read { IfOk result (λ bytes. IsTrue (T.tells source.new) → IsRead 268435456 (T.left source.old) bytes.items) }

@@ -8,9 +8,9 @@ pub enum Status {
     Done,
     /// The words are no command.
     Usage,
-    /// The bytes of the script spell none, or those of the trace spell none of the script.
+    /// The bytes of the script are no script, or those of the trace are no trace of the script.
     Refused,
-    /// A call of the script's source or of the trace's failed.
+    /// A call of the source of the script or of the source of the trace failed.
     SourceFailed,
     /// A call of the sink failed.
     SinkFailed,

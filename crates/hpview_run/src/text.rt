@@ -4,7 +4,7 @@ ghost use Rattle.hpview_run.specs.Words.{trace_refusal, usage_text, trace_word, 
 use mass_text::{LineBuf, Radix, numeral_law};
 use trace_reader::TraceKind;
 
-/// Puts the word of a trace's fault.
+/// Puts the word for the fault of a trace.
 #[tactic(auto, unfolding(crate::specs::Words::trace_word))]
 fn put_trace_kind(text: &mut LineBuf, kind: TraceKind)
     requires { length text.old ≤ 100 }
@@ -19,7 +19,7 @@ fn put_trace_kind(text: &mut LineBuf, kind: TraceKind)
     }
 }
 
-/// The words that begin a trace's refusal.
+/// The words with which the refusal of a trace begins.
 #[tactic(auto, unfolding(crate::specs::Words::trace_refused))]
 fn trace_refused() -> LineBuf
     ensures text { result ≡ trace_refused }
@@ -30,7 +30,7 @@ fn trace_refused() -> LineBuf
     text
 }
 
-/// The text of a trace's refusal: `refused trace line L KIND`.
+/// The text of the refusal of a trace: `refused trace line L KIND`.
 pub(crate) fn trace_refusal(line: u64, kind: TraceKind) -> LineBuf
     ensures { result ≡ trace_refusal line kind }
 {
@@ -43,7 +43,7 @@ pub(crate) fn trace_refusal(line: u64, kind: TraceKind) -> LineBuf
     text
 }
 
-/// The text for words that are no command.
+/// The usage, which is printed if the words are no command.
 #[tactic(auto, unfolding(crate::specs::Words::usage_text))]
 pub(crate) fn usage() -> LineBuf
     ensures { result ≡ usage_text }

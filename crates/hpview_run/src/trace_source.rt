@@ -6,7 +6,8 @@ use outside_traits::traits::{Source, SourceFailed};
 use std::io;
 use std::io::Read;
 
-/// The trace's file as a source; each call fails if it could not be opened. What is left of it is not told. The first error is kept.
+/// The file of the trace as a source. If the file could not be opened, each call fails. The source does not tell what is left of the
+/// file, and it keeps the first error.
 #[derive(Drop)]
 pub(crate) struct TraceSource<R: Read> {
     file: io::Result<R>,
@@ -15,7 +16,7 @@ pub(crate) struct TraceSource<R: Read> {
 }
 
 impl<R: Read + Drop> TraceSource<R> {
-    /// The source that reads from this file. Its count of faults begins at 0.
+    /// A source that reads from this file. Its count of faults begins at 0.
     pub(crate) fn new(file: io::Result<R>) -> TraceSource<R> {
         TraceSource {
             file,

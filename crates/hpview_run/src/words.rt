@@ -13,13 +13,13 @@ pub enum Form {
     Chart,
     /// A line for each request.
     Requests,
-    /// A line for each drive, and one for all.
+    /// A line for each drive, and a line for all drives.
     Summary,
     /// Trace events for a viewer.
     Events,
 }
 
-/// What the words of the command line ask for: a form, and the events from one to another, counted from 1.
+/// What the words of the command line ask for: a form, and the events `from` to `to`, counted from 1.
 #[derive(Clone, Copy, PartialEq, Eq)]
 pub struct Command {
     pub form: Form,
@@ -30,7 +30,7 @@ pub struct Command {
 /// The largest number of an event.
 const LAST: u64 = 4_294_967_295;
 
-/// The word of a form.
+/// The form that a word names.
 #[tactic(auto, unfolding(crate::specs::Words::form_named))]
 fn form_in(word: &str) -> Option<Form>
     ensures { result ≡ form_named word.now }
@@ -50,7 +50,7 @@ fn form_in(word: &str) -> Option<Form>
     }
 }
 
-/// A form is of the whole run.
+/// Whether a form always shows the whole run.
 fn is_whole(form: Form) -> bool
     ensures { result ≡ is_whole form }
 {
@@ -60,14 +60,14 @@ fn is_whole(form: Form) -> bool
     }
 }
 
-/// A form is shown of the events from one to another.
+/// Whether a form can show the events from one to another.
 fn is_span(form: Form, from: u64, to: u64) -> bool
     ensures { result ≡ is_span form from to }
 {
     from <= to && !is_whole(form)
 }
 
-/// An event's number.
+/// The number of an event that a word gives.
 fn event_in(word: &str) -> Option<u64>
     ensures event { result ≡ event_named word.now }
 {
@@ -81,7 +81,7 @@ fn event_in(word: &str) -> Option<u64>
     }
 }
 
-/// The events from one to another.
+/// The command that shows the events from one to another in a form. None if there is no such command.
 fn span_in(form: Form, from: &str, to: &str) -> Option<Command>
     ensures { result ≡ span_of form (event_named from.now) (event_named to.now) }
 {
@@ -94,7 +94,7 @@ fn span_in(form: Form, from: &str, to: &str) -> Option<Command>
     }
 }
 
-/// The command that the words name; None where they name none.
+/// The command that the words name. None if they name no command.
 pub(crate) fn command_of(words: &[String]) -> Option<Command>
     ensures { result ≡ command_named (map string_bytes words.now) }
 {

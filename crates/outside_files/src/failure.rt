@@ -1,4 +1,4 @@
-// What a file or a stream keeps for the message of a run that failed. No contract speaks of it.
+// What a file or a stream keeps so that a message can say why a run failed. No contract speaks of it.
 use crate::folder::Part;
 use std::alloc::Global;
 use std::io;
@@ -6,19 +6,19 @@ use std::io;
 /// What was tried with a file.
 #[derive(Clone, Copy, Debug, PartialEq, Eq)]
 pub enum Deed {
-    /// It was to be opened for reading.
+    /// Open the file for reading.
     Open,
-    /// It was to be made, or opened for writing.
+    /// Make the file, or open it for writing.
     Make,
-    /// Bytes of it were to be read.
+    /// Read bytes of the file.
     Read,
-    /// Bytes were to be written to it.
+    /// Write bytes to the file.
     Write,
-    /// Its length was asked.
+    /// Get the length of the file.
     Measure,
 }
 
-/// A call on a file of a unit that failed.
+/// A failed call on a unit's file: what it tried, on which file, and the error.
 #[derive(Clone, Copy)]
 pub struct FileFailure {
     pub deed: Deed,
@@ -27,7 +27,7 @@ pub struct FileFailure {
     pub error: io::Error,
 }
 
-/// What packs in files keep: the first call that failed, how many blocks were written, and the last one of them.
+/// What packs in files keep: the first call that failed, how many blocks were written, and the last block that was written.
 #[derive(Clone, Copy)]
 pub struct PackNotes {
     pub first: Option<FileFailure>,
@@ -35,7 +35,7 @@ pub struct PackNotes {
     pub last: u32,
 }
 
-/// What a source keeps: the first error of its reader, how many bytes it gave, and, if it is asked to, these bytes.
+/// What a source keeps: the first error of its reader and how many bytes the source gave. It also keeps these bytes if it is asked to.
 #[derive(Drop)]
 pub struct SourceNotes {
     pub first: Option<io::Error>,
@@ -56,7 +56,7 @@ pub struct SinkNotes {
 }
 
 impl PackNotes {
-    /// Nothing was written, and nothing failed.
+    /// The notes of packs on which nothing was written and nothing failed.
     pub fn new() -> PackNotes {
         PackNotes {
             first: None,
@@ -65,7 +65,7 @@ impl PackNotes {
         }
     }
 
-    /// Keeps what failed, unless another call failed before. If the file is not open, the call could not open it.
+    /// Keeps what failed, unless an earlier call failed. If the file is not open, the call failed to open it.
     pub(crate) fn note<T>(
         &mut self,
         answer: &io::Result<T>,
@@ -97,7 +97,7 @@ impl PackNotes {
     }
 }
 
-/// What a call really tried, if the file is not open.
+/// What a call really tried: if the file is not open, the call tried to open or make it.
 fn tried(deed: Deed, is_open: bool) -> Deed {
     if is_open {
         return deed;
@@ -117,12 +117,12 @@ impl SourceNotes {
         }
     }
 
-    /// From now on the bytes that are given are kept too.
+    /// From now on, the source also keeps the bytes that it gives.
     pub(crate) fn keep(&mut self, alloc: Global) {
         self.kept = Some(Vec::new(alloc));
     }
 
-    /// Notes what a reader answered. If there is no memory for its bytes, none are kept.
+    /// Notes what a reader answered. If there is no memory for its bytes, the source keeps no bytes.
     pub(crate) fn note(&mut self, answer: &io::Result<usize>, into: &[u8]) {
         match answer {
             Ok(count) => self.take(into.get(..*count).unwrap_or(b"")),

@@ -9,8 +9,8 @@ use std::io;
 use std::io::{ErrorKind, Write};
 use std::rt::Files;
 
-/// A file as a sink, made anew at the first write. What it took is not told; each error counts as a fault, and so does
-/// a call that takes no byte of a piece that is not empty.
+/// A file as a sink. The first write makes the file anew. The sink does not tell what it took. Each error counts as a fault, and so
+/// does a call that takes no byte of a piece that is not empty.
 #[derive(Drop)]
 pub struct FileSink<'a, R: Files> {
     rt: R,
@@ -21,7 +21,7 @@ pub struct FileSink<'a, R: Files> {
 }
 
 impl<'a, R: Files> FileSink<'a, R> {
-    /// The sink that writes to the file of this name. It opens nothing, and its count of faults begins at 0.
+    /// A sink that writes to the file of this name. This call opens nothing, and the count of faults begins at 0.
     pub fn new(rt: R, name: &'a str) -> FileSink<'a, R>
         ensures file { result.name.now ≡ name.now }
         ensures faults { result.faults ≡ 0 }
@@ -35,12 +35,12 @@ impl<'a, R: Files> FileSink<'a, R> {
         }
     }
 
-    /// The first call that failed, and its error: the file could not be made, or could not be written.
+    /// What the first failed call tried, to make the file or to write to it, and its error.
     pub fn first_failure(&self) -> Option<(Deed, io::Error)> {
         self.first
     }
 
-    /// The name of its file.
+    /// The name of the file.
     pub fn name(&self) -> &str {
         self.name
     }
@@ -61,7 +61,7 @@ impl<'a, R: Files> FileSink<'a, R> {
     }
 }
 
-/// Keeps an error, unless there was one before.
+/// Keeps an error, unless there was an earlier one.
 fn note_first(first: &mut Option<(Deed, io::Error)>, answer: &io::Result<usize>, deed: Deed) {
     if let Err(error) = answer {
         if first.is_none() {
@@ -85,10 +85,10 @@ impl<'a, R: Files> Sink for FileSink<'a, R> {
         ensures bytes { IfOk result (λ n. IsTrue false → ◌≡◌ {A = List ℕ} [] ([] ++ take n from.now)) }
         ensures err { OnErr result (IsTrue false → ◌≡◌ {A = List ℕ} [] []) }
         ensures cause { HasCause self.old.faults self.new.faults result }
-        // It counts each failure and nothing else, and keeps its file's name.
+        // The sink counts each failure and nothing else, and keeps the name of its file.
         ensures counted { Counts result self.old.faults self.new.faults }
         ensures name { self.new.name.now ≡ self.old.name.now }
-        // Where its file was open, it takes what the file takes.
+        // If the file was open, the sink takes what the file takes.
         ensures on { TakesOn R.File.contents self.old.file self.new.file result from.now }
     {
         let answer = some_taken(self.try_write(from), from.len());

@@ -36,7 +36,7 @@ fn mark_byte(on: bool) -> u8
     u8::from(on)
 }
 
-/// Keeps why a call on a unit's file failed, unless one failed before.
+/// Keeps why a call on a unit's file failed, unless an earlier call failed.
 fn note<F: PackFolder, T>(
     folder: &F,
     notes: &mut PackNotes,
@@ -49,11 +49,12 @@ fn note<F: PackFolder, T>(
     notes.note(answer, deed, unit, part, is_open);
 }
 
-/// The packs in the files of a folder: block b is bytes 512*b to 512*b+511 of its unit's image, and byte b of the marks belongs
-/// to block b. A missing file is empty, and is made at its first write.
+/// The packs in the files of a folder. Block b is bytes 512*b to 512*b+511 of its unit's image, and byte b of the marks belongs
+/// to block b. A missing file is empty, and the first write to it makes it.
 ///
-/// They tell what they hold where the folder does, up to a write that failed when a part of its bytes had gone out: that block
-/// is neither old nor new. Each error counts as a fault, and the first one is kept; a call that was interrupted is made again.
+/// If the folder tells what it holds, the packs do so too, until a write fails after it has written some of its bytes: the block of
+/// that write is then neither old nor new. Each error counts as a fault, and the first error is kept. A call that was interrupted is
+/// made again.
 #[derive(Drop)]
 pub struct FilePacks<F> {
     folder: F,
@@ -66,7 +67,7 @@ impl<R: Files + AllocGlobal> FilePacks<OsFolder<R>>
 where
     R::File: FileExt,
 {
-    /// The packs in the files `hpU.dsk` and `hpU.bad` of the working folder. It opens nothing, and its count of faults begins
+    /// The packs in the files `hpU.dsk` and `hpU.bad` of the working folder. This call opens nothing, and the count of faults begins
     /// at 0.
     pub fn new(rt: R) -> FilePacks<OsFolder<R>>
         ensures faults { result.faults ≡ 0 }
@@ -91,7 +92,7 @@ impl<F: PackFolder> FilePacks<F> {
         }
     }
 
-    /// What is kept for the message of a run that failed.
+    /// What the packs keep so that a message can say why a run failed.
     pub fn notes(&self) -> PackNotes {
         self.notes
     }
@@ -116,7 +117,7 @@ impl<F: PackFolder> FilePacks<F> {
         Ok(is_mark(byte[0]))
     }
 
-    /// Writes bytes at a place of a file. Where that fails when some of them went out, the packs are torn.
+    /// Writes bytes at a place of a file. If the write fails after some of them were written, the packs are torn.
     fn put(&mut self, unit: u8, part: Part, at: u64, from: &[u8]) -> io::Result<()>
         requires { unit < 32 }
         ensures never_again { IsTrue (F.tells self.new.folder) → IsTrue (F.tells self.old.folder) }
@@ -141,8 +142,8 @@ impl<F: PackFolder> Packs for FilePacks<F> {
 
     ghost faults = { λ p. p.faults };
 
-    // Each call counts a failure where it answers one, and nowhere else. A block is torn by a write alone that failed when a part
-    // of its bytes had gone out.
+    // A call counts a failure exactly if it answers one. Only a write can tear a block: one that fails after it has written some of
+    // its bytes.
     fn length(&mut self, unit: u8) -> Result<u64, StoreFailed>
         requires { unit < 32 }
         ensures never_again { IsTrue (tells_whole (F.tells self.new.folder) self.new.torn) → IsTrue (tells_whole (F.tells self.old.folder) self.old.torn) }

@@ -8,14 +8,14 @@ use std::io;
 /// The two files of a unit.
 #[derive(Clone, Copy)]
 pub enum Part {
-    /// The bytes of its blocks.
+    /// The image: the bytes of the unit's blocks.
     Image,
-    /// A byte for each block, not 0 where it is marked.
+    /// The marks: a byte for each block, which is not 0 if the block is marked.
     Marks,
 }
 
 impl Part {
-    /// A file's number among those of all units, below 64.
+    /// The number of this file of a unit among the files of all units, below 64 for the units 0 to 31.
     pub fn number(self, unit: u8) -> usize
         ensures { result ≡ file_number unit self }
     {
@@ -25,7 +25,7 @@ impl Part {
         }
     }
 
-    /// The name of a unit's file: `hpU.dsk` or `hpU.bad`, with the unit in decimal.
+    /// The name of this file of a unit: `hpU.dsk` or `hpU.bad`, with the unit in decimal. An error if there is no memory for the name.
     pub fn name(self, alloc: Global, unit: u8) -> Result<String, AllocError>
         ensures { IfOk result (λ name. string_bytes name ≡ name_of unit self) }
     {
@@ -38,16 +38,16 @@ impl Part {
 
 /// A folder with two files for each of the units 0 to 31. A missing file is empty.
 ///
-/// What the files hold is told or not told; a folder that no longer tells never tells again. An error is std's own, and it has
-/// changed nothing.
+/// A folder either tells what its files hold or does not. A folder that stops telling never tells again. Errors are those of `std`,
+/// and a call that answers an error has changed nothing.
 pub trait PackFolder {
-    /// Whether it tells what the files hold.
+    /// Whether the folder tells what the files hold.
     ghost tells: { Self → Bool };
 
-    /// What the two files of each unit hold, where it tells.
+    /// What the two files of each unit hold, if the folder tells.
     ghost held: { Self → ℕ → Pack };
 
-    /// Whether a file is open. If it is not, a call on it that failed could not open it.
+    /// Whether a file is open. If it is not, a failed call on the file could not open it.
     fn is_open(&self, _unit: u8, _part: Part) -> bool {
         true
     }
@@ -59,7 +59,8 @@ pub trait PackFolder {
         ensures length { IfOk result (λ n. IsTrue (tells self.new) → n ≡ length (file_of (held self.old unit) part)) }
         ensures same { IsTrue (tells self.new) → held self.new ≡ held self.old };
 
-    /// Reads bytes of a file from a place on, at least one where one is there and fits, and answers how many they are.
+    /// Reads bytes of a file from a place on, and answers how many it read. It reads at least one byte, except if the file has none
+    /// there or none fits.
     fn read_at(&mut self, unit: u8, part: Part, at: u64, into: &mut [u8]) -> io::Result<usize>
         requires { unit < 32 }
         ensures bound { IfOk result (λ n. n ≤ length into.new) }
@@ -68,8 +69,8 @@ pub trait PackFolder {
         ensures end { IfOk result (λ n. IsTrue (tells self.new) → n ≡ 0 → 0 < length into.new → length (file_of (held self.old unit) part) ≤ at) }
         ensures same { IsTrue (tells self.new) → held self.new ≡ held self.old };
 
-    /// Writes a front of these bytes at a place of a file, at least one of some, and answers how many they are. The file is made
-    /// where it is missing, and extended by zeros where it is short.
+    /// Writes a front part of these bytes at a place of a file, and answers how many bytes it wrote. It writes at least one byte,
+    /// except if there are none. A missing file is made, and a file that ends before the place is extended by zeros.
     fn write_at(&mut self, unit: u8, part: Part, at: u64, from: &[u8]) -> io::Result<usize>
         requires { unit < 32 }
         ensures bound { IfOk result (λ n. n ≤ length from.now) }

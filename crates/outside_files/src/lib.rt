@@ -1,11 +1,13 @@
-//! What the program meets outside where it really runs: sources and sinks over std's readers and writers, and packs in the two
-//! files of each unit, over any folder that has them, of which the working folder is one.
+//! What the program meets outside when it really runs: sources and sinks over the readers and writers of `std`, and packs in the two
+//! files of each unit. These files are in any `PackFolder`, for example the working folder.
 //!
-//! What is proved: sources and sinks hand on just what is behind them, and count each failure once; where that is known to tell,
-//! they tell. Packs over a folder that tells are packs that tell, though each of its calls may be short or interrupted, up to a
-//! write that failed when a part of it had gone out. What is below that, three calls on the working folder (`os_folder`), the file
-//! that a sink makes, and what a program begins with (`start`, but for what its words come to), tells nothing and is only tested, in
-//! `pack_rows` and by the programs' stored runs.
+//! What is proved: sources and sinks pass on exactly what their readers give and their writers take, and count each failure once. A
+//! source or sink that `known` makes tells these bytes. Packs over a folder that tells are packs that tell,
+//! although each call of the folder may be short or interrupted, until a write fails after it has written some of its bytes.
+//!
+//! Only tested, in `pack_rows` and by the programs' stored runs: the three calls on the working folder (`os_folder`), the file that a
+//! sink makes, and what a program begins with (`start`, except `words_of`, which is proved). The working folder and the sink of a
+//! file tell nothing.
 #![tactic(auto)]
 
 pub mod failure;

@@ -13,14 +13,14 @@ use std::io::ErrorKind;
 use std::os::unix::fs::FileExt;
 use std::rt::Files;
 
-/// A file that is open, and why it may not be written, if so.
+/// An open file. If it may not be written, `locked` says why.
 #[derive(Drop)]
 struct Opened<F> {
     file: F,
     locked: Option<io::Error>,
 }
 
-/// What is known of a file: one that was opened stays open, and one that was missing stays missing until it is made here.
+/// What is known of a file. An opened file stays open, and a missing file stays missing until it is made here.
 #[derive(Drop)]
 enum Known<F> {
     Nothing,
@@ -29,7 +29,7 @@ enum Known<F> {
 }
 
 impl<F: Drop> Known<F> {
-    /// What an opening tells of a file: one that is not there is missing, unless it was to be made.
+    /// What an attempt to open a file tells. A file that does not exist is missing, unless it was to be made: then that is an error.
     fn by_opening(answer: io::Result<Opened<F>>, create: bool) -> io::Result<Known<F>>
         ensures open { IfOk answer (λ opened. result ≡ Ok (Open opened)) }
         ensures missing { IfErr answer (λ error. error_kind error ≡ NotFound → create ≡ false → result ≡ Ok Missing) }
@@ -42,7 +42,7 @@ impl<F: Drop> Known<F> {
         }
     }
 
-    /// Whether the file is yet to be opened, or to be made.
+    /// Whether the file must still be opened or made.
     fn is_to_be_opened(&self, create: bool) -> bool
         ensures unknown { self.now ≡ Nothing → result ≡ true }
         ensures missing { self.now ≡ Missing → result ≡ create }
@@ -67,15 +67,16 @@ impl<F: Drop> Known<F> {
     }
 }
 
-/// The files `hpU.dsk` (image) and `hpU.bad` (marks) of the working folder, for unit U in decimal. A missing file is made at
-/// its first write; that it is missing is asked once, so nobody else may make it. One that may only be read is read alone.
+/// The files `hpU.dsk` (image) and `hpU.bad` (marks) of the working folder, for unit U in decimal. The first write to a missing file
+/// makes it. Whether a file is missing is found out only once, so nobody else may make it meanwhile. A file that may only be read can
+/// be read, and each write to it fails.
 #[derive(Drop)]
 pub struct OsFolder<R: Files + AllocGlobal> {
     rt: R,
     files: Vec<Known<R::File>>,
 }
 
-/// Opens a file for reading and writing. One that may not be written, and is not to be made, is opened for reading alone.
+/// Opens a file for reading and writing. If it may not be written and is not to be made, it is opened for reading only.
 fn open_file<R: Files>(rt: &R, name: &str, create: bool) -> io::Result<Opened<R::File>> {
     let mut how = OpenOptions::new();
     how.read(true).write(true).create(create);
@@ -92,14 +93,14 @@ fn open_file<R: Files>(rt: &R, name: &str, create: bool) -> io::Result<Opened<R:
     }
 }
 
-/// Whether a file that can't be opened for writing may still be one to read.
+/// Whether a file that cannot be opened for writing may still be opened for reading.
 fn is_forbidden(kind: ErrorKind) -> bool
     ensures { (result ≡ true) ↔ (kind ≡ PermissionDenied) ⊎ (kind ≡ ReadOnlyFilesystem) }
 {
     kind == ErrorKind::PermissionDenied || kind == ErrorKind::ReadOnlyFilesystem
 }
 
-/// The length of a file in bytes, by what the system says of it.
+/// The length of a file in bytes, as its metadata gives it.
 fn length_by(metadata: &Metadata) -> u64
     ensures { result ≡ metadata_len metadata.now }
 {
@@ -113,7 +114,7 @@ fn length_in_bytes<F: OpenFile>(file: &F) -> io::Result<u64> {
 }
 
 impl<R: Files + AllocGlobal> OsFolder<R> {
-    /// The working folder. It opens nothing.
+    /// The working folder. This call opens nothing.
     pub fn new(rt: R) -> OsFolder<R>
         ensures { vec_len result.files ≡ 0 }
     {
@@ -121,7 +122,7 @@ impl<R: Files + AllocGlobal> OsFolder<R> {
         OsFolder { rt, files }
     }
 
-    /// Opens a file, or finds that it is missing where it is not to be made.
+    /// Opens a file, or finds that it is missing if it is not to be made.
     fn open(&self, unit: u8, part: Part, create: bool) -> io::Result<Known<R::File>> {
         let name = part.name(self.rt.alloc(), unit)?;
         Known::by_opening(open_file(&self.rt, name.as_str(), create), create)
@@ -136,7 +137,8 @@ impl<R: Files + AllocGlobal> OsFolder<R> {
         Ok(())
     }
 
-    /// Opens a file where it is not open, unless it is known to be missing and is not to be made, and answers its number.
+    /// Opens a file and answers its number. It opens nothing if the file is open, or if the file is known to be missing and is not to
+    /// be made.
     fn look_up(&mut self, unit: u8, part: Part, create: bool) -> io::Result<usize>
         requires { unit < 32 }
         ensures { IfOk result (λ number. number < vec_len self.new.files) }
@@ -149,7 +151,7 @@ impl<R: Files + AllocGlobal> OsFolder<R> {
         Ok(number)
     }
 
-    /// A file, opened where it is not; none where it is missing.
+    /// A file, which is opened if it is not open. None if the file is missing.
     fn find(&mut self, unit: u8, part: Part, create: bool) -> io::Result<Option<&Opened<R::File>>>
         requires { unit < 32 }
     {

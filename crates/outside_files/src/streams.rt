@@ -9,7 +9,7 @@ use std::alloc::Global;
 use std::io;
 use std::io::{ErrorKind, Read, Write};
 
-/// An answer of std as an answer of this crate: an error counts as a fault, and nothing else does.
+/// An answer of `std` as an answer of this crate. An error counts as a fault, and nothing else does.
 pub(crate) fn counted<T, E: Drop>(
     answer: io::Result<T>,
     failed: E,
@@ -27,7 +27,7 @@ pub(crate) fn counted<T, E: Drop>(
     }
 }
 
-/// A writer's answer for a piece of a size: to take no byte of a piece that is not empty is an error.
+/// A writer's answer for a piece of `size` bytes. It is an error if the writer takes no byte of a piece that is not empty.
 pub(crate) fn some_taken(answer: io::Result<usize>, size: usize) -> io::Result<usize>
     ensures exact { is_err result ≡ takes_nothing answer size }
     ensures count { IfOk result (λ n. answer ≡ Ok n) }
@@ -39,8 +39,8 @@ pub(crate) fn some_taken(answer: io::Result<usize>, size: usize) -> io::Result<u
     Ok(count)
 }
 
-/// A reader of std as a source, which gives just what the reader gives. Each of the reader's errors counts as a fault. It tells
-/// what is left where the reader is known to.
+/// A reader of `std` as a source, which gives exactly what the reader gives. Each error of the reader counts as a fault. A
+/// source that `known` makes tells what is left of the reader's bytes.
 #[derive(Drop)]
 pub struct StdSource<R: Read> {
     inner: R,
@@ -51,7 +51,7 @@ pub struct StdSource<R: Read> {
 }
 
 impl<R: Read> StdSource<R> {
-    /// The source that reads from this reader, and tells nothing. Its count of faults begins at 0.
+    /// A source that reads from this reader and tells nothing. Its count of faults begins at 0.
     pub fn new(inner: R) -> StdSource<R>
         ensures inner { result.inner ≡ inner }
         ensures untold { result.is_known ≡ false }
@@ -65,7 +65,7 @@ impl<R: Read> StdSource<R> {
         }
     }
 
-    /// The source that reads from this reader, whose bytes are known, and tells what is left of them. Its count of faults begins
+    /// A source that reads from this reader, whose bytes are known, and tells what is left of them. Its count of faults begins
     /// at 0.
     pub fn known(inner: R) -> StdSource<R>
         requires { IsTrue (is_some (R.remaining inner)) }
@@ -83,7 +83,7 @@ impl<R: Read> StdSource<R> {
 }
 
 impl<R: Read> StdSource<R> {
-    /// From now on the bytes that are given are kept, for the message of a run that refuses them.
+    /// From now on, the source keeps the bytes that it gives, so that a message can say why a run refused them.
     pub fn keep(&mut self, alloc: Global)
         ensures inner { self.new.inner ≡ self.old.inner }
         ensures told { self.new.is_known ≡ self.old.is_known }
@@ -92,7 +92,7 @@ impl<R: Read> StdSource<R> {
         self.notes.keep(alloc);
     }
 
-    /// What is kept for the message of a run that failed.
+    /// What the source keeps so that a message can say why a run failed.
     pub fn notes(&self) -> &SourceNotes {
         &self.notes
     }
@@ -113,7 +113,7 @@ impl<R: Read> Source for StdSource<R> {
         ensures end { IfOk result (λ n. IsTrue self.new.is_known → n ≡ 0 → 0 < length into.old → bytes_in (R.remaining self.new.inner) ≡ []) }
         ensures err { OnErr result (IsTrue self.new.is_known → bytes_in (R.remaining self.new.inner) ≡ bytes_in (R.remaining self.old.inner)) }
         ensures cause { HasCause self.old.faults self.new.faults result }
-        // It gives what the reader gives, goes on to tell, and counts each of the reader's errors and nothing else.
+        // The source gives what the reader gives, still tells if it told, and counts each error of the reader and nothing else.
         ensures still { self.new.is_known ≡ self.old.is_known }
         ensures counted { Counts result self.old.faults self.new.faults }
         ensures given { ReadConsumes (R.remaining self.old.inner) (R.remaining self.new.inner) result into.new }
@@ -124,8 +124,8 @@ impl<R: Read> Source for StdSource<R> {
     }
 }
 
-/// A writer of std as a sink, which takes just what the writer takes. Each of the writer's errors counts as a fault, and so does
-/// a call that takes no byte of a piece that is not empty. It tells what it took where the writer is known to.
+/// A writer of `std` as a sink, which takes exactly what the writer takes. Each error of the writer counts as a fault, and so does
+/// a call that takes no byte of a piece that is not empty. A sink that `known` makes tells what it took.
 #[derive(Drop)]
 pub struct StdSink<W: Write> {
     inner: W,
@@ -136,7 +136,7 @@ pub struct StdSink<W: Write> {
 }
 
 impl<W: Write> StdSink<W> {
-    /// The sink that writes to this writer, and tells nothing. Its count of faults begins at 0.
+    /// A sink that writes to this writer and tells nothing. Its count of faults begins at 0.
     pub fn new(inner: W) -> StdSink<W>
         ensures inner { result.inner ≡ inner }
         ensures untold { result.is_known ≡ false }
@@ -150,7 +150,7 @@ impl<W: Write> StdSink<W> {
         }
     }
 
-    /// The sink that writes to this writer, whose bytes are known, and tells them. Its count of faults begins at 0.
+    /// A sink that writes to this writer, whose bytes are known, and tells them. Its count of faults begins at 0.
     pub fn known(inner: W) -> StdSink<W>
         requires { IsTrue (is_some (W.contents inner)) }
         ensures inner { result.inner ≡ inner }
@@ -167,7 +167,7 @@ impl<W: Write> StdSink<W> {
 }
 
 impl<W: Write> StdSink<W> {
-    /// What is kept for the message of a run that failed.
+    /// What the sink keeps so that a message can say why a run failed.
     pub fn notes(&self) -> &SinkNotes {
         &self.notes
     }
@@ -188,7 +188,7 @@ impl<W: Write> Sink for StdSink<W> {
             → bytes_in (W.contents self.new.inner) ≡ bytes_in (W.contents self.old.inner) ++ take n from.now) }
         ensures err { OnErr result (IsTrue self.new.is_known → bytes_in (W.contents self.new.inner) ≡ bytes_in (W.contents self.old.inner)) }
         ensures cause { HasCause self.old.faults self.new.faults result }
-        // It takes what the writer takes, goes on to tell, and counts each failure and nothing else.
+        // The sink takes what the writer takes, still tells if it told, and counts each failure and nothing else.
         ensures still { self.new.is_known ≡ self.old.is_known }
         ensures counted { Counts result self.old.faults self.new.faults }
         ensures taken { WriteAppends (W.contents self.old.inner) (W.contents self.new.inner) result from.now }

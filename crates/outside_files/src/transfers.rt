@@ -1,4 +1,4 @@
-// Whole pieces of a file, by calls of a folder that may be short or interrupted.
+// Moves whole pieces of a file by calls of a folder. Each call may be short or interrupted.
 ghost use Rattle.std.specs.Prelude.{◌≡◌, ◌<◌, ◌≤◌, ◌+◌, ◌-◌, ◌++◌, IsTrue, length, take, replicate, IfOk, OnOk, OnErr};
 ghost use Rattle.pack_geometry.specs.Pack.{window};
 ghost use Rattle.outside_files.specs.Folder.{file_of, IsFilled, with_put};
@@ -7,10 +7,10 @@ use crate::folder::{PackFolder, Part};
 use std::io;
 use std::io::ErrorKind;
 
-/// How often a call may be made for one piece: as often as std does it, so that an end that never comes is an error.
+/// How many calls may be made for one piece. If they do not suffice, the answer is the error `TimedOut`.
 const MOST_CALLS: u64 = u64::MAX;
 
-/// The place behind so many bytes from a place on; an error where there is none.
+/// The place `count` bytes behind a place. An error if that place does not fit a `u64`.
 fn behind(at: u64, count: usize) -> io::Result<u64>
     ensures { IfOk result (λ place. place ≡ at + count) }
 {
@@ -18,7 +18,7 @@ fn behind(at: u64, count: usize) -> io::Result<u64>
         .ok_or(io::Error::from(ErrorKind::InvalidInput))
 }
 
-/// Whether an answer of no count is that of a call that was interrupted, and is to be made again.
+/// Whether an error says that the call was interrupted, so that it must be made again.
 fn is_interrupted(error: &io::Error) -> bool {
     error.kind() == ErrorKind::Interrupted
 }
@@ -40,7 +40,7 @@ pub(crate) fn length_of<F: PackFolder>(folder: &mut F, unit: u8, part: Part) -> 
     Err(io::Error::from(ErrorKind::TimedOut))
 }
 
-/// Reads as many bytes of a file as there are from a place on, and as fit, and answers how many they are.
+/// Reads the bytes of a file from a place on, as many as there are and as fit, and answers how many it read.
 fn read_front<F: PackFolder>(
     folder: &mut F,
     unit: u8,
@@ -71,7 +71,7 @@ fn read_front<F: PackFolder>(
     Err(io::Error::from(ErrorKind::TimedOut))
 }
 
-/// Fills with zeros behind the bytes that were read.
+/// Fills the rest, behind the bytes that were read, with zeros.
 fn fill_rest(into: &mut [u8], count: usize)
     requires { count ≤ length into.old }
     ensures { into.new ≡ take count into.old ++ replicate (length into.old - count) 0 }
@@ -79,7 +79,7 @@ fn fill_rest(into: &mut [u8], count: usize)
     into[count..].fill(0);
 }
 
-/// Reads the bytes of a file from a place on, as many as fit. Missing ones are zeros.
+/// Reads the bytes of a file from a place on, as many as fit. Bytes behind the end of the file are zeros.
 pub(crate) fn read_window<F: PackFolder>(
     folder: &mut F,
     unit: u8,
@@ -97,7 +97,7 @@ pub(crate) fn read_window<F: PackFolder>(
     Ok(())
 }
 
-/// Writes bytes at a place of a file, and answers how many went out: all of them where it answers no error.
+/// Writes bytes at a place of a file, and answers how many it wrote. It wrote all of them exactly if it answers no error.
 pub(crate) fn write_front<F: PackFolder>(
     folder: &mut F,
     unit: u8,

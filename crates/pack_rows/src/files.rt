@@ -1,18 +1,18 @@
-// The packs in the files of the working folder, behind windows, and a sink that makes its file there.
+// Tests of the packs in the files of the working folder, behind windows, and of a sink that makes its file there.
 use crate::steps::{Call, Deed, Step, failures_over};
 use Call::{Length, Mark, Marked, Read, Write};
 use Step::{Of, On};
 use outside_files::os_folder::OsFolder;
 
-/// A file that may only be read, which holds "Linux" and LF, and one that may not be read; both refuse the superuser too.
+/// A file that may only be read, which holds "Linux" and LF, and a file that may not be read. Both refuse even the superuser.
 const READ_ONLY: &str = "/proc/sys/kernel/ostype";
 
 const WRITE_ONLY: &str = "/proc/sys/vm/compact_memory";
 
 /// What is done to the files of the working folder, and what calls on their packs answer. Unit 28 has an image of 700 bytes 255 and
-/// the marks 0, 7 and 1; the image of unit 27 is a folder, and those of unit 25 are empty. The image of unit 18 takes no byte, and gives
-/// zeros; the files of unit 17 may only be read, those of unit 16 may not be opened, and those of unit 15 can't be made. The other units
-/// have no files. A file that is made behind our back is not found where it was missing before.
+/// the marks 0, 7 and 1. The image of unit 27 is a folder, and the files of unit 25 are empty. The image of unit 18 takes no byte and
+/// gives zeros. The files of unit 17 may only be read, those of unit 16 may not be opened, and those of unit 15 cannot be made. The
+/// other units have no files. If the packs found that a file is missing and another program makes it later, they do not find it.
 static FILES: [Step; 99] = [
     On("hp28.dsk", Deed::Write(&[0xFF; 700])),
     On("hp28.bad", Deed::Write(&[0, 7, 1])),
@@ -115,7 +115,7 @@ static FILES: [Step; 99] = [
     On("hp15.dsk", Deed::Remove),
 ];
 
-/// What other packs over the same files answer then; and what a sink takes, which writes over an older text.
+/// What new packs over the same files answer afterwards, and what a sink takes that writes over an older text.
 static AGAIN: [Step; 18] = [
     Of(28, Read(3), Some(0x0505)),
     Of(28, Marked(1), Some(0)),
@@ -137,7 +137,7 @@ static AGAIN: [Step; 18] = [
     On("/dev/full", Deed::TakesNone),
 ];
 
-/// Whether all these steps go right on new packs.
+/// Whether all these steps succeed on new packs.
 fn go_right(rt: &HostRuntime, steps: &[Step]) -> bool {
     failures_over(rt, OsFolder::new(rt), steps) == Some(0)
 }

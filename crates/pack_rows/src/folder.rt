@@ -1,4 +1,4 @@
-// A folder in memory whose calls are short, fail or are interrupted.
+// Tests over a folder in memory whose calls are short, fail or are interrupted.
 ghost use Rattle.std.specs.Prelude.{◌<◌, ◌≤◌, length, IfOk};
 
 use crate::steps::{Call, Step, failures_over};
@@ -8,14 +8,14 @@ use outside_files::folder::{PackFolder, Part};
 use std::io;
 use std::io::ErrorKind;
 
-/// How the calls of a folder go, which are counted from 1.
+/// How the calls of a folder behave. Calls are counted from 1.
 #[derive(Clone, Copy)]
 struct Habit {
-    /// By how many bytes a call is short of what is asked, if more than one byte is left of it.
+    /// By how many bytes a call is short of what is asked. It moves at least one byte if any are asked.
     short: usize,
     /// The call that fails.
     fail: u64,
-    /// The call before which two are interrupted.
+    /// The call before which two calls are interrupted.
     interrupted: u64,
 }
 
@@ -35,7 +35,7 @@ struct MemFolder {
     interrupts: u8,
 }
 
-/// A file that is empty.
+/// An empty file.
 const EMPTY: MemFile = MemFile {
     bytes: [0; 8192],
     length: 0,
@@ -66,7 +66,7 @@ impl MemFolder {
         }
     }
 
-    /// Puts bytes at a place of a file, and answers whether there is room for them.
+    /// Puts bytes at a place of a file, and answers whether there was room for them.
     fn put(&mut self, number: usize, at: u64, from: &[u8]) -> bool {
         let Some(file) = self.files.get_mut(number) else {
             return false;
@@ -82,7 +82,7 @@ impl MemFolder {
         true
     }
 
-    /// How many bytes the next call moves of those that are asked.
+    /// How many of the bytes that are asked the next call moves.
     fn next(&mut self, asked: usize) -> io::Result<usize>
         ensures bound { IfOk result (λ n. n ≤ asked) }
         ensures some { IfOk result (λ n. 0 < asked → 0 < n) }
@@ -134,7 +134,8 @@ impl PackFolder for MemFolder {
     }
 }
 
-/// What calls answer on packs in this folder, in turn on blocks that are there, reach behind the image's end, and lie behind it.
+/// What calls answer on packs in this folder: on blocks inside the image, on a block that reaches beyond its end, and on blocks behind
+/// its end.
 static CALLS: [Step; 34] = [
     Of(0, Length, Some(700)),
     Of(0, Read(0), Some(0xFFFF)),
@@ -172,7 +173,7 @@ static CALLS: [Step; 34] = [
     Of(0, Marked(5000), Some(0)),
 ];
 
-/// How many of these calls fail once where those of the folder go so; `None` where one is answered otherwise.
+/// How many of these calls fail once if the calls of the folder behave like this. `None` if a call answers something else.
 fn failures_by(rt: &HostRuntime, short: usize, fail: u64, interrupted: u64) -> Option<usize> {
     let habit = Habit {
         short,
@@ -182,7 +183,7 @@ fn failures_by(rt: &HostRuntime, short: usize, fail: u64, interrupted: u64) -> O
     failures_over(rt, MemFolder::new(habit), &CALLS)
 }
 
-/// Whether no call fails where those of the folder are short by so many bytes, each one of them interrupted in its turn.
+/// Whether no call fails if the calls of the folder are short by `short` bytes and each of them, in turn, is interrupted.
 fn are_whole(rt: &HostRuntime, short: usize) -> bool {
     for call in 0..60u64 {
         if failures_by(rt, short, 0, call) != Some(0) {
@@ -195,7 +196,7 @@ fn are_whole(rt: &HostRuntime, short: usize) -> bool {
 /// By how many bytes calls are short.
 static SHORT: [usize; 4] = [0, 1, 100, 511];
 
-/// Calls that are short or interrupted are made again, and nothing fails.
+/// If a call is short or interrupted, it is made again, and nothing fails.
 #[test]
 fn short_and_interrupted_calls(rt: HostRuntime) {
     for short in &SHORT {
@@ -203,7 +204,7 @@ fn short_and_interrupted_calls(rt: HostRuntime) {
     }
 }
 
-/// How many calls on the packs fail where those of the folder do, each in its turn; 0 where one is answered otherwise.
+/// How many calls on the packs fail if each call of the folder, in turn, fails. 0 if a call answers something else.
 fn count_of_failures(rt: &HostRuntime) -> usize {
     let mut count = 0usize;
     for call in 1..60u64 {
@@ -215,11 +216,12 @@ fn count_of_failures(rt: &HostRuntime) -> usize {
     count
 }
 
-/// By how many bytes calls are short, and one of those that the first write takes: three blocks are read before by two calls.
+/// By how many bytes calls are short, and a call of the folder that the first write makes. Before that write, two calls read three
+/// blocks.
 static FIRST_WRITE: [(usize, u64); 3] = [(0, 4), (100, 4), (100, 6)];
 
-/// Each length, write and mark that fails on the folder fails on the packs. Where it is made again all is well, also where a block was
-/// written in part. No read fails: where it can't read ahead, the block is read alone.
+/// If a length, a write or a mark fails on the folder, it fails on the packs. If it is made again, it succeeds, even if a block was
+/// written in part. No read fails: if the packs cannot read ahead, they read the block alone.
 #[test]
 fn each_call_fails(rt: HostRuntime) {
     for (short, call) in &FIRST_WRITE {

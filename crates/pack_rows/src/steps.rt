@@ -1,4 +1,4 @@
-// Steps on packs, and on the files of the working folder.
+// Steps of the tests, on packs and on the files of the working folder.
 ghost use Rattle.std.specs.Prelude.{◌<◌};
 
 use outside_files::file_sink::FileSink;
@@ -20,7 +20,7 @@ pub(crate) enum Call {
     Mark(u32, bool),
 }
 
-/// What is done to a file, or asked of it.
+/// What is done to a file, or asked about it.
 #[derive(Clone, Copy)]
 pub(crate) enum Deed {
     Write(&'static [u8]),
@@ -32,7 +32,7 @@ pub(crate) enum Deed {
     TakesNone,
 }
 
-/// A deed that is to be done, or a call and what it answers: `None` where it fails.
+/// A deed that must succeed or be true, or a call and what it must answer: `None` if it must fail.
 #[derive(Clone, Copy)]
 pub(crate) enum Step {
     On(&'static str, Deed),
@@ -53,7 +53,7 @@ fn takes_lines(rt: &HostRuntime, name: &str) -> bool {
     write_all(&mut file, b"idle 1\n").is_ok() && write_all(&mut file, b"idle 2\n").is_ok()
 }
 
-/// Whether a deed is done, or is so.
+/// Whether a deed succeeds, or what it asks is true.
 fn is_done(rt: &HostRuntime, name: &str, deed: Deed) -> bool {
     match deed {
         Deed::Write(bytes) => fs::write(rt, name, bytes).is_ok(),
@@ -71,7 +71,7 @@ fn edges(block: &[u8; 512]) -> u64 {
     256 * u64::from(block[0]) + u64::from(block[511])
 }
 
-/// The edges of a block that is read into a buffer that held 7s before.
+/// The edges of a block, which is read into a buffer that held 7s before.
 fn edges_at<P: Packs>(packs: &mut P, unit: u8, at: u32) -> Option<u64>
     requires { unit < 32 }
 {
@@ -82,7 +82,7 @@ fn edges_at<P: Packs>(packs: &mut P, unit: u8, at: u32) -> Option<u64>
     }
 }
 
-/// What a call answers; None where it fails.
+/// What a call answers. `None` if it fails.
 fn answer<P: Packs>(packs: &mut P, unit: u8, call: Call) -> Option<u64> {
     let unit = unit.min(31);
     match call {
@@ -97,7 +97,7 @@ fn answer<P: Packs>(packs: &mut P, unit: u8, call: Call) -> Option<u64> {
     }
 }
 
-/// How often a step fails before it goes as it should, which is at most once; `None` where it goes otherwise.
+/// How often a step fails before it answers what it must, which is at most once. `None` if it does something else.
 fn failures<P: Packs>(rt: &HostRuntime, packs: &mut P, step: &Step) -> Option<usize> {
     let (unit, call, wanted) = match *step {
         Step::On(name, deed) => return is_done(rt, name, deed).then_some(0),
@@ -113,7 +113,7 @@ fn failures<P: Packs>(rt: &HostRuntime, packs: &mut P, step: &Step) -> Option<us
     None
 }
 
-/// How many of these steps fail once; `None` where one goes otherwise.
+/// How many of these steps fail once. `None` if a step does something else.
 fn failures_of<P: Packs>(rt: &HostRuntime, packs: &mut P, steps: &[Step]) -> Option<usize> {
     let mut count = 0usize;
     for step in steps {
@@ -122,7 +122,7 @@ fn failures_of<P: Packs>(rt: &HostRuntime, packs: &mut P, steps: &[Step]) -> Opt
     Some(count)
 }
 
-/// The same on new packs in the files of a folder, which read ahead.
+/// How many of these steps fail once on new packs, which read ahead, in the files of a folder. `None` if a step does something else.
 pub(crate) fn failures_over<F: PackFolder + Drop>(
     rt: &HostRuntime,
     folder: F,

@@ -1,11 +1,11 @@
-// Sources and sinks over std's readers and writers.
+// Tests of sources and sinks over the readers and writers of `std`.
 use outside_files::streams::{StdSink, StdSource};
 use outside_traits::traits::Source;
 use outside_traits::whole::write_all;
 use std::io::{ErrorKind, Read, Write};
 use std::{fs, io};
 
-/// A reader whose call of one number, counted from 1, fails.
+/// A reader of which one call fails. Calls are counted from 1.
 #[derive(Drop)]
 struct FailingReader<'a> {
     rest: &'a [u8],
@@ -23,7 +23,7 @@ impl<'a> Read for FailingReader<'a> {
     }
 }
 
-/// A writer that takes a few bytes a call, and whose call of one number fails.
+/// A writer that takes a few bytes with each call, and of which one call fails.
 #[derive(Drop)]
 struct ShortWriter<'a> {
     taken: &'a mut Vec<u8>,
@@ -48,7 +48,7 @@ impl<'a> Write for ShortWriter<'a> {
     }
 }
 
-/// Which call of a source of three bytes fails, and how many bytes each piece of at most two gives; 9 stands for a failure.
+/// Which call of a source of three bytes fails, and how many bytes each piece of at most two bytes gives. 9 means a failure.
 static PIECES: [(u8, [usize; 3]); 4] = [
     (1, [9, 2, 1]),
     (2, [2, 9, 1]),
@@ -56,7 +56,7 @@ static PIECES: [(u8, [usize; 3]); 4] = [
     (4, [2, 1, 0]),
 ];
 
-/// How many bytes three pieces give where this call fails.
+/// How many bytes each of three pieces gives if this call fails.
 fn pieces(fail: u8) -> [usize; 3] {
     let mut source = StdSource::new(FailingReader {
         rest: b"abc",
@@ -71,7 +71,7 @@ fn pieces(fail: u8) -> [usize; 3] {
     counts
 }
 
-/// How much a writer takes a call, which call fails, whether all is taken, and what is.
+/// How many bytes a writer takes with each call, which call fails, whether the writer takes all bytes, and what it takes.
 type Taken = (usize, u8, bool, &'static [u8]);
 
 static TAKEN: [Taken; 5] = [
@@ -82,7 +82,7 @@ static TAKEN: [Taken; 5] = [
     (0, 9, false, b""),
 ];
 
-/// Whether such a writer takes that.
+/// Whether such a writer takes what its row says.
 fn writes(taken: &mut Vec<u8>, row: &Taken) -> bool {
     let (most, fail, done, text) = *row;
     let mut sink = StdSink::new(ShortWriter {

@@ -1,7 +1,7 @@
 use bad144_table::*;
 use pack_geometry::DriveKind;
 
-// The bytes of an RP06's table without an entry, but for four bytes.
+// The bytes of the table of an RP06 without an entry, except four bytes that are changed.
 fn changed(at: usize, new: [u8; 4]) -> [u8; 512] {
     let mut bytes = [0; 512];
     write_table(&empty_table(DriveKind::Rp06, 7), &mut bytes);
@@ -11,11 +11,11 @@ fn changed(at: usize, new: [u8; 4]) -> [u8; 512] {
     bytes
 }
 
-// Four bytes at a place, and the fault that they make.
+// A place, four bytes that are put there, and the fault that they cause.
 static FAULTS: [(usize, [u8; 4], TableFault); 5] = [
     (4, [1, 0, 0, 0], TableFault::Zero),
     (4, [0, 0, 1, 0], TableFault::Flag),
-    // cylinder 815 is the first that an RP06 has not
+    // cylinder 815 is the first one that an RP06 does not have
     (8, [0x2f, 0x03, 0, 0], TableFault::Range(0)),
     (12, [0; 4], TableFault::AfterEnd(1)),
     (508, [0xff, 0xff, 0xff, 0xfe], TableFault::AfterEnd(125)),

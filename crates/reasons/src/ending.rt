@@ -1,4 +1,4 @@
-// The reason for which a run of `hpsim` ended.
+// Why a run of `hpsim` ended.
 use crate::fields::kind_name;
 use crate::lines::{fields_of, kind_of_unit, line_fault, line_of};
 use crate::reason::{Came, FileName, Reason, Tried};
@@ -11,7 +11,7 @@ use partitions::{Part, part_of, part_range};
 use std::alloc::Global;
 use std::io;
 
-/// What is known of a run that ended: its words, the status, and what files and streams kept.
+/// What is known of a run that ended: its words, its status, and what its files and streams kept.
 #[derive(Clone, Copy)]
 pub struct Ending<'a> {
     pub words: &'a [&'a [u8]],
@@ -23,7 +23,7 @@ pub struct Ending<'a> {
     pub trace: Option<(Deed, io::Error)>,
 }
 
-/// The reason of a script's refusal, by its line and the word that stands for its kind.
+/// Why a script was refused, from the refused line and the word for the kind of refusal.
 pub fn script_reason<'a>(
     line: u64,
     kind: &'a [u8],
@@ -65,7 +65,7 @@ pub fn script_reason<'a>(
     }
 }
 
-/// The same by the text of the refusal.
+/// Why a script was refused, from the text of the refusal. None if the text is no refusal of a line, or if there is no memory.
 pub fn script_refusal<'a>(
     alloc: Global,
     text: &[&'a [u8]],
@@ -83,7 +83,7 @@ pub fn script_refusal<'a>(
     }
 }
 
-/// The reason of an image that is too long.
+/// The reason if an image is too long.
 fn long_image<'a>(ending: &Ending<'a>) -> Option<Reason<'a>> {
     let (unit, length) = too_long(ending.out)?;
     let kind = match target(ending.words) {
@@ -101,7 +101,7 @@ fn long_image<'a>(ending: &Ending<'a>) -> Option<Reason<'a>> {
     })
 }
 
-/// The block of a replacement.
+/// The reason if a marked replacement would be needed: its index and its block.
 fn spare(unit: u8, kind: DriveKind, index: u64) -> Option<Reason<'static>> {
     if index > 125 {
         return None;
@@ -110,7 +110,7 @@ fn spare(unit: u8, kind: DriveKind, index: u64) -> Option<Reason<'static>> {
     Some(Reason::Spare { unit, index, block })
 }
 
-/// The reason of a refusal of `bad144` or `format`.
+/// Why `bad144` or `format` refused.
 fn tool_refusal<'a>(ending: &Ending<'a>) -> Option<Reason<'a>> {
     let (unit, target) = target(ending.words)?;
     let kind = kind_name(target);
@@ -158,7 +158,7 @@ fn bytes_of(kind: DriveKind, part: Part) -> u64 {
     u64::from(part_range(kind, part).size).saturating_mul(512)
 }
 
-/// What a `raw` command covers, where so many bytes were given on standard input.
+/// What a `raw` command covers, if standard input gave `given` bytes.
 fn raw_span(words: &[&[u8]], unit: u8, kind: DriveKind, given: u64) -> Option<Covered> {
     let (letter, at, size, reads) = match words {
         [_, _, _, _, part, at] => (part, value(at), given, false),
@@ -209,7 +209,7 @@ fn most_bytes(words: &[&[u8]]) -> u64 {
     }
 }
 
-/// The reason of a transfer's refusal.
+/// Why a transfer was refused.
 fn transfer_refusal<'a>(ending: &Ending<'a>) -> Option<Reason<'a>> {
     let moved = span_of(ending)?;
     let size = bytes_of(moved.kind, moved.part);
@@ -242,7 +242,7 @@ fn transfer_refusal<'a>(ending: &Ending<'a>) -> Option<Reason<'a>> {
     })
 }
 
-/// Whether a command writes one pack, so that it is told how far it came.
+/// Whether the message of a failure says how far the command came. It does so for `format`, `dump` and `raw`.
 fn writes(words: &[&[u8]]) -> bool {
     match words {
         [first, ..] => is(first, "format") || is(first, "dump") || is(first, "raw"),
@@ -250,7 +250,7 @@ fn writes(words: &[&[u8]]) -> bool {
     }
 }
 
-/// The reason of a failure of the packs.
+/// The reason if a call on the packs failed.
 fn pack_failure<'a>(words: &[&[u8]], packs: &PackNotes, failure: &FileFailure) -> Reason<'a> {
     let tried = Tried { deed: failure.deed };
     let file = FileName::new(failure.unit, failure.part);
@@ -269,7 +269,7 @@ fn pack_failure<'a>(words: &[&[u8]], packs: &PackNotes, failure: &FileFailure) -
     }
 }
 
-/// The reason of a failure of standard output or of the trace.
+/// The reason if standard output or the trace failed.
 fn sink_failure<'a>(ending: &Ending<'a>) -> Option<Reason<'a>> {
     if let Some(error) = ending.output.first {
         return Some(Reason::Output { error });
@@ -301,7 +301,7 @@ fn is_cached(words: &[&[u8]]) -> bool {
     }
 }
 
-/// The reason, by the status, as far as it is known.
+/// The reason by the status. None if it is not known.
 fn known<'a>(alloc: Global, ending: &Ending<'a>) -> Option<Reason<'a>> {
     match ending.status {
         2 => match command_fault(ending.words) {
@@ -328,7 +328,7 @@ fn known<'a>(alloc: Global, ending: &Ending<'a>) -> Option<Reason<'a>> {
     }
 }
 
-/// The reason for which a run ended with a status other than 0.
+/// Why a run of `hpsim` ended with a status other than 0.
 pub fn reason<'a>(alloc: Global, ending: &Ending<'a>) -> Reason<'a> {
     match known(alloc, ending) {
         Some(reason) => reason,

@@ -1,4 +1,4 @@
-// What may stand in a field, and the first field that has something else.
+// What a field may contain, and the first field that contains something else.
 use crate::shown::Shown;
 use mass_text::{Fields, Radix, number};
 use pack_geometry::DriveKind;
@@ -6,40 +6,40 @@ use std::fmt;
 use std::fmt::{Display, Formatter};
 use thiserror::Error;
 
-/// What may stand in a field.
+/// What a field may contain.
 #[derive(Clone, Copy, Debug)]
 pub enum Allowed {
-    /// A decimal number from one to another.
+    /// A decimal number from `low` to `high`.
     Numbers { low: u64, high: u64 },
-    /// One of these words, which stand between blanks here.
+    /// One of these words, which are separated by blanks.
     Words(&'static str),
-    /// So many hexadecimal digits.
+    /// This many hexadecimal digits.
     Digits(usize),
 }
 
-/// A field by its name in the usage and in `docs/formats.md`, and what may stand there.
+/// A field: its name, as the usage and `docs/formats.md` give it, and what it may contain.
 #[derive(Clone, Copy, Debug)]
 pub struct Field {
     pub name: &'static str,
     pub allowed: Allowed,
 }
 
-/// What is wrong with the words of a command or of a script's line.
+/// What is wrong with the words of a command or of a line of a script.
 #[derive(Clone, Copy, Debug, Error)]
 pub enum FieldFault<'a> {
-    /// The words end before a field.
+    /// A field is missing, since the words end before it.
     #[error("{0} is missing ({allowed})", allowed = .0.allowed)]
     Missing(Field),
-    /// A field has another word.
+    /// A field contains a word that it may not contain.
     #[error("{1} cannot be {0} ({allowed})", allowed = .0.allowed)]
     Wrong(Field, Shown<'a>),
-    /// A word is left over.
+    /// There is a word too many.
     #[error("{0} is one word too many")]
     LeftOver(Shown<'a>),
-    /// A comment stands behind the words of a line.
+    /// A comment follows the words of a line.
     #[error("{0} is one word too many: a comment is a line of its own, with # as its very first byte")]
     Comment(Shown<'a>),
-    /// `off`, `last`, `copy` or `mark` is left over or in the wrong order.
+    /// `off`, `last`, `copy` or `mark` is one word too many or in the wrong order.
     #[error("{0} cannot stand there: what may follow is {1}, in this order")]
     Order(Shown<'a>, &'static str),
     /// The first line begins with a byte-order mark.
@@ -47,7 +47,7 @@ pub enum FieldFault<'a> {
     OrderMark,
 }
 
-/// A field with numbers from one to another.
+/// A field that contains a number from `low` to `high`.
 pub const fn numbers(name: &'static str, low: u64, high: u64) -> Field {
     Field {
         name,
@@ -55,7 +55,7 @@ pub const fn numbers(name: &'static str, low: u64, high: u64) -> Field {
     }
 }
 
-/// A field with one of some words.
+/// A field that contains one of these words, which are separated by blanks.
 pub const fn choice(name: &'static str, words: &'static str) -> Field {
     Field {
         name,
@@ -63,7 +63,7 @@ pub const fn choice(name: &'static str, words: &'static str) -> Field {
     }
 }
 
-/// A field with hexadecimal digits.
+/// A field that contains `count` hexadecimal digits.
 pub const fn digits(name: &'static str, count: usize) -> Field {
     Field {
         name,
@@ -71,22 +71,22 @@ pub const fn digits(name: &'static str, count: usize) -> Field {
     }
 }
 
-/// A unit.
+/// The field of a unit.
 pub fn unit_field() -> Field {
     numbers("U", 0, 31)
 }
 
-/// A kind of drive.
+/// The field of a kind of drive.
 pub fn kind_field() -> Field {
     choice("KIND", "rp06 rm03 rm05")
 }
 
-/// A partition.
+/// The field of a partition.
 pub fn part_field() -> Field {
     choice("PART", "a b c d e f g h")
 }
 
-/// The name of a kind of drive.
+/// The name of a kind of drive, in lower case.
 pub fn kind_name(kind: DriveKind) -> &'static str {
     match kind {
         DriveKind::Rp06 => "rp06",
@@ -95,7 +95,7 @@ pub fn kind_name(kind: DriveKind) -> &'static str {
     }
 }
 
-/// Whether a word is one of those between blanks.
+/// Whether a word is one of these words, which are separated by blanks.
 fn is_among(word: &[u8], words: &str) -> bool {
     let mut rest = Fields::new(words.as_bytes());
     for _ in 0..32u8 {
@@ -116,13 +116,13 @@ fn is_digit(byte: u8) -> bool {
     byte.is_ascii_hexdigit()
 }
 
-/// Whether a word is so many hexadecimal digits.
+/// Whether a word consists of `count` hexadecimal digits.
 fn are_digits(word: &[u8], count: usize) -> bool {
     word.len() == count && word.iter().all(|byte| is_digit(*byte))
 }
 
 impl Field {
-    /// Whether a word may stand in the field.
+    /// Whether the field may contain a word.
     pub fn allows(&self, word: &[u8]) -> bool {
         match self.allowed {
             Allowed::Numbers { low, high } => match number(word, Radix::Decimal, high) {
@@ -141,7 +141,7 @@ impl Display for Field {
     }
 }
 
-/// Puts words with commas between them.
+/// Puts words, with commas between them.
 fn put_words<W: fmt::Write>(words: &str, f: &mut Formatter<W>) -> fmt::Result {
     for byte in words.as_bytes() {
         if *byte == b' ' {
@@ -163,7 +163,7 @@ impl Display for Allowed {
     }
 }
 
-/// The words behind fields, or what is wrong with the first faulty one.
+/// The words that follow these fields, or what is wrong with the first faulty field.
 pub fn walk<'a, 'b>(
     words: &'b [&'a [u8]],
     steps: &[Field],
@@ -183,7 +183,7 @@ pub fn walk<'a, 'b>(
     Ok(rest)
 }
 
-/// What is wrong with words of which nothing is to be left behind the fields.
+/// What is wrong with words that must be exactly these fields.
 pub fn walk_all<'a>(words: &[&'a [u8]], steps: &[Field]) -> Option<FieldFault<'a>> {
     match walk(words, steps) {
         Err(fault) => Some(fault),
@@ -192,7 +192,7 @@ pub fn walk_all<'a>(words: &[&'a [u8]], steps: &[Field]) -> Option<FieldFault<'a
     }
 }
 
-/// What is said of a word that is left over.
+/// The fault of a word that is one too many.
 pub fn left_over<'a>(word: &'a [u8]) -> FieldFault<'a> {
     match word {
         [b'#', ..] => FieldFault::Comment(Shown::new(word)),

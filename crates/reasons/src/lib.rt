@@ -1,8 +1,9 @@
 //! Why a run did not end with 0, as a sentence for standard error: what went wrong, with which file or word, and what can be done.
-//! Here stand the texts of both programs, their usage and their version; what prints them is a function of its caller's.
+//! This crate has the texts of both programs, their usage and their version. The caller gives the writer to which they are printed.
 //!
-//! What is proved is that nothing here fails, whatever words, scripts and texts it is given. What is said is only tested, in
-//! `end_rows`.
+//! What is proved: nothing here fails, whatever words, scripts and texts it is given.
+//!
+//! Only tested, in `end_rows`: what the texts say.
 #![tactic(auto)]
 
 pub mod ending;

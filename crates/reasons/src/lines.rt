@@ -1,4 +1,4 @@
-// The lines of a script, and which field of a refused one is wrong.
+// The lines of a script, and which field of a refused line is wrong.
 use crate::fields::{
     Field, FieldFault, choice, digits, kind_field, left_over, numbers, part_field, unit_field,
     walk, walk_all,
@@ -9,14 +9,14 @@ use mass_text::{Fields, Radix, number};
 use pack_geometry::{DriveKind, blocks, geometry_of};
 use std::alloc::{AllocError, Global};
 
-/// The words of the lines of a script of `play`.
+/// The first words of the lines of a script of `play`.
 const VERBS: &str =
     "unit read write arrive turn move attend noise fault offline online lock unlock drain";
 
-/// Those of a script of `cached`.
+/// The first words of the lines of a script of `cached`.
 const CACHED_VERBS: &str = "unit read write sync";
 
-/// The line of a number, counted from 1, without its LF and CR.
+/// A line of a script by its number, counted from 1, without its LF and CR. It is empty if there is no such line.
 pub fn line_of(script: &[u8], line: u64) -> &[u8] {
     let mut rest = script;
     for _ in 1..line {
@@ -36,7 +36,7 @@ pub fn line_of(script: &[u8], line: u64) -> &[u8] {
     }
 }
 
-/// The fields of a line, at most 100 of them.
+/// The fields of a line, at most 100 of them. An error if there is no memory for them.
 pub fn fields_of<'a>(alloc: Global, line: &'a [u8]) -> Result<Vec<&'a [u8]>, AllocError> {
     let mut all = Vec::new(alloc);
     let mut fields = Fields::new(line);
@@ -49,7 +49,7 @@ pub fn fields_of<'a>(alloc: Global, line: &'a [u8]) -> Result<Vec<&'a [u8]>, All
     Ok(all)
 }
 
-/// The fields of a text of one line; none if there is no memory for them.
+/// The fields of a text of one line. There are none if there is no memory for them.
 pub fn text_fields<'a>(alloc: Global, text: &'a [u8]) -> Vec<&'a [u8]> {
     match fields_of(alloc, line_of(text, 1)) {
         Ok(fields) => fields,
@@ -57,7 +57,7 @@ pub fn text_fields<'a>(alloc: Global, text: &'a [u8]) -> Vec<&'a [u8]> {
     }
 }
 
-/// The kind of drive of a unit that a line declares.
+/// The kind of drive of a unit, if this line declares the unit.
 fn declared(line: &[u8], unit: u8) -> Option<DriveKind> {
     let mut fields = Fields::new(line);
     let verb = fields.next()?;
@@ -72,7 +72,7 @@ fn declared(line: &[u8], unit: u8) -> Option<DriveKind> {
     }
 }
 
-/// The kind of drive that a script declares a unit as.
+/// The kind of drive of a unit, if a script declares the unit.
 pub fn kind_of_unit(script: &[u8], unit: u8) -> Option<DriveKind> {
     let mut rest = script;
     for _ in 0..u64::MAX {
@@ -112,7 +112,7 @@ fn count() -> Field {
     numbers("COUNT", 1, 127)
 }
 
-/// What stands behind a word and its field, if the words begin with this one.
+/// The words that follow an optional word and its field. If the words do not begin with the optional word, all of them.
 fn optional<'a, 'b>(
     words: &'b [&'a [u8]],
     name: &str,
@@ -124,7 +124,7 @@ fn optional<'a, 'b>(
     }
 }
 
-/// What is said of a word behind a request.
+/// The fault of a word that follows a request.
 fn tail_left<'a>(word: &'a [u8]) -> FieldFault<'a> {
     match left_over(word) {
         FieldFault::LeftOver(word) => FieldFault::Order(word, "[off N] [last M]"),
@@ -132,7 +132,7 @@ fn tail_left<'a>(word: &'a [u8]) -> FieldFault<'a> {
     }
 }
 
-/// What is wrong behind the blocks or the bytes of a request: `[off N] [last M]` may stand there.
+/// What is wrong with the words that follow the blocks or the bytes of a request. These may be `[off N] [last M]`.
 fn tail_fault<'a>(words: &[&'a [u8]]) -> Option<FieldFault<'a>> {
     let rest = match optional(words, "off", numbers("N of off", 0, 511)) {
         Ok(rest) => rest,
@@ -222,7 +222,7 @@ fn noise_fault<'a>(script: &[u8], words: &[&'a [u8]]) -> Option<FieldFault<'a>> 
     }
 }
 
-/// What is wrong with a number of times, and the places of a noise behind it.
+/// What is wrong with a number of times and the places of a noise that follow it.
 fn times_fault<'a>(words: &[&'a [u8]]) -> Option<FieldFault<'a>> {
     match walk(words, &[numbers("TIMES", 1, 1000)]) {
         Ok(rest) => bits_fault(rest),
@@ -284,7 +284,8 @@ fn cached_fault<'a>(words: &[&'a [u8]]) -> Option<FieldFault<'a>> {
     }
 }
 
-/// What is wrong with the fields of a line that is refused: of a script of `cached`, or of `play`.
+/// What is wrong with the fields of a refused line of a script: of `cached` if `is_cached`, otherwise of `play`. None if no field
+/// is faulty by itself.
 pub fn line_fault<'a>(
     script: &[u8],
     words: &[&'a [u8]],

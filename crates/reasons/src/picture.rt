@@ -1,4 +1,4 @@
-// The reason for which a run of `hpview` ended.
+// Why a run of `hpview` ended.
 use crate::ending::script_refusal;
 use crate::reason::Reason;
 use crate::refusals::refused_trace;
@@ -8,7 +8,7 @@ use std::alloc::Global;
 use std::io;
 use std::io::ErrorKind;
 
-/// What is known of a run that ended.
+/// What is known of a run of `hpview` that ended: its words, its status, and what its files and streams kept.
 #[derive(Clone, Copy)]
 pub struct PictureEnding<'a> {
     pub words: &'a [&'a [u8]],
@@ -32,7 +32,7 @@ fn trace_fault(kind: &[u8]) -> &'static str {
     }
 }
 
-/// The reason of a refusal of the script or of the trace.
+/// Why the script or the trace was refused.
 fn refusal<'a>(alloc: Global, ending: &PictureEnding<'a>) -> Option<Reason<'a>> {
     match refused_trace(ending.out) {
         Some((line, kind)) => Some(Reason::Trace {
@@ -43,7 +43,7 @@ fn refusal<'a>(alloc: Global, ending: &PictureEnding<'a>) -> Option<Reason<'a>> 
     }
 }
 
-/// The reason of a source that failed.
+/// The reason if the script or the trace could not be read.
 fn source<'a>(ending: &PictureEnding<'a>) -> Option<Reason<'a>> {
     if let Some(error) = ending.script.first {
         return Some(Reason::Input { error });
@@ -55,7 +55,7 @@ fn source<'a>(ending: &PictureEnding<'a>) -> Option<Reason<'a>> {
     }
 }
 
-/// The reason, by the status, as far as it is known.
+/// The reason by the status. None if it is not known.
 fn known<'a>(alloc: Global, ending: &PictureEnding<'a>) -> Option<Reason<'a>> {
     match ending.status {
         2 => match view_fault(ending.words) {
@@ -75,7 +75,7 @@ fn known<'a>(alloc: Global, ending: &PictureEnding<'a>) -> Option<Reason<'a>> {
     }
 }
 
-/// The reason for which a run of `hpview` ended with a status other than 0.
+/// Why a run of `hpview` ended with a status other than 0.
 pub fn picture_reason<'a>(alloc: Global, ending: &PictureEnding<'a>) -> Reason<'a> {
     match known(alloc, ending) {
         Some(reason) => reason,

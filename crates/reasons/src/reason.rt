@@ -6,27 +6,27 @@ use std::fmt::{Display, Formatter};
 use std::{fmt, io};
 use thiserror::Error;
 
-/// A unit's file, by its name.
+/// A file of a unit, which is displayed as its name.
 #[derive(Clone, Copy, Debug)]
 pub struct FileName {
     pub unit: u8,
     pub is_image: bool,
 }
 
-/// How far a command that writes a pack came.
+/// How far a command that writes a pack came: how many blocks it wrote, and the last one of them.
 #[derive(Clone, Copy, Debug)]
 pub struct Came {
     pub written: u64,
     pub last: u32,
 }
 
-/// What a call on a file tried, in words.
+/// What a call on a file tried, which is displayed in words.
 #[derive(Clone, Copy, Debug)]
 pub struct Tried {
     pub deed: Deed,
 }
 
-/// Why a run did not end with 0: its text is a sentence without the program's name before it.
+/// Why a run did not end with 0. The text is a sentence, to which the caller adds the program's name.
 #[derive(Clone, Copy, Debug, Error)]
 pub enum Reason<'a> {
     /// The words are no command.
@@ -53,7 +53,7 @@ pub enum Reason<'a> {
         line: u64,
         unit: Shown<'a>,
     },
-    /// An id comes again.
+    /// An id is used again.
     #[error("line {line} of the script: id {id} was used before, and each may be used once")]
     IdTwice {
         line: u64,
@@ -82,7 +82,7 @@ pub enum Reason<'a> {
     Bits {
         line: u64,
     },
-    /// A line of the script is refused otherwise.
+    /// A line of the script is refused for another reason.
     #[error("line {line} of the script is refused: {kind}")]
     Script {
         line: u64,
@@ -102,7 +102,7 @@ pub enum Reason<'a> {
     /// There is no trace.
     #[error("there is no hp.trace in this folder: 'hpsim play' makes it")]
     NoTrace,
-    /// The trace can't be read.
+    /// The trace cannot be read.
     #[error("cannot read hp.trace: {error}")]
     TraceUnread {
         error: io::Error,
@@ -112,20 +112,20 @@ pub enum Reason<'a> {
     Output {
         error: io::Error,
     },
-    /// The trace's file failed.
+    /// The file of the trace cannot be made or written.
     #[error("cannot {tried} hp.trace: {error}")]
     TraceUnwritten {
         tried: Tried,
         error: io::Error,
     },
-    /// A pack's file failed, before anything was written.
+    /// A file of a pack failed, and the message does not say how far the command came.
     #[error("cannot {tried} {file}: {error}")]
     File {
         tried: Tried,
         file: FileName,
         error: io::Error,
     },
-    /// A pack's file failed, and this was written before.
+    /// A file of a pack failed. `came` says how far the command came.
     #[error("cannot {tried} {file}: {error} ({came})")]
     FileAfter {
         tried: Tried,
@@ -141,31 +141,31 @@ pub enum Reason<'a> {
         kind: &'static str,
         whole: u64,
     },
-    /// There is no table.
+    /// The pack has no bad-sector table.
     #[error("hp{unit}.dsk has no bad-sector table of an {kind}: 'hpsim bad144 fresh {unit} {kind} SERIAL' makes one")]
     NoTable {
         unit: u8,
         kind: &'static str,
     },
-    /// A block is none of the data blocks.
+    /// A block is not a data block.
     #[error("block {block} is no data block of an {kind}: those are 0 to {last}, and behind them are replacements and tables")]
     Reserved {
         block: u64,
         kind: &'static str,
         last: u64,
     },
-    /// A block is listed already.
+    /// The table lists a block already.
     #[error("block {block} is listed already, as entry {entry}")]
     Listed {
         block: u64,
         entry: u64,
     },
-    /// A table is full.
+    /// The table is full.
     #[error("the table of hp{unit}.dsk has 126 entries, and there is room for no more")]
     Full {
         unit: u8,
     },
-    /// A replacement is marked.
+    /// A replacement that would be needed is marked.
     #[error("replacement {index} of hp{unit}.dsk, block {block}, is marked, and would be needed")]
     Spare {
         unit: u8,
@@ -178,18 +178,18 @@ pub enum Reason<'a> {
         unit: u8,
         count: u64,
     },
-    /// No place of the table is good.
+    /// All places of the table are marked.
     #[error("all five places of the table of hp{unit}.dsk are marked")]
     NoCopy {
         unit: u8,
     },
-    /// A block came back otherwise than it was written.
+    /// The bytes that were read from a block differ from those that were written.
     #[error("block {block} of hp{unit}.dsk came back otherwise than it was written; blocks up to it are emptied, and no table is written")]
     Differs {
         unit: u8,
         block: u64,
     },
-    /// Bytes beyond a partition were asked.
+    /// The command covers bytes beyond the end of a partition.
     #[error("bytes {at} to {end} were asked, and partition {part} of an {kind} has {size} bytes ({blocks} blocks)")]
     Outside {
         at: u64,
@@ -199,12 +199,12 @@ pub enum Reason<'a> {
         size: u64,
         blocks: u64,
     },
-    /// There are too many bytes.
+    /// Standard input has too many bytes.
     #[error("standard input has more than {most} bytes, which is the most that is written at once")]
     TooManyBytes {
         most: u64,
     },
-    /// A block can't be used.
+    /// A block cannot be used.
     #[error("block {block} of partition {part} of hp{unit}.dsk cannot be used, since it is marked and has no good replacement: {moved} bytes before it were {what}")]
     Unusable {
         block: u64,
@@ -218,14 +218,14 @@ pub enum Reason<'a> {
     Memory {
         what: &'static str,
     },
-    /// A status of which no more is known.
+    /// Only the status is known.
     #[error("the run ended with status {status}")]
     Other {
         status: u8,
     },
 }
 
-/// What a person should know of a run before it begins.
+/// What a person should know before a run begins.
 #[derive(Clone, Copy, Debug, Error)]
 pub enum Warning {
     /// The image is missing.
@@ -233,7 +233,7 @@ pub enum Warning {
     Missing {
         unit: u8,
     },
-    /// The pack has the table of another kind of drive.
+    /// The pack, which gets a new table, has the table of another kind of drive.
     #[error("hp{unit}.dsk has the bad-sector table of an {old}, and is written as an {new} now")]
     OtherKind {
         unit: u8,

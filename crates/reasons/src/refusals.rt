@@ -1,8 +1,8 @@
-// The one line of a refusal that stands on standard output, read back.
+// Reads back the one line that a refusal prints on standard output.
 use crate::words::is;
 use mass_text::{Radix, number};
 
-/// A number in decimal; 0 if the field has none.
+/// The decimal number in a field. 0 if the field contains no number that fits.
 pub fn value(field: &[u8]) -> u64 {
     number(field, Radix::Decimal, u64::MAX).unwrap_or(0)
 }

@@ -1,10 +1,11 @@
 use std::fmt;
 use std::fmt::{Debug, Display, Formatter};
 
-/// How many bytes of a word are shown.
+/// How many bytes of a word are shown at most.
 const MOST: usize = 40;
 
-/// A word as it is shown: its first 40 bytes between quotes, with `\xHH` for each byte that is no printable letter of ASCII.
+/// A word as messages show it: its first 40 bytes between quotes, with `\xHH` for each byte that is not a printable ASCII character.
+/// If the word is longer, `..` follows these bytes.
 #[derive(Clone, Copy)]
 pub struct Shown<'a> {
     pub word: &'a [u8],

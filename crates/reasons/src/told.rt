@@ -1,4 +1,4 @@
-// What is printed on standard error.
+// Prints on standard error.
 use crate::ending::{Ending, reason};
 use crate::picture::{PictureEnding, picture_reason};
 use crate::usage;
@@ -8,7 +8,7 @@ use std::alloc::Global;
 use std::io;
 use std::io::Write;
 
-/// Whether the words ask for help or the version, and what is printed then.
+/// The text of the help that the words ask for. None if they ask for no help.
 fn helped(words: &[&[u8]], all: &'static str) -> Option<&'static str> {
     match words {
         [first] if is(first, "help") || is(first, "--help") || is(first, "-h") => Some(all),
@@ -17,7 +17,7 @@ fn helped(words: &[&[u8]], all: &'static str) -> Option<&'static str> {
     }
 }
 
-/// What is said of a command.
+/// The help of a command, or the usage `all` if there is no such command.
 fn help_of(command: &[u8], all: &'static str) -> &'static str {
     if is(command, "play") {
         usage::PLAY
@@ -46,7 +46,7 @@ fn is_version(words: &[&[u8]]) -> bool {
     }
 }
 
-/// Prints what words that are no command ask for: help or the version. Answers whether they ask for one.
+/// Prints the help or the version if the words, which are no command, ask for one of them. Answers whether they do.
 fn tell_help<W: Write>(
     errors: &mut W,
     program: &str,
@@ -66,7 +66,9 @@ fn tell_help<W: Write>(
     }
 }
 
-/// Prints why a run of `hpsim` did not end with 0; of one that did, nothing.
+/// Prints why a run of `hpsim` did not end with 0. If it ended with 0, nothing is printed. If the words are no
+/// command but ask for help or the version, that is printed instead. If they ask for neither, the usage follows the reason. An error
+/// if `errors` fails.
 pub fn tell<W: Write>(alloc: Global, ending: &Ending, errors: &mut W) -> io::Result<()> {
     if ending.status == 0 {
         return Ok(());
@@ -81,7 +83,7 @@ pub fn tell<W: Write>(alloc: Global, ending: &Ending, errors: &mut W) -> io::Res
     Ok(())
 }
 
-/// Prints why a run of `hpview` did not end with 0; of one that did, nothing.
+/// Prints why a run of `hpview` did not end with 0, as `tell` does for `hpsim`. An error if `errors` fails.
 pub fn tell_picture<W: Write>(
     alloc: Global,
     ending: &PictureEnding,

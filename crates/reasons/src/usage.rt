@@ -1,5 +1,5 @@
-// What the programs say of their commands. The script `hpsim` reads these texts from here: each begins behind a line that ends in
-// "\ and ends at a line of its own.
+// What the programs say about their commands. The script `hpsim` reads these texts from this file: each text begins after a line
+// that ends in "\ and ends before the line `";`.
 
 /// The commands of `hpsim`.
 pub const HPSIM: &str = "\

@@ -1,4 +1,4 @@
-// What is told before a run begins.
+// Warnings that are printed before a run begins.
 use crate::fields::kind_name;
 use crate::reason::Warning;
 use crate::words::{command_fault, is, target};
@@ -12,7 +12,7 @@ use std::os::unix::fs::FileExt;
 use std::rt::Files;
 use std::{fs, io};
 
-/// Whether a command reads a pack that is expected to be there.
+/// Whether a command reads a pack that should exist.
 fn reads(words: &[&[u8]]) -> bool {
     match words {
         [first, verb, ..] if is(first, "bad144") => !is(verb, "fresh"),
@@ -39,7 +39,7 @@ fn is_missing<R: Files + AllocGlobal>(rt: &R, unit: u8) -> bool {
     matches!(fs::exists(rt, name.as_str()), Ok(false))
 }
 
-/// The kind of drive, other than this one, whose table a pack has.
+/// The kind of drive whose table a pack has, if that is another kind than this one.
 fn other_kind<R: Files + AllocGlobal>(rt: &R, unit: u8, kind: DriveKind) -> Option<DriveKind>
 where
     R::File: FileExt,
@@ -58,7 +58,7 @@ where
     None
 }
 
-/// What a person should know before a command is run.
+/// The warning of a command, if there is one.
 fn warning<R: Files + AllocGlobal>(rt: &R, words: &[&[u8]]) -> Option<Warning>
 where
     R::File: FileExt,
@@ -81,9 +81,8 @@ where
     })
 }
 
-/// Prints that the image of a command which reads it is missing, or that a pack which gets a new table has that of another kind of
-/// drive. Nothing is printed for words
-/// that are no command.
+/// Prints a warning if a command reads a pack whose image is missing, or if it writes a new table to a pack that has the table of
+/// another kind of drive. If the words are no command, nothing is printed. An error if `errors` fails.
 pub fn warn<R: Files + AllocGlobal, W: Write>(
     rt: &R,
     words: &[&[u8]],

@@ -7,7 +7,7 @@ use mass_text::{Radix, number};
 use pack_geometry::{DriveKind, blocks, kind_of};
 use std::alloc::{AllocError, Global};
 
-/// The words of a command line as bytes.
+/// The words of a command line as bytes. An error if there is no memory for the list.
 pub fn bytes_of<'a>(alloc: Global, words: &'a [String]) -> Result<Vec<&'a [u8]>, AllocError> {
     let mut all = Vec::new(alloc);
     for word in words {
@@ -16,7 +16,7 @@ pub fn bytes_of<'a>(alloc: Global, words: &'a [String]) -> Result<Vec<&'a [u8]>,
     Ok(all)
 }
 
-/// Whether a word is this one.
+/// Whether a word is this text.
 pub fn is(word: &[u8], text: &str) -> bool {
     word == text.as_bytes()
 }
@@ -29,7 +29,7 @@ pub fn names_script(words: &[&[u8]]) -> bool {
     }
 }
 
-/// The unit and the kind of drive that a command names; none of a command that names no unit.
+/// The unit and the kind of drive that a command names. None if the command names no unit.
 pub fn target(words: &[&[u8]]) -> Option<(u8, DriveKind)> {
     match words {
         [first, unit, kind, ..] if is(first, "format") || is(first, "dump") => named(unit, kind),
@@ -38,14 +38,14 @@ pub fn target(words: &[&[u8]]) -> Option<(u8, DriveKind)> {
     }
 }
 
-/// A unit and a kind of drive by their words.
+/// A unit and a kind of drive, from their words. None if one of the words is not valid.
 pub fn named(unit: &[u8], kind: &[u8]) -> Option<(u8, DriveKind)> {
     let unit = number(unit, Radix::Decimal, 31).ok()?;
     let kind = kind_of(kind)?;
     Some(((unit as u8).min(31), kind))
 }
 
-/// What is wrong with the words behind `bad144 add`.
+/// What is wrong with the words after `bad144 add`.
 fn add_fault<'a>(words: &[&'a [u8]]) -> Option<FieldFault<'a>> {
     let rest = match walk(words, &[unit_field(), kind_field()]) {
         Ok(rest) => rest,
@@ -62,7 +62,7 @@ fn add_fault<'a>(words: &[&'a [u8]]) -> Option<FieldFault<'a>> {
     }
 }
 
-/// What is wrong with the words behind a block that is added.
+/// What is wrong with the words after the block of `bad144 add`.
 fn way_fault<'a>(words: &[&'a [u8]]) -> Option<FieldFault<'a>> {
     let wrong = match words {
         [] => return None,
@@ -75,7 +75,7 @@ fn way_fault<'a>(words: &[&'a [u8]]) -> Option<FieldFault<'a>> {
     Some(FieldFault::Order(Shown::new(wrong), "[copy] [mark]"))
 }
 
-/// What is wrong with the words behind `bad144`.
+/// What is wrong with the words after `bad144`.
 fn tool_fault<'a>(words: &[&'a [u8]]) -> Option<FieldFault<'a>> {
     let verb = choice("the word behind bad144", "list add fresh mark");
     let rest = match walk(words, &[verb]) {
@@ -99,7 +99,7 @@ fn place() -> Field {
     numbers("AT", 0, 1_099_511_627_775)
 }
 
-/// What is wrong with the words behind `raw`.
+/// What is wrong with the words after `raw`.
 fn raw_fault<'a>(words: &[&'a [u8]]) -> Option<FieldFault<'a>> {
     let rest = match walk(words, &[choice("the word behind raw", "read write")]) {
         Ok(rest) => rest,
@@ -117,7 +117,7 @@ fn raw_fault<'a>(words: &[&'a [u8]]) -> Option<FieldFault<'a>> {
     }
 }
 
-/// What is wrong with the words of a command line of `hpsim` that is none.
+/// What is wrong with the words of a command line of `hpsim`. None if nothing is found to be wrong.
 pub fn command_fault<'a>(words: &[&'a [u8]]) -> Option<FieldFault<'a>> {
     let command = choice(
         "COMMAND",
@@ -147,7 +147,7 @@ pub fn command_fault<'a>(words: &[&'a [u8]]) -> Option<FieldFault<'a>> {
     }
 }
 
-/// What is wrong with the words of a command line of `hpview` that is none.
+/// What is wrong with the words of a command line of `hpview`. None if nothing is found to be wrong.
 pub fn view_fault<'a>(words: &[&'a [u8]]) -> Option<FieldFault<'a>> {
     let rest = match walk(words, &[choice("FORM", "svg text tsv summary json")]) {
         Ok(rest) => rest,
