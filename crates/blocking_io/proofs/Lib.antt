@@ -6,6 +6,7 @@ mod Calling
 mod Waiting
 mod Ending
 mod Trying
+mod Within
 mod Stopped
 mod Readying
 pub mod Joined

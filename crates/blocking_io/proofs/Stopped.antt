@@ -43,6 +43,7 @@ use Rattle.blocking_io.specs.Calls.{Stage, SubmissionStops, EventStops}
 use Rattle.blocking_io.specs.Asking.{setup_at}
 use Rattle.blocking_io.specs.Stopping.{TookFront, IsCut, begun, Stops}
 use Rattle.blocking_io.proofs.Waiting.{first_part, IsAskedTo, SoAsked, IsDrainedTo, SoDrained, declared_now, acts_stay}
+use Rattle.blocking_io.proofs.Within.{WritesNone, images_stay, same_images, stopped_stays}
 use Rattle.blocking_io.proofs.Trying.{Whole, Begins, event_tells, event_fails}
 
 -- ---- TEXTS
@@ -113,6 +114,7 @@ submission_stopped quiet_keep stop line r old new some e =
                   (surface_left (setup_at old).drives old.held old.held s q.stands.packs none));
             };
       };
+      images = λ t reads. same_images old.held old.held new.held e.same (λ unit. refl);
     })
 
 -- ---- WHERE THE DRAIN FOUND NOTHING, and not all lines were sent
@@ -136,6 +138,7 @@ idle_stopped line r old mid new some still idle same least most so = record {
               (surface_left (setup_at old).drives old.held mid.held (behind_all s (waited line r so.asked (Idle line ∷ []))) goes.opened.stands.packs so.stay);
         };
   };
+  images = λ t reads. same_images old.held mid.held new.held same (images_stay old.held mid.held mid.world (so.within reads));
 }
 
 -- ---- IN AN EVENT of its drain
@@ -147,8 +150,9 @@ record InDrain (line : ℕ) (r : Request) (asked moments : List Moment) (input :
 event_stopped : QuietMomentsKeep → NextBlocksShow → (stop : Stop) (line : ℕ) (r : Request) (asked moments : List Moment) (input : Input) (old mid new : Stage) (sent : List ℕ) → 1 ≤ line → played moments ≡ []
     → (IsTrue new.trace_tells → mid.taken ≡ old.taken ++ trace_text (asked ++ moments)) → (IsTrue new.trace_tells → IsFront old.taken sent)
     → (IsTrue new.packs_tell → (s : Replay) → StandsQuiet old.held old.world s → InDrain line r asked moments input old mid s)
+    → Sound mid.world → AtWork mid.world → (IsTrue new.packs_tell → r.written ≡ None → WritesNone old.held mid.held mid.world)
     → EventStops stop sent line input mid new → Stops stop line r old new
-event_stopped quiet_keep next_shows Sink line r asked moments input old mid new sent some alone trace begins far e =
+event_stopped quiet_keep next_shows Sink line r asked moments input old mid new sent some alone trace begins far sound work within e =
     let lines : List Moment = lines_of_all mid.world e.tells.done in
     record {
       asked = asked;
@@ -166,8 +170,9 @@ event_stopped quiet_keep next_shows Sink line r asked moments input old mid new 
               packs = whole.packs;
             };
       };
+      images = λ t reads. stopped_stays Sink line input old.held mid new sent sound work t (within t reads) e;
     }
-event_stopped quiet_keep next_shows Store line r asked moments input old mid new sent some alone trace begins far e = record {
+event_stopped quiet_keep next_shows Store line r asked moments input old mid new sent some alone trace begins far sound work within e = record {
   asked = asked;
   drained = Some moments;
   stops = record {
@@ -179,6 +184,7 @@ event_stopped quiet_keep next_shows Store line r asked moments input old mid new
           packs = event_fails next_shows line (setup_at old).drives old.held mid new input (after_moment (behind s (first_part line r asked)) (Played line script.Drain)) moments at.begins t e;
         };
   };
+  images = λ t reads. stopped_stays Store line input old.held mid new sent sound work t (within t reads) e;
 }
 
 event_stay : (old mid : Stage) (line : ℕ) (input : Input) (tried : Tried) → Sound mid.world → AtWork mid.world → MayCome mid.world input tried
@@ -219,7 +225,7 @@ first_stopped quiet_keep next_shows stop line r input old mid new sent some stil
                   (event_stay old mid line input tried sound work may so.setup so.stay);
             };
       };
-    }) e
+    }) sound work (λ t reads. so.within reads) e
 
 -- and a later one
 work_of : (b : Bool) (s : Replay) → b ≡ true → WorkMay b s → are_at_work s ≡ true
@@ -259,7 +265,7 @@ later_stopped quiet_keep next_shows stop line r input old mid new sent some stil
                   (event_stay old mid line input tried sound work may so.setup (so.stay (still t)));
             };
       };
-    }) e
+    }) sound work (λ t reads. so.within (still t) reads) e
 
 -- ---- BEHIND ITS LAST EVENT, where not all lines were sent
 pub drained_stopped : (line : ℕ) (r : Request) (old mid new : Stage) → 1 ≤ line → (IsTrue new.packs_tell → IsTrue mid.packs_tell) → (IsTrue new.trace_tells → IsTrue mid.trace_tells) → new.held ≡ mid.held
@@ -278,6 +284,7 @@ drained_stopped line r old mid new some still still_traced same least most so = 
               (ends_left line (setup_at old).drives old.held mid.held mid.world (behind_all s (waited line r so.asked so.drained)) at.from.draining.ends (so.stay (still t)));
         };
   };
+  images = λ t reads. same_images old.held mid.held new.held same (images_stay old.held mid.held mid.world (so.within (still t) reads));
 }
 
 -- what was given is not seen
@@ -291,6 +298,7 @@ stops_given stop line r old new given e = record {
         let at : IsCut stop (begun line r e.asked e.drained) old new s = e.stops.cut t tables s q in
         record { session = at.session; packs = at.packs };
   };
+  images = e.images;
 }
 
 -- an error that is handed on

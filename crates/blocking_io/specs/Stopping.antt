@@ -16,7 +16,7 @@ use Rattle.driver_laws.specs.rules.Sessions.{Part, IsSession, behind_all, waited
 use Rattle.driver_laws.specs.rules.Rest.{HasTables}
 use Rattle.hp_driver.specs.Passes.{StandsQuiet}
 use Rattle.blocking_io.specs.Calls.{Stage}
-use Rattle.blocking_io.specs.Asking.{setup_at}
+use Rattle.blocking_io.specs.Asking.{ImagesStay, setup_at}
 
 -- WHAT THE TRACE TOOK of lines: where it failed a front of them, and where the packs failed all.
 pub record TookFront (before after text : List ℕ) : Type 0 where
@@ -47,8 +47,9 @@ abbrev pub begun : ℕ → Request → List Moment → Option (List Moment) → 
 begun line r asked None = record { line = line; input = Submit r; told = asked } ∷ []
 begun line r asked (Some drained) = waited line r asked drained
 
--- A REQUEST THAT STOPPED
+-- A REQUEST THAT STOPPED. A read leaves each image.
 pub record Stops (stop : Stop) (line : ℕ) (r : Request) (old new : Stage) : Type 0 where
   pub asked : List Moment
   pub drained : Option (List Moment)
   pub stops : StopsIn stop (begun line r asked drained) old new
+  pub images : IsTrue new.packs_tell → r.written ≡ None → ImagesStay old.held new.held
