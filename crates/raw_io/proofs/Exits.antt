@@ -23,6 +23,7 @@ transfers_of law reads r old new ask a = record {
   waited = (record { request = r; ask = ask; submitted_is = refl; drained_is = refl }, tt);
   goes = plain_goes (law 1 r old new a);
   others = λ t tables. record { sectors = λ unit sector kind declared below homeless. (a.mapped t tables).others unit sector homeless; stay = a.stays t };
+  images = λ t only. a.images t (ask.only only);
 }
   where
     plain_goes : GoesOn (waited 1 r a.asked a.drained) old new → GoesOn (waited 1 r a.asked a.drained) (plain old) (plain new)
