@@ -60,13 +60,13 @@ pub record Transferred (reads : Bool) (t : Target) (held held' : ℕ → Pack) (
   pub left : (block : ℕ) → block_at (held' t.unit).image block ≡ (behind_all (start_at t table held) parts).surface.sector t.unit block
   pub trace : IsTrue trace_tells → taken' ≡ taken ++ trace_text (told_in parts)
 
--- A READ of so many bytes came so far, and these are its bytes. All contents stay; and each block of which a byte was read has its clean
--- line.
+-- A READ of so many bytes came so far, and these are its bytes. All packs stay, byte for byte; and each block of which a byte was read has
+-- its clean line.
 pub record HasRead (t : Target) (size done : ℕ) (bytes : List ℕ) (held held' : ℕ → Pack) (trace_tells : Bool) (taken taken' : List ℕ) : Type 0 where
   pub moved : Transferred true t held held' trace_tells taken taken'
   pub comes : ComesTo (blocks_in t moved.table held) (first_in t) t.at size done
   pub is : bytes ≡ range done (blocks_in t moved.table held) (first_in t) t.at
-  pub same : (block : ℕ) → blocks_in t moved.table held' block ≡ blocks_in t moved.table held block
+  pub same : held' ≡ held
   pub clean : (k : ℕ) → Touches t.at done k → MovedClean (unit_setup t.unit t.kind moved.table held) t.unit (first_in t + k) (told_in moved.parts)
 
 -- A WRITE of bytes came so far: these are replaced, and no other byte of a data block is.
@@ -85,12 +85,12 @@ pub record Broke (reads : Bool) (t : Target) (stop : Stop) (table : Option Table
   pub packs : LeftAt stop (at_unit t.unit (Some t.kind)) held held' (behind_all (start_at t table held) parts)
   pub trace : IsTrue trace_tells → Took stop taken taken' (trace_text (told_in parts))
 
--- Of a read all contents stay;
+-- Of a read all packs stay, byte for byte;
 pub record LeavesAll (t : Target) (stop : Stop) (held held' : ℕ → Pack) (trace_tells : Bool) (taken taken' : List ℕ) : Type 0 where
   pub table : Option Table
   pub broke : Broke true t stop table held held' trace_tells taken taken'
   pub stays : StaysElse t table held held'
-  pub same : (block : ℕ) → blocks_in t table held' block ≡ blocks_in t table held block
+  pub same : held' ≡ held
 
 -- of a write a front of the bytes is there, up to the end of a block: each block is whole.
 pub record LeavesFront (t : Target) (stop : Stop) (from : List ℕ) (held held' : ℕ → Pack) (trace_tells : Bool) (taken taken' : List ℕ) : Type 0 where
