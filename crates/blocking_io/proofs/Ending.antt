@@ -2,7 +2,7 @@
 use Rattle.std.proofs.Common.{◌≡◌, ℕ, ◌≤◌, Bool, IsTrue, List, [], ◌∷◌, ◌++◌, None, refl, sym, ap, subst, ◌∙◌, append-nil}
 use Rattle.pack_geometry.specs.Pack.{Pack}
 use Rattle.trace_replay.specs.requests.Requests.{Request, IsRequest}
-use Rattle.trace_replay.specs.Moments.{Moment, Played, Idle, Answered, answers_in}
+use Rattle.trace_replay.specs.Moments.{Moment, Idle, Answered, answers_in}
 use Rattle.trace_replay.specs.Script as script
 use Rattle.trace_replay.specs.Script.{IsThere}
 use Rattle.trace_replay.specs.Text.{trace_text, moment_text}
@@ -33,6 +33,7 @@ use Rattle.hp_driver.proofs.Passes.{Waits}
 use Rattle.blocking_io.specs.Given.{Given, gives_all, reached_by, bytes_by}
 use Rattle.blocking_io.specs.Calls.{Stage}
 use Rattle.blocking_io.specs.Asking.{Answers, ImagesStay}
+use Rattle.blocking_io.proofs.Longer.{long_told}
 use Rattle.blocking_io.proofs.Within.{images_stay, same_images}
 use Rattle.blocking_io.proofs.Waiting.{first_part, asked_moments, drained_moments, still_up, more_told, more_given, IsAskedTo, SoAsked, IsDrainedTo, SoDrained, Turns}
 
@@ -123,8 +124,7 @@ module _ (line : ℕ) (r : Request) (asked drained : List Moment) (old now : Sta
     units = λ u set. still_up old.world now.world old.held now.held u end.setup set;
     setup = end.setup;
     stays = end.stay;
-    long = λ t s q. subst (λ (ms : List Moment). AreAsLong s ms old.held now.held)
-        (ap (λ (ms : List Moment). asked_moments line r asked ++ Played line script.Drain ∷ ms) (sym (append-nil drained))) (end.long t s q);
+    long = λ t s q. long_told line r asked drained s old.held now.held (end.long t s q);
     images = end.images;
     mapped = λ t tables. record {
       follows = λ s q. record {

@@ -4,6 +4,7 @@ mod Taking
 mod Sending
 mod Calling
 mod Waiting
+mod Longer
 mod Ending
 mod Trying
 mod Within

@@ -71,7 +71,7 @@ still_may (says.AttendTo a) tried w held is there = (tt, tt)
 still_may says.Drain tried w held is there = absurd there
 still_may other tried w held is there = (there, tt)
 
-no_move : (input : Input) → is_move input ≡ false → IsNoMove input
+pub no_move : (input : Input) → is_move input ≡ false → IsNoMove input
 no_move (says.MoveAt a) is = absurd (false≢true (sym is))
 no_move input is = tt
 

@@ -23,7 +23,7 @@ pub breaks_of : (reads : Bool) (stop : Stop) (r : Request) (old new : Stage) →
 breaks_of reads stop r old new ask s = record {
   parts = begun 1 r s.asked s.drained;
   begun = of s.drained;
-  stops = record { trace = s.stops.trace; cut = λ t tables replay q. let cut = s.stops.cut t tables replay q in record { session = cut.session; packs = cut.packs } };
+  stops = record { trace = s.stops.trace; cut = λ t tables replay q. let cut = s.stops.cut t tables replay q in record { session = cut.session; packs = cut.packs; long = cut.long } };
   images = λ t only. s.images t (ask.only only);
 }
   where

@@ -2,7 +2,7 @@
 use Rattle.std.proofs.Common.{◌≡◌, ℕ, ◌<◌, ◌≤◌, ◌+◌, Bool, true, false, IsTrue, None, refl, sym, subst, arith}
 use Rattle.std.specs.Prelude.{min}
 use Rattle.pack_geometry.specs.declared.DriveKind.{DriveKind}
-use Rattle.trace_replay.specs.requests.Requests.{Answer, EndOfPartition, Failed, IsRequest, NoFrames, OutsidePartition, ReadOk, Request, WriteOk}
+use Rattle.trace_replay.specs.requests.Requests.{Answer, Failed, IsRequest, NoFrames, Request}
 use Rattle.driver_machine.specs.Guards.{IsSetUp}
 use Rattle.driver_machine.specs.Sound.{Sound, AtWork}
 use Rattle.driver_laws.specs.rules.Sessions.{told_in, waited}

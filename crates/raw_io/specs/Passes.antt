@@ -5,4 +5,4 @@ pub use Rattle.driver_laws.specs.shown.RunsRuns.{Stay}
 pub use Rattle.driver_laws.specs.shown.Runs.{IsSoFar}
 pub use Rattle.blocking_io.specs.Fronts.{OthersStay}
 pub use Rattle.blocking_io.specs.Sites.{IsUntouched, Keeps, MayTransfer, kind_at, left_map, map_at, site}
-pub use Rattle.blocking_io.specs.Stopping.{IsCut, LeftAt, Took}
+pub use Rattle.blocking_io.specs.Stopping.{IsCut, LeftAt, LongAt, Took}
