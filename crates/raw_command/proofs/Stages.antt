@@ -167,6 +167,7 @@ module _ (t : Target) (table : Option Table) (small : t.unit < 32) (good : (x : 
           begun = b.begun;
           session = cut.session;
           packs = subst (λ (s : Seen). LeftAt stop s.drives old.held new.held (behind_all (start_at t table old.held) b.parts)) setup_old cut.packs;
+          long = cut.long;
           trace = b.stops.trace;
         }
 

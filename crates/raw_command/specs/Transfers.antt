@@ -13,7 +13,7 @@ use Rattle.driver_laws.specs.rules.Stands.{start_over}
 use Rattle.driver_laws.specs.shown.Lengths.{AreAsLong}
 use Rattle.driver_laws.specs.declared.answers.outcome.Stop.{Stop}
 use Rattle.driver_laws.specs.declared.answers.outcome.Stop.TheVariants as stopped
-use Rattle.raw_io.specs.Passes.{LeftAt, Stay, Took, moments_in}
+use Rattle.raw_io.specs.Passes.{LeftAt, LongAt, Stay, Took, moments_in}
 use Rattle.driver_laws.specs.rules.Sessions.{Part, IsSession, behind_all, told_in}
 use Rattle.driver_laws.specs.rules.Cleans.{MovedClean}
 use Rattle.driver_laws.specs.rules.Bytes.{range, Touches, ComesTo, with_range}
@@ -77,12 +77,13 @@ pub record HasWritten (t : Target) (done : ℕ) (from : List ℕ) (held held' : 
 
 -- IT STOPPED. The lines are those of such requests, the last one with its lines so far: a legal session from the start over the packs. The trace
 -- took a front of them where it failed, and all of them where only the packs did; and the packs are left as the replay behind them has them, or,
--- where they failed, with the next block of a write besides.
+-- where they failed, with the next block of a write besides; and so long each image is.
 pub record Broke (reads : Bool) (t : Target) (stop : Stop) (table : Option Table) (held held' : ℕ → Pack) (trace_tells : Bool) (taken taken' : List ℕ) : Type 0 where
   pub parts : List Part
   pub begun : AreBegun reads t.unit t.part parts
   pub session : IsSession (start_at t table held) parts
   pub packs : LeftAt stop (at_unit t.unit (Some t.kind)) held held' (behind_all (start_at t table held) parts)
+  pub long : LongAt stop parts held held' (start_at t table held)
   pub trace : IsTrue trace_tells → Took stop taken taken' (trace_text (told_in parts))
 
 -- Of a read all packs stay, byte for byte;
