@@ -2,7 +2,7 @@
 use Rattle.std.proofs.Common.{◌≡◌, ℕ, ◌≤◌, Bool, IsTrue, List, [], ◌∷◌, ◌++◌, None, refl, sym, ap, subst, ◌∙◌, append-nil}
 use Rattle.pack_geometry.specs.Pack.{Pack}
 use Rattle.trace_replay.specs.requests.Requests.{Request, IsRequest}
-use Rattle.trace_replay.specs.Moments.{Moment, Played, Idle, Answered, answers_in}
+use Rattle.trace_replay.specs.Moments.{Moment, Idle, Answered, answers_in}
 use Rattle.trace_replay.specs.Script as script
 use Rattle.trace_replay.specs.Script.{IsThere}
 use Rattle.trace_replay.specs.Text.{trace_text, moment_text}
@@ -32,7 +32,9 @@ use Rattle.hp_driver.proofs.Passes.{quiet_again}
 use Rattle.hp_driver.proofs.Passes.{Waits}
 use Rattle.blocking_io.specs.Given.{Given, gives_all, reached_by, bytes_by}
 use Rattle.blocking_io.specs.Calls.{Stage}
-use Rattle.blocking_io.specs.Asking.{Answers}
+use Rattle.blocking_io.specs.Asking.{Answers, ImagesStay}
+use Rattle.blocking_io.proofs.Longer.{long_told}
+use Rattle.blocking_io.proofs.Within.{images_stay, same_images}
 use Rattle.blocking_io.proofs.Waiting.{first_part, asked_moments, drained_moments, still_up, more_told, more_given, IsAskedTo, SoAsked, IsDrainedTo, SoDrained, Turns}
 
 -- ---- QUIET
@@ -80,6 +82,7 @@ pub record IsEnd (line : ℕ) (r : Request) (asked drained : List Moment) (old n
   pub setup : setup_of now.world now.held ≡ with_packs (setup_of old.world old.held) now.held
   pub stay : IsTrue now.packs_tell → Stay (setup_of old.world old.held).drives old.held now.held
   pub long : IsTrue now.packs_tell → (s : Replay) → StandsQuiet old.held old.world s → AreAsLong s (drained_moments line r asked drained) old.held now.held
+  pub images : IsTrue now.packs_tell → r.written ≡ None → ImagesStay old.held now.held
   pub ended : IsTrue now.packs_tell → (s : Replay) → StandsQuiet old.held old.world s → Ended line r asked drained now s
 
 module _ (line : ℕ) (r : Request) (asked drained : List Moment) (old now : Stage) (sound : Sound old.world) (work : AtWork old.world) (quiet : IsQuiet old.world)
@@ -121,8 +124,8 @@ module _ (line : ℕ) (r : Request) (asked drained : List Moment) (old now : Sta
     units = λ u set. still_up old.world now.world old.held now.held u end.setup set;
     setup = end.setup;
     stays = end.stay;
-    long = λ t s q. subst (λ (ms : List Moment). AreAsLong s ms old.held now.held)
-        (ap (λ (ms : List Moment). asked_moments line r asked ++ Played line script.Drain ∷ ms) (sym (append-nil drained))) (end.long t s q);
+    long = λ t s q. long_told line r asked drained s old.held now.held (end.long t s q);
+    images = end.images;
     mapped = λ t tables. record {
       follows = λ s q. record {
         session = (end.ended t s q).session;
@@ -153,6 +156,7 @@ drained_answers line r old now sound work quiet unit is some idle so =
       setup = so.setup;
       stay = so.stay;
       long = so.long;
+      images = λ t reads. images_stay old.held now.held now.world (so.within t reads);
       ended = λ t s q.
           let at : IsDrainedTo line r so.asked so.drained now s = so.far t s q in
           record {
@@ -176,6 +180,7 @@ nothing_answers line r old mid now sound work quiet unit is some idle same_world
       stay = λ t. subst (Stay (setup_of old.world old.held).drives old.held) (sym same_held) so.stay;
       long = λ t s q. subst (AreAsLong s (drained_moments line r so.asked (Idle line ∷ [])) old.held) (sym same_held)
           (empty_drains_keep_lengths s (asked_moments line r so.asked) old.held mid.held mid.world line (so.long s q));
+      images = λ t reads. same_images old.held mid.held now.held same_held (images_stay old.held mid.held mid.world (so.within reads));
       ended = λ t s q.
           let at : IsAskedTo line r so.asked mid s = so.far s q in
           let goes : GoesTo line script.Drain mid.held mid.world (behind s (first_part line r so.asked)) (Nothing line ∷ []) =

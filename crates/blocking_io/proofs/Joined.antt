@@ -16,6 +16,7 @@ use Rattle.driver_laws.specs.declared.answers.outcome.Stop.TheVariants.{Store, S
 use Rattle.driver_laws.proofs.answers.Joined.{front_more, front_of_front}
 use Rattle.driver_laws.specs.shown.RunsRuns.{Stay}
 use Rattle.driver_laws.specs.shown.Lengths.{length_behind, AreAsLong}
+use Rattle.driver_laws.specs.shown.Within.{ShowsAll}
 use Rattle.driver_laws.proofs.shown.Lengths.{long_append}
 use Rattle.driver_laws.proofs.rules.Quiet.{after_parts}
 use Rattle.driver_laws.specs.shown.NextBlock.{HasNext}
@@ -24,7 +25,7 @@ use Rattle.driver_laws.specs.rules.Waited.{with_packs}
 use Rattle.hp_driver.specs.Passes.{StandsQuiet}
 use Rattle.blocking_io.specs.Calls.{Stage}
 use Rattle.blocking_io.specs.Asking.{setup_at, moments_in}
-use Rattle.blocking_io.specs.Stopping.{Took, LeftAt, IsCut, begun}
+use Rattle.blocking_io.specs.Stopping.{Took, LeftAt, LongAt, IsCut, begun}
 use Rattle.blocking_io.specs.Sessions.{Reaches, AnswersReach, SessionsJoin, StopsJoin, TwoThenStop}
 
 -- ---- PARTS
@@ -113,6 +114,18 @@ left_behind Sink drives old mid new s stay left = left_both drives old mid new s
 left_behind Store drives old mid new s stay (inl left) = inl (left_both drives old mid new s.surface stay left)
 left_behind Store drives old mid new s stay (inr next) = inr (next_both drives old mid new s stay next)
 
+long_behind : (stop : Stop) (s : Replay) (xs ys : List Part) (old mid new : ℕ → Pack) → AreAsLong s (moments_in xs) old mid → LongAt stop ys mid new (behind_all s xs) → LongAt stop (xs ++ ys) old new s
+long_behind Sink s xs ys old mid new one long = long_both s xs ys old mid new one long
+long_behind Store s xs ys old mid new one (inl long) = inl (long_both s xs ys old mid new one long)
+long_behind Store s xs ys old mid new one (inr more) = inr (record {
+  held = more.held;
+  long = long_both s xs ys old mid more.held one more.long;
+  world = more.world;
+  sound = more.sound;
+  shows = subst (ShowsAll more.world) (sym (behind_append s xs ys)) more.shows;
+  next = more.next;
+})
+
 -- ---- A REQUEST THAT IS ANSWERED
 pub answers_reach : AnswersReach
 answers_reach line r old new answers = record {
@@ -160,6 +173,7 @@ stops_join stop xs ys old mid new first next still = record {
         packs = left_behind stop (setup_at old).drives old.held mid.held new.held (behind_all s (xs ++ ys)) (first.stays (still.packs t))
             (subst (λ (z : Replay). LeftAt stop (setup_at old).drives mid.held new.held z) (sym (behind_append s xs ys))
             (subst (λ (drives : ℕ → Option DriveKind). LeftAt stop drives mid.held new.held (behind_all (behind_all s xs) ys)) (same_drives old mid first.setup) other.packs));
+        long = long_behind stop s xs ys old.held mid.held new.held (first.long (still.packs t) tables s q) other.long;
       };
 }
 

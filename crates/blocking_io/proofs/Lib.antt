@@ -4,8 +4,10 @@ mod Taking
 mod Sending
 mod Calling
 mod Waiting
+mod Longer
 mod Ending
 mod Trying
+mod Within
 mod Stopped
 mod Readying
 pub mod Joined

@@ -31,6 +31,10 @@ use Rattle.driver_laws.proofs.shown.DrainsLaws.{GoesOn, drain_begins, drain_goes
 use Rattle.driver_laws.proofs.shown.Inputted.{lines_play_nothing}
 use Rattle.hp_driver.proofs.Passes.{event_fronts}
 use Rattle.driver_laws.specs.shown.RunsRuns.{Stay}
+use Rattle.driver_laws.specs.shown.Lengths.{AreAsLong}
+use Rattle.driver_laws.specs.shown.Within.{ShowsAll}
+use Rattle.driver_laws.proofs.rules.Quiet.{after_parts}
+use Rattle.driver_laws.proofs.shown.Lengths.{empty_drains_keep_lengths}
 use Rattle.driver_laws.specs.shown.NextBlock.{NextBlocksShow}
 use Rattle.driver_laws.proofs.shown.Sectors.{submission_quiet}
 use Rattle.driver_laws.specs.rules.Sessions.{MayPlay, IsPart, behind, behind_all, told_in, waited}
@@ -40,9 +44,11 @@ use Rattle.hp_driver.specs.Passes.{GoesTo, DrainsFrom}
 use Rattle.hp_driver.proofs.Passes.{quiet_opens, quiet_submits, drains_begin, drains_continue, drains_find_nothing}
 use Rattle.blocking_io.specs.Given.{Given}
 use Rattle.blocking_io.specs.Calls.{Stage, SubmissionStops, EventStops}
-use Rattle.blocking_io.specs.Asking.{setup_at}
+use Rattle.blocking_io.specs.Asking.{moments_in, setup_at}
 use Rattle.blocking_io.specs.Stopping.{TookFront, IsCut, begun, Stops}
-use Rattle.blocking_io.proofs.Waiting.{first_part, IsAskedTo, SoAsked, IsDrainedTo, SoDrained, declared_now, acts_stay}
+use Rattle.blocking_io.proofs.Waiting.{asked_moments, drained_moments, first_part, IsAskedTo, SoAsked, IsDrainedTo, SoDrained, declared_now, acts_stay}
+use Rattle.blocking_io.proofs.Longer.{event_long, long_told, move_long, quiet_more}
+use Rattle.blocking_io.proofs.Within.{WritesNone, images_stay, same_images, stopped_stays}
 use Rattle.blocking_io.proofs.Trying.{Whole, Begins, event_tells, event_fails}
 
 -- ---- TEXTS
@@ -111,8 +117,12 @@ submission_stopped quiet_keep stop line r old new some e =
                   (tt, submission_quiet r line e.slot e.held old.world e.tells.done e.tells.left e.tells.all)
                   (subst (λ (held : ℕ → Pack). AreLeft (setup_at old).drives old.held held s.surface) (sym e.same)
                   (surface_left (setup_at old).drives old.held old.held s q.stands.packs none));
+              long = subst (λ (ms : List Moment). AreAsLong s (Played line (script.Submit r) ∷ ms) old.held new.held) (sym (append-nil lines))
+                  (quiet_more s [] (Played line (script.Submit r) ∷ lines) old.held old.held new.held
+                  (tt, submission_quiet r line e.slot e.held old.world e.tells.done e.tells.left e.tells.all) e.same (λ unit. refl));
             };
       };
+      images = λ t reads. same_images old.held old.held new.held e.same (λ unit. refl);
     })
 
 -- ---- WHERE THE DRAIN FOUND NOTHING, and not all lines were sent
@@ -134,8 +144,11 @@ idle_stopped line r old mid new some still idle same least most so = record {
           session = (at.part, (record { number = some; may = at.opened.may; follows = goes.follows; lines_alone = refl }, tt));
           packs = subst (λ (held : ℕ → Pack). AreLeft (setup_at old).drives old.held held (behind_all s (waited line r so.asked (Idle line ∷ []))).surface) (sym same)
               (surface_left (setup_at old).drives old.held mid.held (behind_all s (waited line r so.asked (Idle line ∷ []))) goes.opened.stands.packs so.stay);
+          long = subst (AreAsLong s (asked_moments line r so.asked ++ Played line script.Drain ∷ Idle line ∷ []) old.held) (sym same)
+              (empty_drains_keep_lengths s (asked_moments line r so.asked) old.held mid.held mid.world line (so.long s q));
         };
   };
+  images = λ t reads. same_images old.held mid.held new.held same (images_stay old.held mid.held mid.world (so.within reads));
 }
 
 -- ---- IN AN EVENT of its drain
@@ -147,8 +160,10 @@ record InDrain (line : ℕ) (r : Request) (asked moments : List Moment) (input :
 event_stopped : QuietMomentsKeep → NextBlocksShow → (stop : Stop) (line : ℕ) (r : Request) (asked moments : List Moment) (input : Input) (old mid new : Stage) (sent : List ℕ) → 1 ≤ line → played moments ≡ []
     → (IsTrue new.trace_tells → mid.taken ≡ old.taken ++ trace_text (asked ++ moments)) → (IsTrue new.trace_tells → IsFront old.taken sent)
     → (IsTrue new.packs_tell → (s : Replay) → StandsQuiet old.held old.world s → InDrain line r asked moments input old mid s)
+    → (IsTrue new.packs_tell → (s : Replay) → StandsQuiet old.held old.world s → AreAsLong s (drained_moments line r asked moments) old.held mid.held)
+    → Sound mid.world → AtWork mid.world → (IsTrue new.packs_tell → r.written ≡ None → WritesNone old.held mid.held mid.world)
     → EventStops stop sent line input mid new → Stops stop line r old new
-event_stopped quiet_keep next_shows Sink line r asked moments input old mid new sent some alone trace begins far e =
+event_stopped quiet_keep next_shows Sink line r asked moments input old mid new sent some alone trace begins far long sound work within e =
     let lines : List Moment = lines_of_all mid.world e.tells.done in
     record {
       asked = asked;
@@ -164,10 +179,15 @@ event_stopped quiet_keep next_shows Sink line r asked moments input old mid new 
             record {
               session = (at.part, (record { number = some; may = at.may; follows = whole.follows; lines_alone = lines_play_nothing moments mid.world e.tells.done ∙ alone }, tt));
               packs = whole.packs;
+              long = long_told line r asked (moments ++ lines) s old.held new.held
+                  (subst (λ (ms : List Moment). AreAsLong s ms old.held new.held) (append_assoc (asked_moments line r asked) (Played line script.Drain ∷ moments) lines)
+                  (event_long line old.held mid new input sent s (drained_moments line r asked moments) at.begins.sound
+                  (subst (ShowsAll mid.world) (sym (after_parts s (asked_moments line r asked) (Played line script.Drain ∷ moments))) at.begins.shows) (long t s q) t e));
             };
       };
+      images = λ t reads. stopped_stays Sink line input old.held mid new sent sound work t (within t reads) e;
     }
-event_stopped quiet_keep next_shows Store line r asked moments input old mid new sent some alone trace begins far e = record {
+event_stopped quiet_keep next_shows Store line r asked moments input old mid new sent some alone trace begins far long sound work within e = record {
   asked = asked;
   drained = Some moments;
   stops = record {
@@ -177,8 +197,10 @@ event_stopped quiet_keep next_shows Store line r asked moments input old mid new
         record {
           session = (at.part, (record { number = some; may = at.may; follows = at.begins.so_far.follows; lines_alone = alone }, tt));
           packs = event_fails next_shows line (setup_at old).drives old.held mid new input (after_moment (behind s (first_part line r asked)) (Played line script.Drain)) moments at.begins t e;
+          long = move_long line r asked moments old.held mid new input s at.begins.sound at.begins.shows (long t s q) t e;
         };
   };
+  images = λ t reads. stopped_stays Store line input old.held mid new sent sound work t (within t reads) e;
 }
 
 event_stay : (old mid : Stage) (line : ℕ) (input : Input) (tried : Tried) → Sound mid.world → AtWork mid.world → MayCome mid.world input tried
@@ -219,7 +241,8 @@ first_stopped quiet_keep next_shows stop line r input old mid new sent some stil
                   (event_stay old mid line input tried sound work may so.setup so.stay);
             };
       };
-    }) e
+    }) (λ t s q. quiet_more s (asked_moments line r so.asked) (Played line script.Drain ∷ []) old.held mid.held mid.held (tt, tt) refl (so.long s q))
+    sound work (λ t reads. so.within reads) e
 
 -- and a later one
 work_of : (b : Bool) (s : Replay) → b ≡ true → WorkMay b s → are_at_work s ≡ true
@@ -259,7 +282,7 @@ later_stopped quiet_keep next_shows stop line r input old mid new sent some stil
                   (event_stay old mid line input tried sound work may so.setup (so.stay (still t)));
             };
       };
-    }) e
+    }) (λ t s q. so.long (still t) s q) sound work (λ t reads. so.within (still t) reads) e
 
 -- ---- BEHIND ITS LAST EVENT, where not all lines were sent
 pub drained_stopped : (line : ℕ) (r : Request) (old mid new : Stage) → 1 ≤ line → (IsTrue new.packs_tell → IsTrue mid.packs_tell) → (IsTrue new.trace_tells → IsTrue mid.trace_tells) → new.held ≡ mid.held
@@ -276,8 +299,11 @@ drained_stopped line r old mid new some still still_traced same least most so = 
           session = (at.part, (record { number = some; may = at.may; follows = at.from.draining.follows; lines_alone = so.alone }, tt));
           packs = subst (λ (held : ℕ → Pack). AreLeft (setup_at old).drives old.held held (behind_all s (waited line r so.asked so.drained)).surface) (sym same)
               (ends_left line (setup_at old).drives old.held mid.held mid.world (behind_all s (waited line r so.asked so.drained)) at.from.draining.ends (so.stay (still t)));
+          long = subst (AreAsLong s (moments_in (waited line r so.asked so.drained)) old.held) (sym same)
+              (long_told line r so.asked so.drained s old.held mid.held (so.long (still t) s q));
         };
   };
+  images = λ t reads. same_images old.held mid.held new.held same (images_stay old.held mid.held mid.world (so.within (still t) reads));
 }
 
 -- what was given is not seen
@@ -289,8 +315,9 @@ stops_given stop line r old new given e = record {
     trace = e.stops.trace;
     cut = λ t tables s q.
         let at : IsCut stop (begun line r e.asked e.drained) old new s = e.stops.cut t tables s q in
-        record { session = at.session; packs = at.packs };
+        record { session = at.session; packs = at.packs; long = at.long };
   };
+  images = e.images;
 }
 
 -- an error that is handed on

@@ -32,10 +32,10 @@ use Rattle.blocking_io.specs.Calls.{Stage, EventTellsFront, MoveFails}
 use Rattle.blocking_io.specs.Stopping.{LeftAt}
 
 -- ---- A MOVE
-abbrev HasOne : List Act → Type 0
+abbrev pub HasOne : List Act → Type 0
 HasOne acts = (x : Act) × (acts ≡ x ∷ [])
 
-one_front : (acts done left : List Act) (x : Act) → acts ≡ x ∷ [] → acts ≡ done ++ left → (done ≡ []) ⊎ (done ≡ acts)
+pub one_front : (acts done left : List Act) (x : Act) → acts ≡ x ∷ [] → acts ≡ done ++ left → (done ≡ []) ⊎ (done ≡ acts)
 one_front acts [] left x one all = inl refl
 one_front acts (d ∷ []) left x one all =
     inr (sym (ap (λ (l : List Act). take 1 l) all) ∙ ap (λ (l : List Act). take 1 l) one ∙ sym one)
@@ -49,12 +49,12 @@ acts_one true line a tried w sound can = (deed_at line (unit_of w a) (Sector (ne
 acts_one false line a tried w sound can =
     (Nothing line, ap (λ (b : Bool). or_nothing b line (in_hand line (unit_of w a) (Sector (next_block (adapter_at w a).state) tried)) w) can)
 
-record IsMoveOf (line : ℕ) (input : Input) (tried : Tried) (w : World) (held : ℕ → Pack) : Type 0 where
-  one : HasOne (event_acts line input tried w)
-  may : Run w (event_acts line input tried w) → MayCome w input tried
-  reads : ReadAll w held (event_acts line input tried w) → IsReadOf w held input tried
+pub record IsMoveOf (line : ℕ) (input : Input) (tried : Tried) (w : World) (held : ℕ → Pack) : Type 0 where
+  pub one : HasOne (event_acts line input tried w)
+  pub may : Run w (event_acts line input tried w) → MayCome w input tried
+  pub reads : ReadAll w held (event_acts line input tried w) → IsReadOf w held input tried
 
-move_of : (line : ℕ) (input : Input) (tried : Tried) (w : World) (held : ℕ → Pack) → is_move input ≡ true → Sound w → AllFlip w.book.live → IsMoveOf line input tried w held
+pub move_of : (line : ℕ) (input : Input) (tried : Tried) (w : World) (held : ℕ → Pack) → is_move input ≡ true → Sound w → AllFlip w.book.live → IsMoveOf line input tried w held
 move_of line (says.MoveAt a) tried w held is sound noise = record {
   one = acts_one (can_move (adapter_at w a)) line a tried w sound refl;
   may = λ run can. tried_by_rules w line a tried sound can run;
@@ -71,7 +71,7 @@ still_may (says.AttendTo a) tried w held is there = (tt, tt)
 still_may says.Drain tried w held is there = absurd there
 still_may other tried w held is there = (there, tt)
 
-no_move : (input : Input) → is_move input ≡ false → IsNoMove input
+pub no_move : (input : Input) → is_move input ≡ false → IsNoMove input
 no_move (says.MoveAt a) is = absurd (false≢true (sym is))
 no_move input is = tt
 

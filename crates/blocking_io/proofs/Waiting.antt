@@ -12,12 +12,12 @@ use Rattle.trace_replay.specs.Text.{trace_text, moment_text}
 use Rattle.trace_replay.specs.Replay.{Replay, after_moments}
 use Rattle.driver_laws.specs.rules.Stands.{Setup}
 use Rattle.driver_machine.specs.World.{World, unit_at}
-use Rattle.driver_machine.specs.Acts.{Act, Taken, after, after_all}
+use Rattle.driver_machine.specs.Acts.{Act, Taken, Tried, after, after_all}
 use Rattle.driver_machine.specs.Lines.{lines_of_all}
 use Rattle.driver_machine.specs.Events.{submit_acts, event_acts, next_event}
 use Rattle.driver_machine.specs.Guards.{IsSetUp}
 use Rattle.driver_machine.specs.Sound.{Sound, AtWork}
-use Rattle.driver_machine.specs.Runs.{Run}
+use Rattle.driver_machine.specs.Runs.{Run, MayCome}
 use Rattle.driver_laws.specs.answers.Packs.{packs_after_all}
 use Rattle.driver_laws.proofs.answers.Units.{setups_stay}
 use Rattle.driver_laws.proofs.answers.Waiting.{events_alone, submissions_alone}
@@ -41,6 +41,7 @@ use Rattle.blocking_io.specs.Given.{Given, gives, gives_all}
 use Rattle.driver_laws.specs.answers.Waiting.{takings, all_taken}
 use Rattle.blocking_io.specs.Calls.{Stage, GivesSubmission, GivesEvent}
 use Rattle.driver_laws.proofs.answers.Taking.{taken_by, none_waits}
+use Rattle.blocking_io.proofs.Within.{WritesNone, event_writes_none, submission_writes_none}
 
 -- ---- answers one list behind the other
 gives_append : (xs ys : List Answered) (g : Given) → gives_all (xs ++ ys) g ≡ gives_all ys (gives_all xs g)
@@ -170,6 +171,7 @@ pub record SoAsked (line : ℕ) (r : Request) (old now : Stage) : Type 0 where
   pub waits : Waits 812800 now.world
   pub stay : Stay (setup_of old.world old.held).drives old.held now.held
   pub long : (s : Replay) → StandsQuiet old.held old.world s → AreAsLong s (asked_moments line r asked) old.held now.held
+  pub within : r.written ≡ None → WritesNone old.held now.held now.world
   pub far : (s : Replay) → StandsQuiet old.held old.world s → IsAskedTo line r asked now s
 
 pub asked_so : (line : ℕ) (r : Request) (old now : Stage) → Sound old.world → AtWork old.world → IsQuiet old.world → IsRequest r → 1 ≤ line → GivesSubmission line r old now
@@ -192,6 +194,9 @@ asked_so line r old now sound work quiet is some gives =
           (none_stays (setup_of old.world old.held).drives old.held));
       long = λ s q. subst (AreAsLong s (asked_moments line r lines) old.held) (sym gives.packs)
           (submissions_keep_lengths s [] old.held old.held old.world line gives.slot r gives.held (λ unit. refl));
+      within = λ reads. subst (λ (held : ℕ → Pack). WritesNone old.held held now.world) (sym gives.packs)
+          (subst (WritesNone old.held (packs_after_all old.world old.held acts)) (sym gives.acts.world)
+          (submission_writes_none line gives.slot r gives.held (setup_of old.world old.held).drives old.held old.world sound work quiet gives.may gives.is (are_declared old.world old.held) reads));
       far = λ s q.
           let goes : GoesTo line (script.Submit r) old.held old.world s acts = quiet_submits line gives.slot r gives.held old.held old.world s q gives.may gives.is some in
           record {
@@ -222,6 +227,7 @@ pub record SoDrained (line : ℕ) (r : Request) (old now : Stage) : Type 0 where
   pub setup : setup_of now.world now.held ≡ with_packs (setup_of old.world old.held) now.held
   pub stay : IsTrue now.packs_tell → Stay (setup_of old.world old.held).drives old.held now.held
   pub long : IsTrue now.packs_tell → (s : Replay) → StandsQuiet old.held old.world s → AreAsLong s (drained_moments line r asked drained) old.held now.held
+  pub within : IsTrue now.packs_tell → r.written ≡ None → WritesNone old.held now.held now.world
   pub far : IsTrue now.packs_tell → (s : Replay) → StandsQuiet old.held old.world s → IsDrainedTo line r asked drained now s
 
 -- and all lines are sent
@@ -238,6 +244,7 @@ drained_sent line r old mid w tells taken same still sent so = record {
   setup = subst (λ (v : World). setup_of v mid.held ≡ with_packs (setup_of old.world old.held) mid.held) (sym same) so.setup;
   stay = so.stay;
   long = so.long;
+  within = λ t reads. subst (λ (v : World). WritesNone old.held mid.held v) (sym same) (so.within t reads);
   far = λ t s q.
       let at : IsDrainedTo line r so.asked so.drained mid s = so.far t s q in
       record {
@@ -257,6 +264,14 @@ next_setup : (old mid now : Stage) (acts : List Act) → setup_of mid.world mid.
     → now.world ≡ all_taken (after_all mid.world acts) → setup_of now.world now.held ≡ with_packs (setup_of old.world old.held) now.held
 next_setup old mid now acts was is =
     both_setup mid.world acts now.world mid.held now.held is ∙ ap (λ (z : Setup). with_packs z now.held) was
+
+more_within : (line : ℕ) (input : Input) (tried : Tried) (old : ℕ → Pack) (mid now : Stage) → Sound mid.world → AtWork mid.world → MayCome mid.world input tried
+    → now.held ≡ packs_after_all mid.world mid.held (event_acts line input tried mid.world) → now.world ≡ all_taken (after_all mid.world (event_acts line input tried mid.world))
+    → WritesNone old mid.held mid.world → WritesNone old now.held now.world
+more_within line input tried old mid now sound work may packs world within =
+    subst (λ (held : ℕ → Pack). WritesNone old held now.world) (sym packs)
+    (subst (WritesNone old (packs_after_all mid.world mid.held (event_acts line input tried mid.world))) (sym world)
+    (event_writes_none line input tried old mid.held mid.world sound work may within))
 
 pub first_drained : (line : ℕ) (r : Request) (input : Input) (old mid now : Stage) → 1 ≤ line → (IsTrue now.packs_tell → IsTrue mid.packs_tell) → (IsTrue now.trace_tells → IsTrue mid.trace_tells)
     → Sound mid.world → AtWork mid.world → next_event mid.world ≡ Some input → SoAsked line r old mid → GivesEvent line input mid now → SoDrained line r old now
@@ -279,6 +294,7 @@ first_drained line r input old mid now some still still_traced sound work is so 
           (acts_stay (setup_of old.world old.held).drives old.held mid.held mid.world acts sound gives.acts.run (declared_now old.world mid.world old.held mid.held so.setup) so.stay);
       long = λ t s q. subst (AreAsLong s (drained_moments line r so.asked lines) old.held) (sym (gives.packs t))
           (first_events_keep_lengths s (asked_moments line r so.asked) old.held mid.held mid.world line input gives.tried sound (so.far s q).opened.stands.shows gives.acts.run (so.long s q));
+      within = λ t reads. more_within line input gives.tried old.held mid now sound work gives.may (gives.packs t) gives.acts.world (so.within reads);
       far = λ t s q.
           let at : IsAskedTo line r so.asked mid s = so.far s q in
           record {
@@ -338,6 +354,7 @@ more_drained line r input old mid now still still_traced sound work is so gives 
           (subst (λ (ms : List Moment). AreAsLong s ms old.held (packs_after_all mid.world mid.held acts)) (append_assoc (asked_moments line r so.asked) (Played line script.Drain ∷ so.drained) lines)
           (later_events_keep_lengths s (drained_moments line r so.asked so.drained) old.held mid.held mid.world line input gives.tried sound
           (shows_drained line r so.asked so.drained mid s (so.far (still t) s q)) gives.acts.run (so.long (still t) s q)));
+      within = λ t reads. more_within line input gives.tried old.held mid now sound work gives.may (gives.packs t) gives.acts.world (so.within (still t) reads);
       far = λ t s q.
           let at : IsDrainedTo line r so.asked so.drained mid s = so.far (still t) s q in
           record {

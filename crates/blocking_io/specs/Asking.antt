@@ -1,6 +1,6 @@
 -- A REQUEST THAT IS WAITED FOR, as its callers see it: over the driver's world and the packs before and after.
-use Rattle.std.specs.Prelude.{◌≡◌, ℕ, ◌≤◌, false, IsTrue, List, [], ◌∷◌, ◌++◌, Some}
-use Rattle.pack_geometry.specs.Pack.{block_at}
+use Rattle.std.specs.Prelude.{◌≡◌, ℕ, ◌≤◌, false, IsTrue, List, [], ◌∷◌, ◌++◌, None, Some}
+use Rattle.pack_geometry.specs.Pack.{Pack, block_at}
 use Rattle.trace_replay.specs.requests.Requests as told
 use Rattle.trace_replay.specs.requests.Requests.{IsRequest}
 use Rattle.trace_replay.specs.Moments.{Moment, Played}
@@ -61,8 +61,12 @@ pub record IsMapped (line : ℕ) (r : told.Request) (asked drained : List Moment
       → block_at (new.held unit).image sector ≡ block_at (old.held unit).image sector
   pub tables : HasTables (setup_at new)
 
+-- EACH IMAGE STAYS, byte for byte.
+abbrev pub ImagesStay : (old new : ℕ → Pack) → Type 0
+ImagesStay old new = (unit : ℕ) → (new unit).image ≡ (old unit).image
+
 -- WHERE NOTHING STOPS IT. Units, kinds and tables of the driver stay; and of the packs, where they tell, what lies beyond their sectors,
--- the marks, and those of other units; and each image is just as long as the blocks that were written make it.
+-- the marks, and those of other units; and each image is just as long as the blocks that were written make it. A read leaves each image.
 pub record Answers (line : ℕ) (r : told.Request) (old new : Stage) : Type 0 where
   pub asked : List Moment
   pub drained : List Moment
@@ -71,4 +75,5 @@ pub record Answers (line : ℕ) (r : told.Request) (old new : Stage) : Type 0 wh
   pub setup : setup_at new ≡ with_packs (setup_at old) new.held
   pub stays : IsTrue new.packs_tell → Stay (setup_at old).drives old.held new.held
   pub long : IsTrue new.packs_tell → (s : Replay) → StandsQuiet old.held old.world s → AreAsLong s (moments_in (waited line r asked drained)) old.held new.held
+  pub images : IsTrue new.packs_tell → r.written ≡ None → ImagesStay old.held new.held
   pub mapped : IsTrue new.packs_tell → HasTables (setup_at old) → IsMapped line r asked drained old new

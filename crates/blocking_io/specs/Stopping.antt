@@ -8,15 +8,19 @@ use Rattle.trace_replay.specs.Moments.{Moment}
 use Rattle.trace_replay.specs.Script.{Submit}
 use Rattle.trace_replay.specs.Text.{trace_text}
 use Rattle.trace_replay.specs.Replay.{Replay, AreLeft}
-use Rattle.driver_laws.specs.answers.Outcome.{IsFront}
+use Rattle.driver_machine.specs.World.{World}
+use Rattle.driver_machine.specs.Sound.{Sound}
+use Rattle.driver_laws.specs.answers.Outcome.{IsFront, IsNextBlock}
 use Rattle.driver_laws.specs.declared.answers.outcome.Stop.{Stop}
 use Rattle.driver_laws.specs.declared.answers.outcome.Stop.TheVariants.{Store, Sink}
 use Rattle.driver_laws.specs.shown.NextBlock.{HasNext}
+use Rattle.driver_laws.specs.shown.Lengths.{AreAsLong}
+use Rattle.driver_laws.specs.shown.Within.{ShowsAll}
 use Rattle.driver_laws.specs.rules.Sessions.{Part, IsSession, behind_all, waited, told_in}
 use Rattle.driver_laws.specs.rules.Rest.{HasTables}
 use Rattle.hp_driver.specs.Passes.{StandsQuiet}
 use Rattle.blocking_io.specs.Calls.{Stage}
-use Rattle.blocking_io.specs.Asking.{setup_at}
+use Rattle.blocking_io.specs.Asking.{ImagesStay, moments_in, setup_at}
 
 -- WHAT THE TRACE TOOK of lines: where it failed a front of them, and where the packs failed all.
 pub record TookFront (before after text : List ℕ) : Type 0 where
@@ -33,10 +37,25 @@ abbrev pub LeftAt : Stop → (ℕ → Option DriveKind) → (old left : ℕ → 
 LeftAt Sink drives old left s = AreLeft drives old left s.surface
 LeftAt Store drives old left s = AreLeft drives old left s.surface ⊎ HasNext drives old left s
 
+-- HOW LONG IMAGES ARE LEFT: each is just as long as the blocks make it that the lines wrote; and where the packs failed, perhaps with the next
+-- block of a write, which the driver's world has that the replay shows.
+pub record IsLongerByOne (parts : List Part) (old left : ℕ → Pack) (s : Replay) : Type 0 where
+  pub held : ℕ → Pack
+  pub long : AreAsLong s (moments_in parts) old held
+  pub world : World
+  pub sound : Sound world
+  pub shows : ShowsAll world (behind_all s parts)
+  pub next : IsNextBlock world held left
+
+abbrev pub LongAt : Stop → List Part → (old left : ℕ → Pack) → Replay → Type 0
+LongAt Sink parts old left s = AreAsLong s (moments_in parts) old left
+LongAt Store parts old left s = AreAsLong s (moments_in parts) old left ⊎ IsLongerByOne parts old left s
+
 -- A SESSION THAT STOPPED, of these parts, the last one with its lines so far: so from each replay that stands for the driver before
 pub record IsCut (stop : Stop) (parts : List Part) (old new : Stage) (s : Replay) : Type 0 where
   pub session : IsSession s parts
   pub packs : LeftAt stop (setup_at old).drives old.held new.held (behind_all s parts)
+  pub long : LongAt stop parts old.held new.held s
 
 pub record StopsIn (stop : Stop) (parts : List Part) (old new : Stage) : Type 0 where
   pub trace : IsTrue new.trace_tells → Took stop old.taken new.taken (trace_text (told_in parts))
@@ -47,8 +66,9 @@ abbrev pub begun : ℕ → Request → List Moment → Option (List Moment) → 
 begun line r asked None = record { line = line; input = Submit r; told = asked } ∷ []
 begun line r asked (Some drained) = waited line r asked drained
 
--- A REQUEST THAT STOPPED
+-- A REQUEST THAT STOPPED. A read leaves each image.
 pub record Stops (stop : Stop) (line : ℕ) (r : Request) (old new : Stage) : Type 0 where
   pub asked : List Moment
   pub drained : Option (List Moment)
   pub stops : StopsIn stop (begun line r asked drained) old new
+  pub images : IsTrue new.packs_tell → r.written ≡ None → ImagesStay old.held new.held

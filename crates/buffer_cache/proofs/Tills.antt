@@ -37,7 +37,7 @@ till_one stop line r old new s = record {
   are = refl;
   stops = record {
     trace = s.stops.trace;
-    cut = λ t tables z q. record { session = (s.stops.cut t tables z q).session; packs = (s.stops.cut t tables z q).packs };
+    cut = λ t tables z q. record { session = (s.stops.cut t tables z q).session; packs = (s.stops.cut t tables z q).packs; long = (s.stops.cut t tables z q).long };
   };
 }
 

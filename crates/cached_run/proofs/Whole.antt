@@ -30,7 +30,7 @@ use Rattle.driver_laws.specs.rules.Sessions.{told_in}
 use Rattle.trace_replay.specs.Runs.{start_of}
 use Rattle.trace_replay.specs.Text.{trace_text}
 use Rattle.script_runs.specs.StopsPasses.{AreAsLong}
-use Rattle.buffer_cache.specs.Passes.{Took as TookLines}
+use Rattle.buffer_cache.specs.Passes.{LongAt, Took as TookLines}
 use Rattle.cached_run.specs.Leaving.{IsCalled}
 use Rattle.cached_run.specs.Sessions.{calls_for, called, maps_behind, asked_by, cache_behind, parts_in, parts_till}
 use Rattle.cached_run.proofs.Replacings.{same_map}
@@ -138,7 +138,7 @@ module _ (script : Script) (tables : ℕ → Option Table) (old new : ℕ → Pa
     }
 
     has_asked_till : (before : List Numbered) (at : Numbered) → AskedTill first begun before at now → trace.before ≡ first.site.taken → trace.after ≡ now.site.taken → trace.tells ≡ now.site.trace_tells
-        → trace.faults ≡ first.trace_faults → trace.faults_after ≡ now.trace_faults → HasAskedTill capacity script tables old trace before at
+        → trace.faults ≡ first.trace_faults → trace.faults_after ≡ now.trace_faults → HasAskedTill capacity script tables old new trace before at
     has_asked_till before at a taken taken' traces faults faults_after = record {
       stop = a.stop;
       rose = λ e. subst (λ z. Rose z trace.faults_after) (sym faults) (subst (λ z. Rose first.trace_faults z) (sym faults_after) (a.rose e));
@@ -163,6 +163,8 @@ module _ (script : Script) (tables : ℕ → Option Table) (old new : ℕ → Pa
       lawful = (a.cut.stops.cut t has (start_of script tables old) stands).session;
       told = λ told. subst (λ z. TookLines a.stop z trace.after (trace_text (told_in (parts_till a.cut.cut)))) (sym taken)
           (subst (λ z. TookLines a.stop first.site.taken z (trace_text (told_in (parts_till a.cut.cut)))) (sym taken') (a.cut.stops.trace (subst IsTrue traces told)));
+      long = subst (λ (h : ℕ → Pack). LongAt a.stop (parts_till a.cut.cut) h new (start_of script tables old)) (ap (λ (z : Setup). z.packs) set)
+          (subst (λ (h : ℕ → Pack). LongAt a.stop (parts_till a.cut.cut) first.site.held h (start_of script tables old)) held (a.cut.stops.cut t has (start_of script tables old) stands).long);
     }
 
   -- PLAYED TO ITS END

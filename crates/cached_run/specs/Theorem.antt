@@ -24,7 +24,7 @@ use Rattle.script_runs.specs.StopsPasses.{AreAsLong}
 use Rattle.driver_laws.specs.declared.answers.outcome.Stop.{Stop}
 use Rattle.driver_laws.specs.declared.answers.outcome.Stop.TheVariants.{Sink}
 use Rattle.driver_laws.specs.rules.Entries.{empty_cache}
-use Rattle.buffer_cache.specs.Passes.{moments_in, Took as TookLines}
+use Rattle.buffer_cache.specs.Passes.{LongAt, moments_in, Took as TookLines}
 use Rattle.cached_run.specs.Sessions.{Session, calls_for, AsksFor, parts_in, AsksUpTo, parts_till}
 use Rattle.cached_run.specs.Answers.{Replacement, answers_of, map_of_inputs, text_of, replacements_of, after}
 
@@ -42,14 +42,16 @@ pub record HasAsked (capacity : ℕ) (script : Script) (tables : ℕ → Option 
   pub long : AreAsLong (start_of script tables old) (moments_in (parts_in sessions)) old new
 
 -- OR IT STOPPED in one of those for the last input, and the sessions up to there are legal. The trace took their lines: of the last one those
--- that the driver told before the packs failed; or where the trace failed itself, so that its count rose, a front of all.
-pub record HasAskedTill (capacity : ℕ) (script : Script) (tables : ℕ → Option Table) (old : ℕ → Pack) (trace : Took) (before : List Numbered) (at : Numbered) : Type 0 where
+-- that the driver told before the packs failed; or where the trace failed itself, so that its count rose, a front of all. Each image is just as
+-- long as the blocks that all these lines wrote make it, or the next one besides where the packs failed.
+pub record HasAskedTill (capacity : ℕ) (script : Script) (tables : ℕ → Option Table) (old new : ℕ → Pack) (trace : Took) (before : List Numbered) (at : Numbered) : Type 0 where
   pub stop : Stop
   pub rose : stop ≡ Sink → Rose trace.faults trace.faults_after
   pub cut : AsksUpTo (contents script tables old) (empty_cache capacity) (calls_for (drives_of script) (contents script tables old) before)
       (calls_for (drives_of script) (map_of_inputs (drives_of script) (contents script tables old) before) (at ∷ []))
   pub lawful : IsSession (start_of script tables old) (parts_till cut)
   pub told : IsTrue trace.tells → TookLines stop trace.before trace.after (trace_text (told_in (parts_till cut)))
+  pub long : LongAt stop (parts_till cut) old new (start_of script tables old)
 
 -- PLAYED TO ITS END: with the tables of the packs, the answers are those that the map gives one by one, each request at its own line. They are
 -- legal, with the bytes of all reads, from what the packs held first to what they hold now; the rest of the packs is as it was, with what
@@ -110,7 +112,7 @@ pub record CachedStops (capacity : ℕ) (script : Script) (old new : ℕ → Pac
       (text_of (answers_of (drives_of script) (map_of_inputs (drives_of script) (contents script tables old) before) (at ∷ [])))
   pub whole : (Rose out.faults out.faults_after → ⊥) → IsTrue out.tells
       → out.after ≡ out.before ++ text_of (answers_of (drives_of script) (contents script tables old) before)
-  pub asked : HasAsked capacity script tables old new trace (before ++ at ∷ []) ⊎ HasAskedTill capacity script tables old trace before at
+  pub asked : HasAsked capacity script tables old new trace (before ++ at ∷ []) ⊎ HasAskedTill capacity script tables old new trace before at
 
 -- WHAT PLAYING LEAVES where it stopped: nothing was played, as the packs failed when a unit was attached; or it stopped in playing.
 abbrev pub CachedLeaves : (capacity : ℕ) → PlayFault → Script → (first left : ℕ → Pack) → (out trace : Took) → Type 0

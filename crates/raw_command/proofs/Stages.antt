@@ -1,5 +1,6 @@
 -- WHAT `raw_io` PROMISES of a driver for one unit, said of the unit and its packs.
-use Rattle.std.proofs.Common.{◌≡◌, ℕ, ◌+◌, ◌<◌, ◌≤◌, Bool, true, false, IsTrue, List, take, drop, length, Option, Some, sym, ap, subst, ◌∙◌}
+use Rattle.std.proofs.Common.{◌≡◌, ℕ, ◌+◌, ◌<◌, ◌≤◌, Bool, true, false, IsTrue, List, take, drop, length, Option, Some, refl, sym, ap, subst, ◌∙◌}
+use Rattle.std.proofs.Math.Path.{fun_ext}
 use Rattle.std.proofs.Math.Seq.{take-append_seam}
 use Rattle.pack_geometry.specs.declared.DriveKind.{DriveKind}
 use Rattle.pack_geometry.specs.Pack.{Pack}
@@ -16,7 +17,7 @@ use Rattle.driver_laws.specs.rules.Sessions.{behind_all, told_in}
 use Rattle.driver_laws.specs.rules.Waited.{map_of, with_packs}
 use Rattle.driver_machine.specs.World.{World}
 use Rattle.driver_machine.specs.Sound.{IsTableFor}
-use Rattle.raw_io.specs.Passes.{IsCut, LeftAt, setup_of, StandsQuiet, Stage, setup_at, Reaches, OthersStay, kind_at, map_at, left_map, IsUntouched}
+use Rattle.raw_io.specs.Passes.{ImagesStay, IsCut, LeftAt, setup_of, StandsQuiet, Stage, setup_at, Reaches, OthersStay, kind_at, map_at, left_map, IsUntouched}
 use Rattle.driver_laws.specs.rules.Bytes.{range, ComesTo, with_range}
 use Rattle.driver_laws.specs.rules.Laid.{laid}
 use Rattle.driver_laws.proofs.rules.Ranges.{laid_short, length_range}
@@ -34,6 +35,14 @@ take_laid : (n : ℕ) (xs into : List ℕ) → length xs ≡ n → n ≤ length 
 take_laid n xs into e few =
     subst (λ (m : ℕ). take m (laid xs into) ≡ xs) e
     (ap (take (length xs)) (laid_short xs into (subst (λ (m : ℕ). m ≤ length into) (sym e) few)) ∙ take-append_seam xs (drop (length xs) into))
+
+-- packs with the same images and marks are the same
+same_packs : (old new : ℕ → Pack) → ImagesStay old new → ((unit : ℕ) → (new unit).marks ≡ (old unit).marks) → new ≡ old
+same_packs old new images marks = fun_ext (λ unit. same_pack (new unit) (old unit) (images unit) (marks unit))
+  where
+    same_pack : (p q : Pack) → p.image ≡ q.image → p.marks ≡ q.marks → p ≡ q
+    same_pack p q image marks =
+        ap (λ (bytes : List ℕ). record { image = bytes; marks = p.marks }) image ∙ ap (λ (ms : List ℕ). record { image = q.image; marks = ms }) marks
 
 -- THE CONTENTS of the unit that is set up
 content_self : (unit : ℕ) (kind : DriveKind) (table : Option Table) (pack : Pack) (drive : Option DriveKind) (its : Option Table)
@@ -129,8 +138,7 @@ module _ (t : Target) (table : Option Table) (small : t.unit < 32) (good : (x : 
               ∙ take_laid done (range done (map_at old t.unit) (start_of old t.unit t.part) t.at) into (length_range done (map_at old t.unit) (start_of old t.unit t.part) t.at) gives.few
               ∙ ap (λ (b : Blocks). range done b (start_of old t.unit t.part) t.at) map_old
               ∙ ap (λ (f : ℕ). range done (blocks_in t table old.held) f t.at) start_old;
-          same = λ block.
-              ap (λ (b : Blocks). b block) (sym (map_new true gives.transfers) ∙ ap (λ (m : ℕ → Blocks). m t.unit) read.map ∙ map_old);
+          same = same_packs old.held new.held (gives.transfers.images told refl) (gives.transfers.others told tables).stay.marks;
           clean = λ k touches.
               subst (λ (f : ℕ). MovedClean (unit_setup t.unit t.kind table old.held) t.unit (f + k) (told_in gives.transfers.parts)) start_old
               (subst (λ (s : Seen). MovedClean s t.unit (start_of old t.unit t.part + k) (told_in gives.transfers.parts)) setup_old (gives.clean told tables k touches));
@@ -159,6 +167,7 @@ module _ (t : Target) (table : Option Table) (small : t.unit < 32) (good : (x : 
           begun = b.begun;
           session = cut.session;
           packs = subst (λ (s : Seen). LeftAt stop s.drives old.held new.held (behind_all (start_at t table old.held) b.parts)) setup_old cut.packs;
+          long = cut.long;
           trace = b.stops.trace;
         }
 
@@ -167,7 +176,7 @@ module _ (t : Target) (table : Option Table) (small : t.unit < 32) (good : (x : 
       table = table;
       broke = broke true stop breaks;
       stays = stays_else is fits un.others;
-      same = λ block. ap (λ (b : Blocks). b block) (sym left_new) ∙ un.map t.unit block ∙ ap (λ (b : Blocks). b block) map_old;
+      same = same_packs old.held new.held (breaks.images told refl) un.others.stay.marks;
     }
 
     pub leaves_front : (stop : Stop) → Breaks false t.unit t.part stop old new → (from : List ℕ) → StopsAt t.unit (start_of old t.unit t.part) t.at from old new

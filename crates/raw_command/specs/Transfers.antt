@@ -13,7 +13,7 @@ use Rattle.driver_laws.specs.rules.Stands.{start_over}
 use Rattle.driver_laws.specs.shown.Lengths.{AreAsLong}
 use Rattle.driver_laws.specs.declared.answers.outcome.Stop.{Stop}
 use Rattle.driver_laws.specs.declared.answers.outcome.Stop.TheVariants as stopped
-use Rattle.raw_io.specs.Passes.{LeftAt, Stay, Took, moments_in}
+use Rattle.raw_io.specs.Passes.{LeftAt, LongAt, Stay, Took, moments_in}
 use Rattle.driver_laws.specs.rules.Sessions.{Part, IsSession, behind_all, told_in}
 use Rattle.driver_laws.specs.rules.Cleans.{MovedClean}
 use Rattle.driver_laws.specs.rules.Bytes.{range, Touches, ComesTo, with_range}
@@ -60,13 +60,13 @@ pub record Transferred (reads : Bool) (t : Target) (held held' : ℕ → Pack) (
   pub left : (block : ℕ) → block_at (held' t.unit).image block ≡ (behind_all (start_at t table held) parts).surface.sector t.unit block
   pub trace : IsTrue trace_tells → taken' ≡ taken ++ trace_text (told_in parts)
 
--- A READ of so many bytes came so far, and these are its bytes. All contents stay; and each block of which a byte was read has its clean
--- line.
+-- A READ of so many bytes came so far, and these are its bytes. All packs stay, byte for byte; and each block of which a byte was read has
+-- its clean line.
 pub record HasRead (t : Target) (size done : ℕ) (bytes : List ℕ) (held held' : ℕ → Pack) (trace_tells : Bool) (taken taken' : List ℕ) : Type 0 where
   pub moved : Transferred true t held held' trace_tells taken taken'
   pub comes : ComesTo (blocks_in t moved.table held) (first_in t) t.at size done
   pub is : bytes ≡ range done (blocks_in t moved.table held) (first_in t) t.at
-  pub same : (block : ℕ) → blocks_in t moved.table held' block ≡ blocks_in t moved.table held block
+  pub same : held' ≡ held
   pub clean : (k : ℕ) → Touches t.at done k → MovedClean (unit_setup t.unit t.kind moved.table held) t.unit (first_in t + k) (told_in moved.parts)
 
 -- A WRITE of bytes came so far: these are replaced, and no other byte of a data block is.
@@ -77,20 +77,21 @@ pub record HasWritten (t : Target) (done : ℕ) (from : List ℕ) (held held' : 
 
 -- IT STOPPED. The lines are those of such requests, the last one with its lines so far: a legal session from the start over the packs. The trace
 -- took a front of them where it failed, and all of them where only the packs did; and the packs are left as the replay behind them has them, or,
--- where they failed, with the next block of a write besides.
+-- where they failed, with the next block of a write besides; and so long each image is.
 pub record Broke (reads : Bool) (t : Target) (stop : Stop) (table : Option Table) (held held' : ℕ → Pack) (trace_tells : Bool) (taken taken' : List ℕ) : Type 0 where
   pub parts : List Part
   pub begun : AreBegun reads t.unit t.part parts
   pub session : IsSession (start_at t table held) parts
   pub packs : LeftAt stop (at_unit t.unit (Some t.kind)) held held' (behind_all (start_at t table held) parts)
+  pub long : LongAt stop parts held held' (start_at t table held)
   pub trace : IsTrue trace_tells → Took stop taken taken' (trace_text (told_in parts))
 
--- Of a read all contents stay;
+-- Of a read all packs stay, byte for byte;
 pub record LeavesAll (t : Target) (stop : Stop) (held held' : ℕ → Pack) (trace_tells : Bool) (taken taken' : List ℕ) : Type 0 where
   pub table : Option Table
   pub broke : Broke true t stop table held held' trace_tells taken taken'
   pub stays : StaysElse t table held held'
-  pub same : (block : ℕ) → blocks_in t table held' block ≡ blocks_in t table held block
+  pub same : held' ≡ held
 
 -- of a write a front of the bytes is there, up to the end of a block: each block is whole.
 pub record LeavesFront (t : Target) (stop : Stop) (from : List ℕ) (held held' : ℕ → Pack) (trace_tells : Bool) (taken taken' : List ℕ) : Type 0 where

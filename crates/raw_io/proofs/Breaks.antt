@@ -1,6 +1,7 @@
 -- A transfer that stopped: at its first request, or behind others.
 use Rattle.std.proofs.Common.{◌≡◌, ℕ, Bool, true, false, List, [], ◌∷◌, ◌++◌, Option, None, Some, refl, sym, subst, ◌∙◌}
 use Rattle.std.specs.Prelude.{Result, Ok, Err, IfErr, IsErrAnd}
+use Rattle.std.proofs.lemmas.Bool.{false≢true}
 use Rattle.std.proofs.lemmas.Option.{same_Some}
 use Rattle.partitions.specs.declared.Part.{Part}
 use Rattle.trace_replay.specs.requests.Requests.{Request}
@@ -22,7 +23,8 @@ pub breaks_of : (reads : Bool) (stop : Stop) (r : Request) (old new : Stage) →
 breaks_of reads stop r old new ask s = record {
   parts = begun 1 r s.asked s.drained;
   begun = of s.drained;
-  stops = record { trace = s.stops.trace; cut = λ t tables replay q. let cut = s.stops.cut t tables replay q in record { session = cut.session; packs = cut.packs } };
+  stops = record { trace = s.stops.trace; cut = λ t tables replay q. let cut = s.stops.cut t tables replay q in record { session = cut.session; packs = cut.packs; long = cut.long } };
+  images = λ t only. s.images t (ask.only only);
 }
   where
     of : (drained : Option (List Moment)) → AreBegun reads r.unit r.part (begun 1 r s.asked drained)
@@ -41,6 +43,7 @@ breaks_join law reads unit part stop old mid new first next still = record {
   parts = first.parts ++ next.parts;
   begun = begun_more reads unit part first.parts next.parts first.waited next.begun;
   stops = law stop first.parts next.parts old mid new first.goes next.stops still;
+  images = λ t only unit. next.images t only unit ∙ first.images (still.packs t) only unit;
 }
 
 pub breaks_for : (reads : Bool) (u unit : ℕ) (q part : Part) (stop : Stop) (old new : Stage) → u ≡ unit → q ≡ part → Breaks reads u q stop old new → Breaks reads unit part stop old new
@@ -48,6 +51,7 @@ breaks_for reads u unit q part stop old new here same b = record {
   parts = b.parts;
   begun = subst (λ z. AreBegun reads unit z b.parts) same (subst (λ z. AreBegun reads z q b.parts) here b.begun);
   stops = b.stops;
+  images = b.images;
 }
 
 -- reads are transfers too
@@ -60,7 +64,7 @@ begun_wider unit part (one ∷ two ∷ xs) are = (
 )
 
 pub breaks_wider : (unit : ℕ) (part : Part) (stop : Stop) (old new : Stage) → Breaks true unit part stop old new → Breaks false unit part stop old new
-breaks_wider unit part stop old new b = record { parts = b.parts; begun = begun_wider unit part b.parts b.begun; stops = b.stops }
+breaks_wider unit part stop old new b = record { parts = b.parts; begun = begun_wider unit part b.parts b.begun; stops = b.stops; images = λ told only. absurd (false≢true only) }
 
 -- ---- an error that is handed on
 pub if_err : {T : Type 0} (result : Result T Stop) (stop : Stop) (P : Stop → Type 0) → IsErrAnd result (λ x. x ≡ stop) → P stop → IfErr result P

@@ -2,7 +2,7 @@
 use Rattle.std.proofs.Common.{◌≡◌, ℕ, ◌<◌, ◌≤◌, ◌+◌, Bool, true, false, IsTrue, None, refl, sym, subst, arith}
 use Rattle.std.specs.Prelude.{min}
 use Rattle.pack_geometry.specs.declared.DriveKind.{DriveKind}
-use Rattle.trace_replay.specs.requests.Requests.{Answer, EndOfPartition, Failed, IsRequest, NoFrames, OutsidePartition, ReadOk, Request, WriteOk}
+use Rattle.trace_replay.specs.requests.Requests.{Answer, Failed, IsRequest, NoFrames, Request}
 use Rattle.driver_machine.specs.Guards.{IsSetUp}
 use Rattle.driver_machine.specs.Sound.{Sound, AtWork}
 use Rattle.driver_laws.specs.rules.Sessions.{told_in, waited}
@@ -23,6 +23,7 @@ transfers_of law reads r old new ask a = record {
   waited = (record { request = r; ask = ask; submitted_is = refl; drained_is = refl }, tt);
   goes = plain_goes (law 1 r old new a);
   others = λ t tables. record { sectors = λ unit sector kind declared below homeless. (a.mapped t tables).others unit sector homeless; stay = a.stays t };
+  images = λ t only. a.images t (ask.only only);
 }
   where
     plain_goes : GoesOn (waited 1 r a.asked a.drained) old new → GoesOn (waited 1 r a.asked a.drained) (plain old) (plain new)

@@ -1,6 +1,7 @@
 -- One transfer behind the other.
 use Rattle.std.proofs.Common.{◌≡◌, ℕ, Bool, List, [], ◌∷◌, ◌++◌, refl, sym, ap, ◌∙◌, subst, arith, append-nil, append_assoc, true, false}
 use Rattle.std.specs.Prelude.{Contains}
+use Rattle.std.proofs.lemmas.Bool.{false≢true}
 use Rattle.std.proofs.lemmas.List.Elements.{Contains-append_left, Contains-append_right}
 use Rattle.hardware_table.specs.declared.Moved.TheVariants.{Clean}
 use Rattle.trace_replay.specs.Moments.{Told, Sector}
@@ -34,6 +35,7 @@ transfers_none reads unit part s = record {
     reaches = λ t tables replay stands. record { session = tt; stands = stands };
   };
   others = λ t tables. others_none (setup_at s);
+  images = λ t only unit. refl;
 }
 
 unfoldable pub transfers_for : (reads : Bool) (u unit : ℕ) (q part : Part) (old new : Stage) → u ≡ unit → q ≡ part → Transfers reads u q old new → Transfers reads unit part old new
@@ -42,6 +44,7 @@ transfers_for reads u unit q part old new here same t = record {
   waited = subst (λ z. AreWaited reads unit z t.parts) same (subst (λ z. AreWaited reads z q t.parts) here t.waited);
   goes = t.goes;
   others = t.others;
+  images = t.images;
 }
 
 unfoldable pub transfers_join : SessionsJoin → (reads : Bool) (unit : ℕ) (part : Part) (old mid new : Stage) → Transfers reads unit part old mid → Transfers reads unit part mid new → StillTell mid new
@@ -51,6 +54,7 @@ transfers_join law reads unit part old mid new first next still = record {
   waited = waited_more reads unit part first.parts next.parts first.waited next.waited;
   goes = law first.parts next.parts old mid new first.goes next.goes still;
   others = λ t tables. others_over old mid new first.goes.setup (first.others (still.packs t) tables) (next.others t (first.goes.tables (still.packs t) tables));
+  images = λ t only unit. next.images t only unit ∙ first.images (still.packs t) only unit;
 }
 
 -- reads are transfers too
@@ -78,7 +82,13 @@ asks_wider unit part (one ∷ two ∷ xs) are = (
 )
 
 pub transfers_wider : (unit : ℕ) (part : Part) (old new : Stage) → Transfers true unit part old new → Transfers false unit part old new
-transfers_wider unit part old new t = record { parts = t.parts; waited = asks_wider unit part t.parts t.waited; goes = t.goes; others = t.others }
+transfers_wider unit part old new t = record {
+  parts = t.parts;
+  waited = asks_wider unit part t.parts t.waited;
+  goes = t.goes;
+  others = t.others;
+  images = λ told only. absurd (false≢true only);
+}
 
 -- ---- clean lines
 told_more : (xs ys : List SessionPart) → told_in (xs ++ ys) ≡ told_in xs ++ told_in ys

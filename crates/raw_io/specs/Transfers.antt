@@ -5,7 +5,7 @@ use Rattle.trace_replay.specs.requests.Requests.{Request}
 use Rattle.trace_replay.specs.Script.{Submit, Drain}
 use Rattle.trace_replay.specs.Moments.{Moment}
 use Rattle.driver_laws.specs.declared.answers.outcome.Stop.{Stop}
-use Rattle.blocking_io.specs.FrontsPasses.{Stage, setup_at, GoesOn}
+use Rattle.blocking_io.specs.FrontsPasses.{Stage, setup_at, GoesOn, ImagesStay}
 use Rattle.blocking_io.specs.Stopping.{StopsIn}
 use Rattle.driver_laws.specs.rules.Sessions.{Part as SessionPart}
 use Rattle.driver_laws.specs.rules.Rest.{HasTables}
@@ -47,19 +47,21 @@ AreBegun reads unit part (one ∷ []) = IsSubmitted reads unit part one
 AreBegun reads unit part (submitted ∷ drained ∷ parts) = IsWaited reads unit part submitted drained × AreBegun reads unit part parts
 
 -- WHERE IT STOPPED the last one is the one that did, with its lines so far; of all lines the trace took a front, and where only the packs failed
--- all of them.
+-- all of them. Where it only reads, each image stays.
 pub record Breaks (reads : Bool) (unit : ℕ) (part : Part) (stop : Stop) (old new : Stage) : Type 0 where
   pub parts : List SessionPart
   pub begun : AreBegun reads unit part parts
   pub stops : StopsIn stop parts old new
+  pub images : IsTrue new.packs_tell → reads ≡ true → ImagesStay old.held new.held
 
 -- WHERE NOTHING STOPS IT they follow one another, from each replay that stands for the driver before; and what is no home of a data block
--- stays.
+-- stays; and where it only reads, each image does.
 pub record Transfers (reads : Bool) (unit : ℕ) (part : Part) (old new : Stage) : Type 0 where
   pub parts : List SessionPart
   pub waited : AreWaited reads unit part parts
   pub goes : GoesOn parts old new
   pub others : IsTrue new.packs_tell → HasTables (setup_at old) → OthersStay (setup_at old) new.held
+  pub images : IsTrue new.packs_tell → reads ≡ true → ImagesStay old.held new.held
 
 -- Blocks of a partition MOVED CLEAN, as lines tell: those of them, counted from one on.
 abbrev pub AreClean : (unit first : ℕ) → (which : ℕ → Type 0) → List Moment → Stage → Type 0
