@@ -21,7 +21,7 @@ static VIEWS: [View; 10] = [
         b"",
         Ok(b""),
         2,
-        "hpview: 'png' cannot be FORM (svg, text, tsv, summary, json)",
+        "hpview: 'png' is not a valid FORM (svg, text, tsv, summary, json)",
     ),
     (
         "summary 1 9",
@@ -36,7 +36,7 @@ static VIEWS: [View; 10] = [
         b"",
         Ok(b""),
         2,
-        "hpview: '3' cannot be TO (9 to 4294967295)",
+        "hpview: '3' is not a valid TO (9 to 4294967295)",
     ),
     ("--version", b"", Ok(b""), 2, "hpview 1.0.0"),
     (
@@ -51,14 +51,14 @@ static VIEWS: [View; 10] = [
         b"unit 0 rp06\n",
         Ok(b"idle x\n"),
         3,
-        "hpview: line 1 of hp.trace: the text is no line of a trace",
+        "hpview: line 1 of hp.trace: the text is not a line of a trace",
     ),
     (
         "text",
         b"unit 0 rp06\n",
         Err(ErrorKind::NotFound),
         4,
-        "hpview: there is no hp.trace in this folder: 'hpsim play' makes it",
+        "hpview: there is no hp.trace in this folder: run 'hpsim play' first",
     ),
     (
         "text",

@@ -221,7 +221,7 @@ fn transfer_refusal<'a>(ending: &Ending<'a>) -> Option<Reason<'a>> {
     if end > size {
         return Some(Reason::Outside {
             at: moved.at,
-            end: end.saturating_sub(1),
+            end: end.saturating_sub(1).max(moved.at),
             part: moved.letter,
             kind: kind_name(moved.kind),
             size,

@@ -31,19 +31,19 @@ pub enum FieldFault<'a> {
     #[error("{0} is missing ({allowed})", allowed = .0.allowed)]
     Missing(Field),
     /// A field contains a word that it may not contain.
-    #[error("{1} cannot be {0} ({allowed})", allowed = .0.allowed)]
+    #[error("{1} is not a valid {0} ({allowed})", allowed = .0.allowed)]
     Wrong(Field, Shown<'a>),
     /// There is a word too many.
     #[error("{0} is one word too many")]
     LeftOver(Shown<'a>),
     /// A comment follows the words of a line.
-    #[error("{0} is one word too many: a comment is a line of its own, with # as its very first byte")]
+    #[error("{0} cannot stand there: a comment is a line of its own that begins with #")]
     Comment(Shown<'a>),
     /// `off`, `last`, `copy` or `mark` is one word too many or in the wrong order.
-    #[error("{0} cannot stand there: what may follow is {1}, in this order")]
+    #[error("{0} cannot stand there: only these may follow: {1}, in this order")]
     Order(Shown<'a>, &'static str),
     /// The first line begins with a byte-order mark.
-    #[error("it begins with a byte-order mark, which has to be taken off")]
+    #[error("it begins with a byte-order mark, so save the script without one")]
     OrderMark,
 }
 

@@ -163,7 +163,7 @@ fn count_of(words: &[&[u8]]) -> usize {
 
 /// What is wrong with the fields of a `write`.
 fn write_fault<'a>(words: &[&'a [u8]]) -> Option<FieldFault<'a>> {
-    let way = choice("the word of a write's bytes", "fill seq hex");
+    let way = choice("kind of data", "fill seq hex");
     let rest = match walk(
         words,
         &[id(), unit_field(), part_field(), block(), count(), way],
@@ -242,7 +242,7 @@ fn turn_fault<'a>(script: &[u8], words: &[&'a [u8]]) -> Option<FieldFault<'a>> {
 
 /// What is wrong with the fields of a line of `play`.
 fn play_fault<'a>(script: &[u8], words: &[&'a [u8]]) -> Option<FieldFault<'a>> {
-    let rest = match walk(words, &[choice("the first word", VERBS)]) {
+    let rest = match walk(words, &[choice("first word", VERBS)]) {
         Ok(rest) => rest,
         Err(fault) => return Some(fault),
     };
@@ -266,7 +266,7 @@ fn play_fault<'a>(script: &[u8], words: &[&'a [u8]]) -> Option<FieldFault<'a>> {
 
 /// What is wrong with the fields of a line of `cached`.
 fn cached_fault<'a>(words: &[&'a [u8]]) -> Option<FieldFault<'a>> {
-    let rest = match walk(words, &[choice("the first word", CACHED_VERBS)]) {
+    let rest = match walk(words, &[choice("first word", CACHED_VERBS)]) {
         Ok(rest) => rest,
         Err(fault) => return Some(fault),
     };
@@ -274,7 +274,7 @@ fn cached_fault<'a>(words: &[&'a [u8]]) -> Option<FieldFault<'a>> {
         [verb, ..] if is(verb, "unit") => walk_all(rest, &[unit_field(), kind_field()]),
         [verb, ..] if is(verb, "read") => walk_all(rest, &[id(), unit_field(), block(), count()]),
         [verb, ..] if is(verb, "write") => {
-            let fill = choice("the word of a write's bytes", "fill");
+            let fill = choice("kind of data", "fill");
             walk_all(
                 rest,
                 &[id(), unit_field(), block(), count(), fill, digits("HH", 2)],

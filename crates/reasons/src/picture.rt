@@ -24,7 +24,7 @@ fn trace_fault(kind: &[u8]) -> &'static str {
     if is(kind, "long") {
         "the trace has more than 268435456 bytes"
     } else if is(kind, "word") {
-        "the text is no line of a trace"
+        "the text is not a line of a trace"
     } else if is(kind, "order") {
         "its event comes before that of the line above"
     } else {

@@ -32,9 +32,6 @@ pub enum Reason<'a> {
     /// The words are no command.
     #[error("{0}")]
     Words(FieldFault<'a>),
-    /// The words are not text.
-    #[error("a word of the command is not text (UTF-8)")]
-    NoText,
     /// A line of the script has a faulty field.
     #[error("line {line} of the script: {fault}")]
     Field {
@@ -42,19 +39,19 @@ pub enum Reason<'a> {
         fault: FieldFault<'a>,
     },
     /// A unit that a line names was not declared.
-    #[error("line {line} of the script: unit {unit} is not declared by a 'unit' line before")]
+    #[error("line {line} of the script: unit {unit} is not declared: a line 'unit U KIND' must come before")]
     UnitUnknown {
         line: u64,
         unit: Shown<'a>,
     },
     /// A unit is declared again.
-    #[error("line {line} of the script: unit {unit} was declared before")]
+    #[error("line {line} of the script: unit {unit} is declared already")]
     UnitTwice {
         line: u64,
         unit: Shown<'a>,
     },
     /// An id is used again.
-    #[error("line {line} of the script: id {id} was used before, and each may be used once")]
+    #[error("line {line} of the script: id {id} is used already, and each request needs an id of its own")]
     IdTwice {
         line: u64,
         id: Shown<'a>,
@@ -65,12 +62,12 @@ pub enum Reason<'a> {
         line: u64,
     },
     /// There are too many lines, requests or noises.
-    #[error("line {line} of the script: a script has at most 1000000 lines, 65536 requests and 4096 'noise' lines")]
+    #[error("line {line} of the script: the script is too long: it may have at most 1000000 lines, 65536 requests and 4096 'noise' lines")]
     TooMany {
         line: u64,
     },
     /// A line is too long.
-    #[error("line {line} of the script: it has more than 140000 bytes")]
+    #[error("line {line} of the script: the line has more than 140000 bytes")]
     LineLong {
         line: u64,
     },
@@ -100,7 +97,7 @@ pub enum Reason<'a> {
         error: io::Error,
     },
     /// There is no trace.
-    #[error("there is no hp.trace in this folder: 'hpsim play' makes it")]
+    #[error("there is no hp.trace in this folder: run 'hpsim play' first")]
     NoTrace,
     /// The trace cannot be read.
     #[error("cannot read hp.trace: {error}")]
@@ -126,7 +123,7 @@ pub enum Reason<'a> {
         error: io::Error,
     },
     /// A file of a pack failed. `came` says how far the command came.
-    #[error("cannot {tried} {file}: {error} ({came})")]
+    #[error("cannot {tried} {file}: {error}; {came}")]
     FileAfter {
         tried: Tried,
         file: FileName,
@@ -134,7 +131,7 @@ pub enum Reason<'a> {
         came: Came,
     },
     /// An image is too long.
-    #[error("hp{unit}.dsk has {length} bytes, and a whole {kind} has {whole}: what stands behind them may be a footer of SIMH's, which 'truncate -s {whole} hp{unit}.dsk' takes off")]
+    #[error("hp{unit}.dsk has {length} bytes, and a whole {kind} has {whole}: if that is the right kind, the rest may be a footer of SIMH's, which 'truncate -s {whole} hp{unit}.dsk' removes")]
     TooLong {
         unit: u8,
         length: u64,
@@ -142,13 +139,13 @@ pub enum Reason<'a> {
         whole: u64,
     },
     /// The pack has no bad-sector table.
-    #[error("hp{unit}.dsk has no bad-sector table of an {kind}: 'hpsim bad144 fresh {unit} {kind} SERIAL' makes one")]
+    #[error("hp{unit}.dsk has no bad-sector table for an {kind}: 'hpsim bad144 fresh {unit} {kind} SERIAL' writes an empty one")]
     NoTable {
         unit: u8,
         kind: &'static str,
     },
     /// A block is not a data block.
-    #[error("block {block} is no data block of an {kind}: those are 0 to {last}, and behind them are replacements and tables")]
+    #[error("block {block} of an {kind} is not a data block: data blocks are 0 to {last}, and replacements and tables follow them")]
     Reserved {
         block: u64,
         kind: &'static str,
@@ -161,36 +158,36 @@ pub enum Reason<'a> {
         entry: u64,
     },
     /// The table is full.
-    #[error("the table of hp{unit}.dsk has 126 entries, and there is room for no more")]
+    #[error("the table of hp{unit}.dsk is full: it has 126 entries")]
     Full {
         unit: u8,
     },
     /// A replacement that would be needed is marked.
-    #[error("replacement {index} of hp{unit}.dsk, block {block}, is marked, and would be needed")]
+    #[error("replacement {index} of hp{unit}.dsk (block {block}) is needed, but it is marked in hp{unit}.bad")]
     Spare {
         unit: u8,
         index: u64,
         block: u64,
     },
     /// Too many blocks are marked.
-    #[error("hp{unit}.dsk has {count} marked data blocks, and a table lists 126 at most")]
+    #[error("hp{unit}.bad marks {count} data blocks, and a table lists at most 126")]
     TooManyMarks {
         unit: u8,
         count: u64,
     },
     /// All places of the table are marked.
-    #[error("all five places of the table of hp{unit}.dsk are marked")]
+    #[error("hp{unit}.dsk has no room for a table: all five places are marked in hp{unit}.bad")]
     NoCopy {
         unit: u8,
     },
     /// The bytes that were read from a block differ from those that were written.
-    #[error("block {block} of hp{unit}.dsk came back otherwise than it was written; blocks up to it are emptied, and no table is written")]
+    #[error("block {block} of hp{unit}.dsk does not read back as it was written: the blocks up to it are empty now, and no table was written")]
     Differs {
         unit: u8,
         block: u64,
     },
     /// The command covers bytes beyond the end of a partition.
-    #[error("bytes {at} to {end} were asked, and partition {part} of an {kind} has {size} bytes ({blocks} blocks)")]
+    #[error("bytes {at} to {end} reach beyond partition {part} of an {kind}, which has {size} bytes ({blocks} blocks)")]
     Outside {
         at: u64,
         end: u64,
@@ -200,12 +197,12 @@ pub enum Reason<'a> {
         blocks: u64,
     },
     /// Standard input has too many bytes.
-    #[error("standard input has more than {most} bytes, which is the most that is written at once")]
+    #[error("standard input has more than {most} bytes, the most that is written at once")]
     TooManyBytes {
         most: u64,
     },
     /// A block cannot be used.
-    #[error("block {block} of partition {part} of hp{unit}.dsk cannot be used, since it is marked and has no good replacement: {moved} bytes before it were {what}")]
+    #[error("block {block} of partition {part} of hp{unit}.dsk is marked and has no good replacement: {moved} bytes before it were {what}")]
     Unusable {
         block: u64,
         part: char,
@@ -214,7 +211,7 @@ pub enum Reason<'a> {
         what: &'static str,
     },
     /// There was no memory.
-    #[error("there is no memory for {what}")]
+    #[error("there is not enough memory for {what}")]
     Memory {
         what: &'static str,
     },
@@ -229,7 +226,7 @@ pub enum Reason<'a> {
 #[derive(Clone, Copy, Debug, Error)]
 pub enum Warning {
     /// The image is missing.
-    #[error("hp{unit}.dsk does not exist: taken as an empty pack")]
+    #[error("hp{unit}.dsk does not exist, and is taken as an empty pack")]
     Missing {
         unit: u8,
     },
@@ -264,15 +261,15 @@ impl Display for FileName {
 
 impl Display for Came {
     fn fmt<W: fmt::Write>(&self, f: &mut Formatter<W>) -> fmt::Result {
-        let written = self.written;
         let last = self.last;
-        if written == 0 {
-            return f.write_str("no block was written before");
+        match self.written {
+            0 => f.write_str("no block was written before"),
+            1 => write!(f, "one block was written before, block {last} of the pack"),
+            written => write!(
+                f,
+                "{written} blocks were written before, the last one block {last} of the pack"
+            ),
         }
-        write!(
-            f,
-            "{written} blocks were written before, the last one block {last} of the pack"
-        )
     }
 }
 

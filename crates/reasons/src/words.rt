@@ -77,7 +77,7 @@ fn way_fault<'a>(words: &[&'a [u8]]) -> Option<FieldFault<'a>> {
 
 /// What is wrong with the words after `bad144`.
 fn tool_fault<'a>(words: &[&'a [u8]]) -> Option<FieldFault<'a>> {
-    let verb = choice("the word behind bad144", "list add fresh mark");
+    let verb = choice("word after bad144", "list add fresh mark");
     let rest = match walk(words, &[verb]) {
         Ok(rest) => rest,
         Err(fault) => return Some(fault),
@@ -101,7 +101,7 @@ fn place() -> Field {
 
 /// What is wrong with the words after `raw`.
 fn raw_fault<'a>(words: &[&'a [u8]]) -> Option<FieldFault<'a>> {
-    let rest = match walk(words, &[choice("the word behind raw", "read write")]) {
+    let rest = match walk(words, &[choice("word after raw", "read write")]) {
         Ok(rest) => rest,
         Err(fault) => return Some(fault),
     };
