@@ -18,7 +18,8 @@ pub fn asked_rows()
 {}
 
 /// Of a raw transfer: bytes are counted, a dump ends its partition, the last byte of a partition is inside, a block that is written in part keeps
-/// its other bytes, and an image is as long as what was written makes it; where the packs failed the trace has the lines of a legal session.
+/// its other bytes, and an image is as long as what was written makes it, also where the trace failed; a read leaves it, done or stopped; where
+/// the packs failed the trace has the lines of a legal session.
 pub fn raw_rows()
     ensures done_in_blocks { DoneInBlocks }
     ensures dump_at_the_front { DumpAtTheFront }
