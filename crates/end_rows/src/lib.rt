@@ -7,7 +7,7 @@ ghost use Rattle.end_rows.specs.Wrong.{NothingRun, NothingListed};
 #[cfg(test)]
 mod ends;
 #[cfg(test)]
-mod reasons;
+mod sentences;
 #[cfg(test)]
 mod views;
 

@@ -1,4 +1,10 @@
 // The program over real files and streams, with the reason of its end on standard error.
+ghost use Rattle.std.specs.Prelude.{◌≡◌, ◌⊎◌, None, IfSome};
+ghost use Rattle.command_parts.specs.Statuses.{status_code};
+ghost use Rattle.command_parts.specs.declared.status.Status.TheVariants.{OutOfMemory};
+ghost use Rattle.hpsim_run.specs.Statuses.{IsStatusOf};
+ghost use Rattle.pack_commands.specs.Words.{command_of as the_command};
+
 use crate::{Status, end_status};
 use outside_files::failure::PackNotes;
 use outside_files::file_sink::FileSink;
@@ -27,7 +33,10 @@ fn status_over<F: PackFolder + Drop, S: Source, O: Sink, T: Sink>(
     script: &mut S,
     out: &mut O,
     trace: &mut T,
-) -> (u8, PackNotes) {
+) -> (u8, PackNotes)
+    ensures no_words { words.entry ≡ None → result.0 ≡ status_code OutOfMemory }
+    ensures statuses { IfSome words.entry (λ list. IsStatusOf (the_command list.now) result.0 ⊎ (result.0 ≡ status_code OutOfMemory)) }
+{
     match WindowPacks::new(alloc, FilePacks::over(folder)) {
         Ok(mut packs) => {
             let status = end_status(alloc, words, script, &mut packs, out, trace);
@@ -50,9 +59,14 @@ pub fn end_told<R: Files + AllocGlobal + Copy, I: Read + Drop, O: Write + Drop, 
 ) -> u8
 where
     R::File: FileExt,
+    ensures no_words { words ≡ None → result ≡ status_code OutOfMemory }
+    ensures statuses { IfSome words (λ list. IsStatusOf (the_command list.items) result ⊎ (result ≡ status_code OutOfMemory)) }
 {
     let alloc = rt.alloc();
-    let words = words.as_ref().map(|words| words.as_slice());
+    let words = match &words {
+        Some(words) => Some(words.as_slice()),
+        None => None,
+    };
     let said = bytes_of(alloc, words.unwrap_or(&[])).unwrap_or(Vec::new(alloc));
     let _ = warn(&rt, said.as_slice(), errors);
     let mut script = StdSource::new(reader);
