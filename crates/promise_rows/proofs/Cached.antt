@@ -1,5 +1,5 @@
 -- What is promised of a script of the cache refuses these outcomes.
-use Rattle.std.proofs.Common.{◌≡◌, ◌⊎◌, inl, inr, ℕ, zero, suc, ◌+◌, ◌-◌, ◌*◌, ◌^◌, ◌<◌, ◌≤◌, min, List, [], ◌∷◌, ◌++◌, length, take, drop, length-drop, length-append, Option, None, Some, refl, sym, ap, ◌∙◌, arith}
+use Rattle.std.proofs.Common.{◌≡◌, ◌⊎◌, inl, inr, ℕ, zero, suc, ◌+◌, ◌-◌, ◌*◌, ◌^◌, ◌<◌, ◌≤◌, min, List, [], ◌∷◌, ◌++◌, length, take, drop, length-drop, length-append, Option, None, Some, refl, sym, ap, ◌∙◌, subst, arith}
 use Rattle.std.proofs.lemmas.Bool.{false≢true}
 use Rattle.std.proofs.lemmas.List.{append-nil, append_cancel_left}
 use Rattle.partitions.specs.declared.Admission.{Admission}
@@ -10,10 +10,13 @@ use Rattle.pack_geometry.specs.Geometry.{block_count}
 use Rattle.trace_replay.specs.Script.{Submit, Drain, drives_of}
 use Rattle.driver_laws.specs.rules.Entries.{empty_cache}
 use Rattle.driver_laws.specs.rules.Requests.{Map, reads, writes}
-use Rattle.cached_run.specs.Sessions.{Call, asked_by}
+use Rattle.cached_run.specs.Sessions.{Call, asked_by, parts_till}
+use Rattle.driver_laws.specs.declared.answers.outcome.Stop.{Stop}
+use Rattle.raw_io.specs.Passes.{LongAt}
+use Rattle.trace_replay.specs.Runs.{start_of}
 use Rattle.cached_run.specs.Theorem.{contents}
 use Rattle.cached_run.specs.Answers.{answers_of, first_by, map_of_inputs, text_of}
-use Rattle.promise_rows.specs.Cached.{LastSyncForgotten, BlockOlderThanTheLastSync, CachedBytesBeyondTheDrive, CachedNotAsLongAsWritten, LaterLinesPlayedBehindASinkThatFailed, at_line, called_at, CacheOfAnotherSize, SyncThatWritesNothing, LastUnusableBlockOk, FaultCalledThatOfASink, WriteAnsweredBeforeItIsDone, UnitBehindASync}
+use Rattle.promise_rows.specs.Cached.{LastSyncForgotten, BlockOlderThanTheLastSync, CachedBytesBeyondTheDrive, PlayedNotAsLongAsWritten, StoppedNotAsLongAsWritten, CachedNotAsLongAsWritten, LaterLinesPlayedBehindASinkThatFailed, at_line, called_at, CacheOfAnotherSize, SyncThatWritesNothing, LastUnusableBlockOk, FaultCalledThatOfASink, WriteAnsweredBeforeItIsDone, UnitBehindASync}
 
 pub last_sync_forgotten : LastSyncForgotten
 last_sync_forgotten capacity script old new out trace plays unit block kind there less other = other (plays.held unit block kind there less)
@@ -34,8 +37,15 @@ cached_bytes_beyond_the_drive capacity script old new out trace (inl plays) unit
 cached_bytes_beyond_the_drive capacity script old new out trace (inr stops) unit kind there fits long =
     none_beyond (512 * block_count kind) (old unit).image (new unit).image (stops.stay.beyond unit kind there) fits long
 
+played_not_as_long_as_written : PlayedNotAsLongAsWritten
+played_not_as_long_as_written capacity script old new out trace plays unit other = other (plays.asked.long unit)
+
+stopped_not_as_long_as_written : StoppedNotAsLongAsWritten
+stopped_not_as_long_as_written capacity script old new out trace stops till is unit other =
+    other ((subst (λ (stop : Stop). LongAt stop (parts_till till.cut) old new (start_of script stops.tables old)) is till.long) unit)
+
 pub cached_not_as_long_as_written : CachedNotAsLongAsWritten
-cached_not_as_long_as_written capacity script old new out trace plays unit other = other (plays.asked.long unit)
+cached_not_as_long_as_written = (played_not_as_long_as_written, stopped_not_as_long_as_written)
 
 pub later_lines_played_behind_a_sink_that_failed : LaterLinesPlayedBehindASinkThatFailed
 later_lines_played_behind_a_sink_that_failed capacity script old new out trace stops tells less =

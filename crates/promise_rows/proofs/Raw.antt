@@ -1,11 +1,12 @@
 -- What is promised of requests that are waited for, and of raw transfers, refuses these outcomes.
-use Rattle.std.proofs.Common.{◌≡◌, ◌⊎◌, inl, inr, ℕ, ◌+◌, ◌-◌, ◌*◌, ◌/◌, ◌%◌, ◌<◌, ◌≤◌, nat_le, Bool, true, List, [], ◌∷◌, ◌++◌, length, take, drop, Some, sym, ap, ◌∙◌, arith}
+use Rattle.std.proofs.Common.{◌≡◌, ◌⊎◌, inl, inr, ℕ, ◌+◌, ◌-◌, ◌*◌, ◌/◌, ◌%◌, ◌<◌, ◌≤◌, nat_le, Bool, true, List, [], ◌∷◌, ◌++◌, length, take, drop, Some, sym, ap, ◌∙◌, subst, arith}
 use Rattle.std.specs.Prelude.{if◌then◌else◌}
 use Rattle.std.proofs.lemmas.Bool.{false≢true}
 use Rattle.std.proofs.lemmas.Bool.Decides.{nat_tests}
 use Rattle.std.proofs.lemmas.List.{append-nil, append_cancel_left, drop_all, take_all}
 use Rattle.pack_geometry.specs.declared.DriveKind.{DriveKind}
 use Rattle.pack_geometry.specs.declared.DriveKind.TheVariants.{Rp06, Rm03, Rm05}
+use Rattle.pack_geometry.specs.Pack.{Pack}
 use Rattle.partitions.specs.declared.Part.TheVariants.{B}
 use Rattle.driver_laws.specs.rules.Machine.{Blocks}
 use Rattle.driver_laws.specs.rules.Laid.{laid, laid_at}
@@ -13,7 +14,7 @@ use Rattle.driver_laws.specs.rules.Bytes.{blocks_for, dump_place, dumped, with_b
 use Rattle.driver_laws.proofs.rules.Ranges.{laid_over_none}
 use Rattle.raw_io.specs.Passes.{kind_at, map_at}
 use Rattle.raw_io.specs.Pieces.{start_of}
-use Rattle.promise_rows.specs.Raw.{DrainEndsEarly, ReadComesFromThePack, DriveIsOffline, WriteBeforeItsLines, DoneInBlocks, DumpAtTheFront, OutsideByOne, EdgeWithoutItsBytes, AnyTraceAtAStoppedTransfer, RawLengthensTheImage}
+use Rattle.promise_rows.specs.Raw.{DrainEndsEarly, ReadComesFromThePack, DriveIsOffline, WriteBeforeItsLines, DoneInBlocks, DumpAtTheFront, OutsideByOne, EdgeWithoutItsBytes, AnyTraceAtAStoppedTransfer, TransferLengthensTheImage, StoppedWriteLengthensTheImage, ReadBlowsAnEmptyImageUp, RawLengthensTheImage}
 
 pub drain_ends_early : DrainEndsEarly
 drain_ends_early s slot h at not_ended ready = false≢true (sym not_ended ∙ ready.quiet.none slot h at)
@@ -108,5 +109,27 @@ any_trace_at_a_stopped_transfer t w size old new tells traced differs = (
   ],
 )
 
+transfer_lengthens_the_image : TransferLengthensTheImage
+transfer_lengthens_the_image reads t held held' trace_tells taken taken' moved unit other = other (moved.long unit)
+
+stopped_write_lengthens_the_image : StoppedWriteLengthensTheImage
+stopped_write_lengthens_the_image w old new tells stops unit other = other ((stops.left tells).broke.long unit)
+
+read_blows_an_empty_image_up : ReadBlowsAnEmptyImageUp
+read_blows_an_empty_image_up t size done unit bytes old new tells empty some = (
+  λ gives. grown (gives.read tells).same,
+  λ stops. elim (stops.left tells) [
+    | inl unbegun ↦ grown unbegun.0
+    | inr left ↦ grown left.same
+  ],
+  λ stops. grown (stops.left tells).same,
+)
+  where
+    never : 0 < 0 → ⊥
+    never lt = omega (arith, lt)
+
+    grown : new.held ≡ old.held → ⊥
+    grown same = never (subst (λ (bytes : List ℕ). 0 < length bytes) (ap (λ (held : ℕ → Pack). (held unit).image) same ∙ empty) some)
+
 pub raw_lengthens_the_image : RawLengthensTheImage
-raw_lengthens_the_image reads t held held' trace_tells taken taken' moved unit other = other (moved.long unit)
+raw_lengthens_the_image = (transfer_lengthens_the_image, stopped_write_lengthens_the_image, read_blows_an_empty_image_up)

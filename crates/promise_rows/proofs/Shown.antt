@@ -106,7 +106,7 @@ refusals run tell = record {
 abbrev HasReadOf : Target → (size : ℕ) → (old new : Outside) → Type 0
 HasReadOf t size old new = (table : Option Table) × IsTableOf t.kind (old.held t.unit) table
     × (new.said ≡ old.said ++ range size (content_of t.kind table (old.held t.unit)) (first_of t.kind t.part) t.at)
-    × ((block : ℕ) → content_of t.kind table (new.held t.unit) block ≡ content_of t.kind table (old.held t.unit) block)
+    × (new.held ≡ old.held)
 
 read_all : (t : Target) (size : ℕ) {old new : Outside} → GivesAll t size old new → AllTell new → HasReadOf t size old new
 read_all t size {old} {new} all tell =

@@ -16,8 +16,9 @@ use Rattle.script_reader.specs.declared.cached.statement.Statement.TheVariants a
 use Rattle.script_reader.specs.cached.Formed.{IsScript}
 use Rattle.script_runs.specs.Stops.{Took}
 use Rattle.script_runs.specs.declared.fault.PlayFault.TheVariants.{Sink}
+use Rattle.driver_laws.specs.declared.answers.outcome.Stop.TheVariants as stopped
 use Rattle.cached_run.specs.Passes.{moments_in}
-use Rattle.cached_run.specs.Sessions.{Call, requests_in, parts_in}
+use Rattle.cached_run.specs.Sessions.{Call, requests_in, parts_in, parts_till}
 use Rattle.cached_run.specs.Answers.{after, answers_of, text_of, answer_to, first_by, map_of_inputs, met_by, replacements_of}
 use Rattle.script_runs.specs.Faults.{Rise}
 use Rattle.cached_run.specs.Going.{Halts, IsFar, Scene}
@@ -43,9 +44,18 @@ abbrev pub CachedBytesBeyondTheDrive : Type 0
 CachedBytesBeyondTheDrive = (capacity : ℕ) (script : Script) (old new : ℕ → Pack) (out trace : Took) → CachedPlays capacity script old new out trace ⊎ CachedStops capacity script old new out trace
     → (unit : ℕ) (kind : DriveKind) → drives_of script unit ≡ Some kind → length (old unit).image ≤ 512 * block_count kind → ¬ (512 * block_count kind < length (new unit).image)
 
-abbrev pub CachedNotAsLongAsWritten : Type 0
-CachedNotAsLongAsWritten = (capacity : ℕ) (script : Script) (old new : ℕ → Pack) (out trace : Took) → (plays : CachedPlays capacity script old new out trace) → (unit : ℕ)
+abbrev pub PlayedNotAsLongAsWritten : Type 0
+PlayedNotAsLongAsWritten = (capacity : ℕ) (script : Script) (old new : ℕ → Pack) (out trace : Took) → (plays : CachedPlays capacity script old new out trace) → (unit : ℕ)
     → ¬ (length (new unit).image ≢ length_behind (start_of script plays.tables old) (moments_in (parts_in plays.asked.sessions)) unit (length (old unit).image))
+
+-- be it where the trace failed
+abbrev pub StoppedNotAsLongAsWritten : Type 0
+StoppedNotAsLongAsWritten = (capacity : ℕ) (script : Script) (old new : ℕ → Pack) (out trace : Took) → (stops : CachedStops capacity script old new out trace)
+    → (till : HasAskedTill capacity script stops.tables old new trace stops.before stops.at) → till.stop ≡ stopped.Sink → (unit : ℕ)
+    → ¬ (length (new unit).image ≢ length_behind (start_of script stops.tables old) (moments_in (parts_till till.cut)) unit (length (old unit).image))
+
+abbrev pub CachedNotAsLongAsWritten : Type 0
+CachedNotAsLongAsWritten = PlayedNotAsLongAsWritten × StoppedNotAsLongAsWritten
 
 -- LATER LINES ARE PLAYED behind a sink that failed: it has less than the answers before the line of the stop.
 abbrev pub LaterLinesPlayedBehindASinkThatFailed : Type 0
@@ -69,7 +79,7 @@ CacheOfAnotherSize = (script : Script) (old new : ℕ → Pack) (out trace : Too
 -- A SYNC THAT WRITES NOTHING: a block was written and a sync ended, which has no write of it; and it stopped at a later line.
 abbrev pub SyncThatWritesNothing : Type 0
 SyncThatWritesNothing = (script : Script) (old new : ℕ → Pack) (out trace : Took) (from one : List ℕ) (more : List Call) → (stops : CachedStops 1 script old new out trace)
-    → (till : HasAskedTill 1 script stops.tables old trace stops.before stops.at) → contents script stops.tables old 0 5 ≡ Some one
+    → (till : HasAskedTill 1 script stops.tables old new trace stops.before stops.at) → contents script stops.tables old 0 5 ≡ Some one
     → till.cut.done ≡ called_at 2 (Submit (writes 0 5 from)) ∷ called_at 3 Drain ∷ more → ¬ (take 2 (requests_in till.cut.sessions) ≢ at_line 2 (reads 0 5) ∷ at_line 3 (writes 0 5 from) ∷ [])
 
 -- THE LAST UNUSABLE BLOCK IS ANSWERED OK: of the blocks of a write one can't be used, be it the last.

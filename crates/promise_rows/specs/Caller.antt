@@ -157,12 +157,12 @@ pub record KeepsPacksTables (command : Option Command) (code : ℕ) (old new : O
       → (table : Table) × IsTableOf kind (new.held unit) (Some table) × ((block : ℕ) → block < limit_of kind → content_of kind (Some table) (new.held unit) block ≡ Some (replicate 512 0))
   pub format_refused : (unit serial : ℕ) (kind : DriveKind) → command ≡ Some (FormatPack unit kind serial) → (code ≡ 7) ⊎ (code ≡ 9) ⊎ (code ≡ 11) → new.held ≡ old.held
 
--- BYTES OF A PARTITION. A read prints the range's bytes by the pack's table and changes no content; a write replaces just the range's bytes.
+-- BYTES OF A PARTITION. A read prints the range's bytes by the pack's table and changes no pack; a write replaces just the range's bytes.
 pub record KeepsPartitions (command : Option Command) (code : ℕ) (old new : Outside) : Type 0 where
   pub reads : (t : Target) (size : ℕ) → command ≡ Some (TransferBytes (Read t size)) → code ≡ 0
       → (table : Option Table) × IsTableOf t.kind (old.held t.unit) table
       × (new.said ≡ old.said ++ range size (content_of t.kind table (old.held t.unit)) (first_of t.kind t.part) t.at)
-      × ((block : ℕ) → content_of t.kind table (new.held t.unit) block ≡ content_of t.kind table (old.held t.unit) block)
+      × (new.held ≡ old.held)
   pub writes : (t : Target) → command ≡ Some (TransferBytes (Write (Raw t))) → code ≡ 0
       → (table : Option Table) × IsTableOf t.kind (old.held t.unit) table
       × ((block : ℕ) → content_of t.kind table (new.held t.unit) block

@@ -1,5 +1,5 @@
 -- Wrong outcomes of requests that are waited for, and of raw transfers.
-use Rattle.std.specs.Prelude.{◌≡◌, ◌≢◌, ◌↔◌, ℕ, ◌+◌, ◌*◌, ◌<◌, ◌≤◌, Bool, true, false, IsTrue, List, ◌∷◌, ◌++◌, length, Option, Result, Err, Some}
+use Rattle.std.specs.Prelude.{◌≡◌, ◌≢◌, ◌↔◌, ℕ, ◌+◌, ◌*◌, ◌<◌, ◌≤◌, Bool, true, false, IsTrue, List, [], ◌∷◌, ◌++◌, length, Option, Result, Err, Some}
 use Rattle.pack_geometry.specs.declared.DriveKind.{DriveKind}
 use Rattle.partitions.specs.declared.Part.{Part}
 use Rattle.partitions.specs.declared.Part.TheVariants.{B}
@@ -24,7 +24,7 @@ use Rattle.driver_laws.specs.shown.Lengths.{length_behind}
 use Rattle.command_parts.specs.Outside.{Outside as Between}
 use Rattle.command_parts.specs.declared.words.Target.{Target}
 use Rattle.command_parts.specs.declared.words.Writing.{Writing}
-use Rattle.hpsim_run.specs.Passes.{ReadStops, Store, Transferred, WriteStops, start_at, target_for}
+use Rattle.hpsim_run.specs.Passes.{Gives, ReadStops, Sink, Store, Transferred, WriteStops, start_at, target_for}
 
 -- A DRAIN ENDS EARLY: a request has not ended behind it.
 abbrev pub DrainEndsEarly : Type 0
@@ -77,8 +77,21 @@ AnyTraceAtAStoppedTransfer = (t : Target) (w : Writing) (size : ℕ) (old new : 
     → (IsNoSession true t old new → ¬ ReadStops Store t size old new)
     × ((stops : WriteStops Store w old new) → ¬ IsNoSession false (target_for w stops.from) old new)
 
--- A RAW TRANSFER LENGTHENS THE IMAGE, or shortens it: it is not as long as the blocks that its lines wrote make it.
-abbrev pub RawLengthensTheImage : Type 0
-RawLengthensTheImage = (reads : Bool) (t : Target) (held held' : ℕ → Pack) (trace_tells : Bool) (taken taken' : List ℕ)
+-- A RAW TRANSFER LENGTHENS THE IMAGE, or shortens it: it is not as long as the blocks that its lines wrote make it, be it where the trace failed;
+-- or a read blows an empty image up, be it where it stopped.
+abbrev pub TransferLengthensTheImage : Type 0
+TransferLengthensTheImage = (reads : Bool) (t : Target) (held held' : ℕ → Pack) (trace_tells : Bool) (taken taken' : List ℕ)
     → (moved : Transferred reads t held held' trace_tells taken taken') → (unit : ℕ)
     → ¬ (length (held' unit).image ≢ length_behind (start_at t moved.table held) (moments_in moved.parts) unit (length (held unit).image))
+
+abbrev pub StoppedWriteLengthensTheImage : Type 0
+StoppedWriteLengthensTheImage = (w : Writing) (old new : Between) → (tells : IsTrue new.packs_tell) → (stops : WriteStops Sink w old new) → (unit : ℕ)
+    → ¬ (length (new.held unit).image
+    ≢ length_behind (start_at (target_for w stops.from) (stops.left tells).table old.held) (moments_in (stops.left tells).broke.parts) unit (length (old.held unit).image))
+
+abbrev pub ReadBlowsAnEmptyImageUp : Type 0
+ReadBlowsAnEmptyImageUp = (t : Target) (size done unit : ℕ) (bytes : List ℕ) (old new : Between) → IsTrue new.packs_tell → (old.held unit).image ≡ [] → 0 < length (new.held unit).image
+    → (¬ Gives t size done bytes old new) × (¬ ReadStops Store t size old new) × (¬ ReadStops Sink t size old new)
+
+abbrev pub RawLengthensTheImage : Type 0
+RawLengthensTheImage = TransferLengthensTheImage × StoppedWriteLengthensTheImage × ReadBlowsAnEmptyImageUp

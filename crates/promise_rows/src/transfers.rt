@@ -19,8 +19,8 @@ pub fn asked_rows()
 {}
 
 /// What holds of a raw transfer: bytes are counted, a dump ends its partition, the last byte of a partition is inside, a block that is
-/// written in part keeps its other bytes, and an image is as long as what was written makes it. If the packs failed, the trace has the
-/// lines of a legal session.
+/// written in part keeps its other bytes, and an image is as long as what was written makes it, also if the trace failed. A read leaves
+/// every image as it was, whether it ended or stopped. If the packs failed, the trace has the lines of a legal session.
 pub fn raw_rows()
     ensures done_in_blocks { DoneInBlocks }
     ensures dump_at_the_front { DumpAtTheFront }
