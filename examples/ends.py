@@ -10,6 +10,8 @@ import os, re, subprocess, sys, tempfile
 
 TOP = os.path.join(os.path.dirname(os.path.abspath(__file__)), '..')
 RP06 = 174423040
+# The copies of the table on an RM03.
+COPIES = [131648, 131650, 131652, 131654, 131656]
 NO_SCRIPT = b''
 WRITE = b'unit 0 rp06\nwrite 1 0 c 5 4 fill 77\n'
 
@@ -18,6 +20,16 @@ def image(name, length=0):
     def make(folder):
         with open(os.path.join(folder, name), 'wb') as it:
             it.truncate(length)
+    return make
+
+
+def marks(name, blocks):
+    def make(folder):
+        held = bytearray(max(blocks) + 1)
+        for block in blocks:
+            held[block] = 1
+        with open(os.path.join(folder, name), 'wb') as it:
+            it.write(held)
     return make
 
 
@@ -55,6 +67,16 @@ ROWS = [
     ('no table', [image('hp0.dsk')], 'bad144 add 0 rp06 1000', NO_SCRIPT, None, 8, r'hpsim: hp0\.dsk has no bad-sector table'),
     ('bytes beyond a partition', [image('hp0.dsk')], 'raw read 0 rp06 a 8132600 10', NO_SCRIPT, None, 10,
      r'hpsim: bytes 8132600 to 8132609 reach beyond partition a of an rp06, which has 8132608 bytes'),
+    ('a block that cannot be read', [image('hp0.dsk'), marks('hp0.bad', [3])], 'raw read 0 rp06 a 0 2048', NO_SCRIPT, None, 10,
+     r'hpsim: block 3 of partition a of hp0\.dsk is marked and has no good replacement: 1536 bytes before it were read\n$'),
+    ('a block that cannot be written', [marks('hp0.bad', [3])], 'raw write 0 rp06 a 0', b'\x77' * 2048, None, 10,
+     r'hpsim: block 3 of partition a of hp0\.dsk is marked and has no good replacement: 1536 bytes before it were written\n$'),
+    ('all copies of the table marked', [marks('hp0.bad', COPIES)], 'format 0 rm03 9', NO_SCRIPT, None, 11,
+     r'hpsim: hp0\.dsk has no room for a table: all five places are marked in hp0\.bad\n$'),
+    ('too many marked blocks', [marks('hp0.bad', range(127))], 'format 0 rm03 9', NO_SCRIPT, None, 11,
+     r'hpsim: hp0\.bad marks 127 data blocks, and a table lists at most 126\n$'),
+    ('a marked replacement', [marks('hp0.bad', [5, 131647])], 'format 0 rm03 9', NO_SCRIPT, None, 11,
+     r'hpsim: replacement 0 of hp0\.dsk \(block 131647\) is needed, but it is marked in hp0\.bad\n$'),
     ('a missing image', [], 'bad144 list 17 rp06', NO_SCRIPT, None, 0, r'hpsim: hp17\.dsk does not exist'),
     ('closed standard input', [], 'play', NO_SCRIPT, closed(0), 0, r'$'),
     ('closed standard output', [], 'exercise 1', NO_SCRIPT, closed(1), 0, r'$'),
