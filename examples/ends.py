@@ -6,7 +6,7 @@
 It works in a temporary folder and ends with 1 if an end differs. Two rows need root, which mounts a small full file system and a
 read-only one; without root they are passed over.
 """
-import os, re, subprocess, sys, tempfile
+import os, re, resource, subprocess, sys, tempfile
 
 TOP = os.path.join(os.path.dirname(os.path.abspath(__file__)), '..')
 RP06 = 174423040
@@ -45,6 +45,10 @@ def closed(number):
     return lambda: os.close(number)
 
 
+def with_memory(size):
+    return lambda: resource.setrlimit(resource.RLIMIT_AS, (size, size))
+
+
 # A name; what is made in the folder; the words; standard input; what is done to the streams before the program runs; the status, and
 # what the line on standard error must have.
 ROWS = [
@@ -65,6 +69,8 @@ ROWS = [
     ('an image with a footer', [image('hp1.dsk', RP06 + 512)], 'bad144 list 1 rp06', NO_SCRIPT, None, 7,
      r'hpsim: hp1\.dsk has 174423552 bytes, and a whole rp06 has 174423040: .*truncate -s 174423040'),
     ('no table', [image('hp0.dsk')], 'bad144 add 0 rp06 1000', NO_SCRIPT, None, 8, r'hpsim: hp0\.dsk has no bad-sector table'),
+    ('no memory for a script', [], 'play', b'unit 0 rp06\nread 1 0 c 0 1\n', with_memory(8 << 20), 9,
+     r'hpsim: there is not enough memory for the script, its requests and what they move\n$'),
     ('bytes beyond a partition', [image('hp0.dsk')], 'raw read 0 rp06 a 8132600 10', NO_SCRIPT, None, 10,
      r'hpsim: bytes 8132600 to 8132609 reach beyond partition a of an rp06, which has 8132608 bytes'),
     ('a block that cannot be read', [image('hp0.dsk'), marks('hp0.bad', [3])], 'raw read 0 rp06 a 0 2048', NO_SCRIPT, None, 10,
@@ -104,7 +110,7 @@ def ran(program, folder, words, given, before):
         os.close(source)
     else:
         done = subprocess.run([program, *words.split()], cwd=folder, stdout=out, stderr=subprocess.PIPE, preexec_fn=before,
-                              **({'stdin': subprocess.DEVNULL} if before else {'input': given}))
+                              **({'input': given} if given else {'stdin': subprocess.DEVNULL}))
     return done.returncode, done.stderr.decode(errors='replace')
 
 

@@ -52,16 +52,21 @@ pub struct Disk {
 }
 
 impl Disk {
-    ghost use Rattle.std.specs.Prelude.{◌≤◌};
+    ghost use Rattle.std.specs.Prelude.{◌≡◌, ◌≤◌};
     ghost use Rattle.outside_traits.specs.Causes.{Rose};
 
     /// Creates the disk whose image has these bytes.
-    pub fn new(bytes: Vec<u8>) -> Disk {
+    pub fn new(bytes: Vec<u8>) -> Disk
+        ensures image { result.bytes.items ≡ bytes.items }
+        ensures faults { result.faults ≡ 0 }
+    {
         Disk { bytes, faults: 0 }
     }
 
     /// The bytes of the image as they are now.
-    pub fn bytes(&self) -> &[u8] {
+    pub fn bytes(&self) -> &[u8]
+        ensures { result.now ≡ self.now.bytes.items }
+    {
         &self.bytes
     }
 
