@@ -27,6 +27,7 @@ use Rattle.script_runs.proofs.StopsPasses.{attended_told}
 use Rattle.script_runs.proofs.StopsPasses.{lines_play_nothing}
 use Rattle.hp_driver.specs.Subsystem.{IsThere}
 use Rattle.script_runs.specs.Stops.{IsEventOver, AreOfOneEvent}
+use Rattle.driver_laws.proofs.shown.Joined.{not_drained}
 
 -- WHERE A LINE OF THE TRACE MAY COME NEXT one is still to come.
 some_line : (unit : ℕ) (d : moment.Deed) → is_no_line (wish_of unit d) ≡ false
@@ -103,14 +104,6 @@ line_comes : (s : Replay) (m : Moment) → LineFollows s m → is_no_line (next_
 line_comes s (Told line unit id d) may = ap is_no_line may.wished ∙ some_line unit d
 line_comes s other may = absurd may
 
-not_left : (s : Replay) → is_no_line (next_wish s) ≡ false → drained s ≡ s
-not_left s some = by_drain s.event.drains
-  where
-    by_drain : (drains : Bool)
-        → (if drains && (is_no_line (next_wish s) && nat_lt 0 s.outstanding) then record s { event = record s.event { between = true; act = act_drained s } } else s) ≡ s
-    by_drain true = ap (λ (b : Bool). if b && nat_lt 0 s.outstanding then record s { event = record s.event { between = true; act = act_drained s } } else s) some
-    by_drain false = refl
-
 lines_one : (s : Replay) (ms : List Moment) → LinesFollow s ms → AreOfOneEvent s ms
 lines_one s [] follow = tt
 lines_one s (m ∷ []) follow = tt
@@ -119,7 +112,7 @@ lines_one s (Idle line ∷ n ∷ ms) follow = absurd follow.0
 lines_one s (Told line unit id d ∷ n ∷ ms) follow =
     let some : is_no_line (next_wish (told_within s unit d)) ≡ false = line_comes (told_within s unit d) n follow.1.0 in
     let at : after_moment s (Told line unit id d) ≡ told_within s unit d =
-    ap (λ (wish : Wish). told_after wish s unit d) follow.0.wished ∙ line_after s unit d ∙ not_left (told_within s unit d) some in
+    ap (λ (wish : Wish). told_after wish s unit d) follow.0.wished ∙ line_after s unit d ∙ not_drained (told_within s unit d) some in
     subst (λ (r : Replay). (IsEventOver r → ⊥) × AreOfOneEvent r (n ∷ ms)) (sym at)
     (goes_on some, lines_one (told_within s unit d) (n ∷ ms) follow.1)
   where

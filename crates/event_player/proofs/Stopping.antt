@@ -37,13 +37,7 @@ use Rattle.event_player.proofs.OneEvent.{front_short, acts_front}
 use Rattle.event_player.proofs.Ahead.{cut_more, nothing_more}
 use Rattle.event_player.proofs.Wholes.{Whole}
 use Rattle.event_player.proofs.Moves.{one_of, IsMoveOf, move_of, still_may, move_is, writes_move}
-
--- MOMENTS one behind the other
-played_append : (xs ys : List Moment) → played (xs ++ ys) ≡ played xs ++ played ys
-played_append [] ys = refl
-played_append (Played line input ∷ xs) ys = ap (λ (ns : List Numbered). record { line = line; input = input } ∷ ns) (played_append xs ys)
-played_append (Told line unit id deed ∷ xs) ys = played_append xs ys
-played_append (Idle line ∷ xs) ys = played_append xs ys
+use Rattle.driver_laws.proofs.rules.Fronts.{played_append}
 
 -- the line of the script at which an event begins, if one does
 pub record IsOpening (opening : List Moment) : Type 0 where
