@@ -24,7 +24,7 @@ use Rattle.hp_driver.specs.Moves.{writes_next}
 use Rattle.hp_driver.specs.Subsystem.{IsThere, is_move, writes_by}
 use Rattle.hp_driver.proofs.Moves.{tried_by_rules, read_from}
 use Rattle.script_runs.specs.Ahead.{SaysOneSector}
-use Rattle.event_player.proofs.OneEvent.{IsShort, short_or}
+use Rattle.event_player.proofs.OneAct.{IsShort, short_or}
 
 -- A MOVE says one line at most.
 pub says_none : SaysOneSector []

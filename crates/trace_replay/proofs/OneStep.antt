@@ -66,7 +66,7 @@ sort Intr = 2
 sort Attn = 3
 sort other = 4
 
-pub unit_in : Wish → ℕ
+unit_in : Wish → ℕ
 unit_in (DueLine unit) = unit
 unit_in (Arrival unit) = unit
 unit_in (SectorLine unit) = unit

@@ -25,7 +25,6 @@ use Rattle.driver_laws.specs.rules.Stands.{Setup}
 use Rattle.driver_laws.proofs.rules.MachineUnits.{IsFirst}
 use Rattle.trace_replay.proofs.Histories.{WasMarked}
 use Rattle.trace_replay.proofs.Unusable.{read_is_none, marked_only, was_told}
-use Rattle.trace_replay.proofs.OneStep.{unit_in}
 
 -- what holds of one state and of all others holds of all after one of them changed
 pub with_each : {T : Type 0} (P : ℕ → T → Type 0) (states : ℕ → T) (k : ℕ) (state : T) → P k state → ((x : ℕ) → x ≢ k → P x (states x)) → (x : ℕ) → P x (with_state states k state x)
@@ -35,6 +34,14 @@ with_each P states k state mine others x = elim (eqb_tells x k) [
 ]
 
 -- ---- wishes
+unit_in : Wish → ℕ
+unit_in (DueLine unit) = unit
+unit_in (Arrival unit) = unit
+unit_in (SectorLine unit) = unit
+unit_in (Interrupt unit) = unit
+unit_in (Attention unit) = unit
+unit_in (Refusal unit id why) = unit
+unit_in other = 0
 
 sort_in : Wish → ℕ
 sort_in NoLine = 1
@@ -122,6 +129,28 @@ no_line_told s line unit id deed is may = at (subst (λ w. ToldMay w s line unit
 pub no_line_idle : (s : Replay) → next_wish s ≡ NoLine → next_wish s ≡ IdleLine → ⊥
 unfolding unit_in sort_in
 no_line_idle s is idle = omega (arith, ap sort_in (sym is ∙ idle))
+
+-- ---- a verdict mark is of a marked sector
+sort : Moved → ℕ
+sort verdict.Clean = 0
+sort (verdict.Burst at q) = 1
+sort verdict.Hard = 2
+sort verdict.Marked = 3
+sort (verdict.Faulted k) = 4
+sort verdict.Offline = 5
+
+stop_sort : (online : Bool) (armed : Option FaultKind) (stop : Moved) → (if online then option_map verdict.Faulted armed else Some verdict.Offline) ≡ Some stop → sort stop ≡ 3 → ⊥
+unfolding sort
+stop_sort true None stop is three = none-some stop is
+stop_sort true (Some k) stop is three = omega (arith, three, ap sort (same_Some (verdict.Faulted k) stop is))
+stop_sort false armed stop is three = omega (arith, three, ap sort (same_Some verdict.Offline stop is))
+
+marked_by : (stop : Option Moved) (marked write : Bool) (places : Option (List ℕ)) → ((v : Moved) → stop ≡ Some v → sort v ≡ 3 → ⊥) → IsVerdictBy stop marked write places verdict.Marked → marked ≡ true
+unfolding sort
+marked_by (Some stop) marked write places never is = absurd (never stop refl (ap sort (sym is)))
+marked_by None true write places never is = refl
+marked_by None false true places never is = absurd (omega (arith, ap sort is))
+marked_by None false false places never is = absurd (read_is_none places is)
 
 abbrev AreTrue : Setup → (ℕ → List Deed) → Type 0
 AreTrue setup lines = (unit block : ℕ) → WasMarked block (lines unit) → model.is_marked (setup.packs unit) block ≡ true
