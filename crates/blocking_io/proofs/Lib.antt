@@ -1,6 +1,6 @@
 mod Laying
 mod Blocks
-mod Taking
+pub mod Taking
 mod Sending
 mod Calling
 mod Waiting

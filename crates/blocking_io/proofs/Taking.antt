@@ -58,7 +58,7 @@ Found w answer = (made : Made) × IsOldest w made × (made.answer ≡ answer)
 pub oldest_kind : (w : World) (answer : Answer) → Found w answer → IsOldestKind w answer.kind
 oldest_kind w answer found = record { made = found.0; oldest = found.1; is = ap (λ (a : Answer). a.kind) found.2 }
 
-is_taken : (now new : State) (answer : Answer) (result : Option Answer) → Found now.world answer
+pub is_taken : (now new : State) (answer : Answer) (result : Option Answer) → Found now.world answer
     → IfSome result (λ _. new ≡ record now { world = after now.world Taken }) → (result ≡ None → now.world.answers ≡ [])
     → new ≡ record now { world = after now.world Taken }
 is_taken now new answer None found taken none = absurd (differ (sym found.1.first ∙ none refl))

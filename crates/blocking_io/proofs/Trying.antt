@@ -147,4 +147,4 @@ event_fails next_shows line drives old mid new input start moments at told e = b
   where
     by : (new.held ≡ mid.held) ⊎ IsNextBlock mid.world mid.held new.held → LeftAt Store drives old new.held (after_moments start moments)
     by (inl same) = inl (subst (λ (held : ℕ → Pack). AreLeft drives old held (after_moments start moments).surface) (sym same) at.so_far.packs)
-    by (inr next) = inr (next_shows drives old mid.held new.held (after_moments start moments) mid.world at.sound at.shows at.units at.so_far.packs next)
+    by (inr next) = inr (next_shows drives old mid.held new.held (after_moments start moments) mid.world at.sound at.shows at.units at.so_far.packs next).at

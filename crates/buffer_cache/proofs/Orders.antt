@@ -351,10 +351,6 @@ takes_slot key order slots held k few some = by (nat_lt (length order.entries) o
 pub new_entries : (key : Key) (order : LruCache Key ℕ) (slot : ℕ) → lookup_entry (is_at key) order.entries ≡ None → put_entries is_same order key slot ≡ (key, slot) ∷ take (order.cap - 1) order.entries
 new_entries key order slot none = ap (λ o. option_map_or (λ e. (e.0, slot) ∷ remove_entry (is_at key) order.entries) o ((key, slot) ∷ take (order.cap - 1) order.entries)) none
 
--- ---- the last one is written back
-pub last_kept : (order : LruCache Key ℕ) (slots : List Held) (slot : ℕ) (held : Held) → IsKept order slots → IsKept order (slice_set slots slot held)
-last_kept order slots slot held k = record { slots_are = k.slots_are; room = length-set slots slot held ∙ k.room }
-
 pub last_in : (order : LruCache Key ℕ) (slots : List Held) (p : Key × ℕ) → IsKept order slots → length order.entries ≤ order.cap → last_entry order.entries ≡ Some p → p.1 < length slots
 last_in order slots p k few is = by order.entries refl
   where
@@ -411,13 +407,6 @@ ok_of (Err e) P not holds = absurd (true_false not)
   where
     true_false : true ≡ false → ⊥
     true_false e = cc
-
-pub err_of : {A E : Type 0} (r : Result A E) (P : Type 0) → is_err r ≡ true → OnErr r P → P
-err_of (Ok x) P is holds = absurd (false_true is)
-  where
-    false_true : false ≡ true → ⊥
-    false_true e = cc
-err_of (Err e) P is holds = holds
 
 pub none_last : (es : List (Key × ℕ)) → last_entry es ≡ None → es ≡ []
 none_last [] is = refl

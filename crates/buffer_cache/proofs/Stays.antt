@@ -133,13 +133,6 @@ all_taken P zero entries all = tt
 all_taken P (suc n) [] all = tt
 all_taken P (suc n) (e ∷ entries) all = (all.0, all_taken P n entries all.1)
 
-pub room_data : (w : World) (s : State) → AllByRecursion (λ e. IsData w e.unit e.block) s.entries → AllByRecursion (λ e. IsData w e.unit e.block) (with_room s).entries
-room_data w s all = by (to_write_back s)
-  where
-    by : (o : Option Entry) → AllByRecursion (λ e. IsData w e.unit e.block) (written_last o s.entries)
-    by None = all
-    by (Some e) = all_left (λ e. IsData w e.unit e.block) (λ e d. d) (length s.entries - 1) s.entries all
-
 pub put_data : (w : World) (refuses : Bool) (unit block : ℕ) (bytes : List ℕ) (changed : Bool) (s : State) → IsData w unit block → AllByRecursion (λ e. IsData w e.unit e.block) s.entries
     → AllByRecursion (λ e. IsData w e.unit e.block) (put refuses (entry unit block bytes changed) s).entries
 put_data w true unit block bytes changed s own all = all

@@ -44,17 +44,6 @@ data_at old new unit first count k lt keeps units are =
     inside : (a k n m : ℕ) → k < n → a + n ≤ m → a + k < m
     inside a k n m lt le = omega (arith, lt, le)
 
-small : (kind : DriveKind) → limit_of kind ≤ 4294967295
-small Rp06 = omega arith
-small other = omega arith
-
--- and its number is small
-pub number_small : (w : World) (unit first count k : ℕ) → k < count → AreData w unit first count → first + k ≤ 4294967295
-number_small w unit first count k lt are = under first k count (limit_of (kind_at w unit)) 4294967295 lt are.inside (small (kind_at w unit))
-  where
-    under : (a k n m top : ℕ) → k < n → a + n ≤ m → m ≤ top → a + k ≤ top
-    under a k n m top lt le most = omega (arith, lt, le, most)
-
 -- a block that can't be used stops nothing
 pub not_stopped : (A : Type 0) (why : CacheFault) → why ≡ fault.Unusable → stop_of {A = A} (Err why) ≡ None
 not_stopped A why is = ap (λ z. stop_of {A = A} (Err z)) is

@@ -97,9 +97,6 @@ module _ (script : Script) (tables : ℕ → Option Table) (setups : List UnitSe
       finished = far_new.left.finished;
     }
 
-    pub tables_new : HasTables (setup_of New held)
-    tables_new = subst HasTables (sym setup_new) read
-
 -- THE CACHE may be used
 pub may_use : (setups : List UnitSetup) (outstanding noises : ℕ) (s : State) (d : Driver) → s.entries ≡ [] → 1 ≤ outstanding
     → d ≡ record { world = new_world setups outstanding noises; outstanding = outstanding; failed = false; kept = [] } → MayUse s d

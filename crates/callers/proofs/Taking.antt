@@ -8,6 +8,7 @@ use Rattle.driver_machine.specs.Acts.{Taken, after, after_all}
 use Rattle.driver_laws.specs.answers.Waiting.{takings, all_taken}
 use Rattle.driver_laws.proofs.answers.Taking.{nothing_taken}
 use Rattle.hp_driver.specs.Subsystem.{State, IsOldest}
+use Rattle.blocking_io.proofs.Taking.{Found, is_taken}
 
 -- what is still to be taken comes to what was to be
 pub record SoTaken (old now : State) : Type 0 where
@@ -16,19 +17,6 @@ pub record SoTaken (old now : State) : Type 0 where
 
 pub so_far : (old : State) → SoTaken old old
 so_far old = record { state = refl; taken = refl }
-
--- the oldest answer, as the driver names it
-abbrev pub Found : World → Answer → Type 0
-Found w answer = (made : Made) × IsOldest w made × (made.answer ≡ answer)
-
-is_taken : (now new : State) (answer : Answer) (result : Option Answer) → Found now.world answer
-    → IfSome result (λ _. new ≡ record now { world = after now.world Taken }) → (result ≡ None → now.world.answers ≡ [])
-    → new ≡ record now { world = after now.world Taken }
-is_taken now new answer None found taken none = absurd (differ (sym found.1.first ∙ none refl))
-  where
-    differ : found.0 ∷ drop 1 now.world.answers ≡ [] → ⊥
-    differ e = cc
-is_taken now new answer (Some other) found taken none = taken
 
 pub one_more : (old now new : State) (answer : Answer) → Found now.world answer → (result : Option Answer)
     → IfSome result (λ _. new ≡ record now { world = after now.world Taken }) → (result ≡ None → now.world.answers ≡ [])
@@ -39,16 +27,6 @@ one_more old now new answer found result taken none so =
       state = ap (λ (s : State). record s { world = after now.world Taken }) so.state;
       taken = sym (ap (λ (xs : List Made). after_all now.world (takings xs)) found.1.first) ∙ so.taken;
     })
-
-pub fewer_wait : (now new : State) (answer : Answer) → Found now.world answer → (result : Option Answer)
-    → IfSome result (λ _. new ≡ record now { world = after now.world Taken }) → (result ≡ None → now.world.answers ≡ [])
-    → length new.world.answers < length now.world.answers
-fewer_wait now new answer found result taken none =
-    subst (λ (s : State). length s.world.answers < length now.world.answers) (sym (is_taken now new answer result found taken none))
-    (subst (λ (xs : List Made). length (drop 1 xs) < length xs) (sym found.1.first) (less (drop 1 now.world.answers)))
-  where
-    less : (xs : List Made) → length xs < length (found.0 ∷ xs)
-    less xs = omega arith
 
 -- AT THE END none waits.
 pub all_are_taken : (old now : State) → SoTaken old now → now.world.answers ≡ [] → now ≡ record old { world = all_taken old.world }

@@ -64,7 +64,7 @@ mod Images
 pub mod Acts
 mod Units
 pub mod RunsLaws
-mod NextBlock
+pub mod NextBlock
 pub mod Sectors
 pub mod Blocks
 pub mod ReachActs

@@ -23,25 +23,8 @@ use Rattle.driver_machine.specs.declared.RetryStep.TheVariants.{Recalibrate, See
 use Rattle.driver_machine.specs.Acts.{stepping, searching, transferring, centred}
 use Rattle.trace_replay.proofs.Kept.{performed_kind, arrived_kind as arrived_by}
 
-either : {A : Type 0} (P : A → Type 0) (b : Bool) (x y : A) → P x → P y → P (if b then x else y)
-either P true x y holds fails = holds
-either P false x y holds fails = fails
-
 pub arrived_kind : (d : DriveState) → (arrived d).kind ≡ d.kind
 arrived_kind d = arrived_by d.work d
-
-marked_kind : (kind : DriveKind) (d : DriveState) → (with_mark_bits kind d).kind ≡ d.kind
-marked_kind Rp06 d = refl
-marked_kind other d = refl
-
-fault_kind : (kind : FaultKind) (d : DriveState) → (with_fault_bits kind d).kind ≡ d.kind
-fault_kind fault.Seek d = refl
-fault_kind other d = refl
-
-moved_kind : (v : Moved) (block : ℕ) (d : DriveState) → (after_move v block d).kind ≡ d.kind
-moved_kind verdict.Marked block d = marked_kind d.kind d
-moved_kind (verdict.Faulted kind) block d = fault_kind kind (fault_used kind d)
-moved_kind other block d = refl
 
 pub stepping_kind : (step : RetryStep) (d : DriveState) → (stepping step d).kind ≡ d.kind
 stepping_kind Recalibrate d = performed_kind function.Recal d

@@ -136,21 +136,6 @@ module _ (out mid out' lines mid_lines lines' : Side) where
       says_same (block_texts 0 blocks)
       (says_stop (block_texts (0 + length (take (k + 1) blocks)) (drop (k + 1) blocks)) result e (blocks_more blocks k (Err failed) lt so_far more)) (sym (texts_parted blocks (k + 1)))
 
--- what is not a read has no blocks to be said
-no_blocks : (kind : AnswerKind) (blocks : List (List ℕ)) → ((count last : ℕ) → kind ≡ ReadOk count last → ⊥) → blocks_text (answer_told kind blocks) ≡ []
-no_blocks (ReadOk count last) blocks other = absurd (other count last refl)
-no_blocks WriteOk blocks other = refl
-no_blocks Eof blocks other = refl
-no_blocks (Error Partition done) blocks other = refl
-no_blocks (Error Frames done) blocks other = refl
-no_blocks (Error Offline done) blocks other = refl
-no_blocks (Error Locked done) blocks other = refl
-no_blocks (Error Unforwarded done) blocks other = refl
-no_blocks (Error (Fault attempts) done) blocks other = refl
-
-pub nothing_behind : (w : World) (kind : AnswerKind) → ((count last : ℕ) → kind ≡ ReadOk count last → ⊥) → first_rest w kind ≡ []
-nothing_behind w kind other = no_blocks kind (first_blocks w w.answers) other
-
 -- THE ANSWERS that wait: the oldest, and the others; and their texts
 told_first : (w : World) (answer : Answer) (first : IsFirst w answer) → told_by w first.made ≡ first_told w answer
 told_first w answer first =
@@ -187,11 +172,6 @@ pub is_taken : (old new : State) (answer : Answer) (result : Option Answer) → 
     → IfSome result (λ _. new ≡ record old { world = after old.world Taken }) → (result ≡ None → old.world.answers ≡ []) → new ≡ record old { world = after old.world Taken }
 is_taken old new answer None first taken none = absurd (oldest_some old.world first.made first.oldest (none refl))
 is_taken old new answer (Some other) first taken none = taken
-
-pub one_less : (w : World) (answer : Answer) → IsFirst w answer → length (after w Taken).answers < length w.answers
-one_less w answer first =
-    let e : length w.answers ≡ suc (length (drop 1 w.answers)) = ap (λ (answers : List Made). length answers) first.oldest.first in
-    omega (arith, e)
 
 -- THE ANSWERS SO FAR: those that are taken were said, and with those that wait still they are all.
 pub record SoFar (out out' lines lines' : Side) (first s : State) : Type 0 where

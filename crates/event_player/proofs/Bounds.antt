@@ -19,6 +19,7 @@ use Rattle.driver_laws.specs.shown.Shows.{Match, IsUnitSeen}
 use Rattle.script_runs.specs.StopsPasses.{ShowsAll}
 use Rattle.script_runs.specs.StopsPasses.{IsSoFar}
 use Rattle.hp_driver.proofs.Passes.{pigeons}
+use Rattle.driver_laws.proofs.shown.QuietStarting.{short}
 
 -- A QUEUE has at most 127 blocks for each of its requests.
 sum_few : (a b n m : ℕ) → a ≤ n → b ≤ n * m → a + b ≤ n * suc m
@@ -95,14 +96,6 @@ filter_all P test (x ∷ xs) all = by (test x) all.0 (filter_all P test xs all.1
     by true here rest = (here refl, rest)
     by false here rest = rest
 
-filter_short : (test : ℕ → Bool) (xs : List ℕ) → length (filter test xs) ≤ length xs
-filter_short test [] = omega arith
-filter_short test (x ∷ xs) = by (test x) (filter_short test xs)
-  where
-    by : (b : Bool) → length (filter test xs) ≤ length xs → length (if b then x ∷ filter test xs else filter test xs) ≤ suc (length xs)
-    by true le = omega (arith, le)
-    by false le = omega (arith, le)
-
 -- the units that there can be
 below_from : (P : ℕ → Type 0) (n at : ℕ) → ((x : ℕ) → x < at + n → P x) → AllOf P (from at n)
 below_from P zero at each = tt
@@ -128,7 +121,7 @@ blocks_few start line moments held w far few =
     (filter_all (λ x. blocks_waiting (s.units x).service.waiting ≤ 127 * 65536) (λ u. (unit_at w u).declared) all_units each) in
     enough (blocks_of_units s.units s.there) (length there)
     (subst (λ (us : List ℕ). blocks_of_units s.units us ≤ (127 * 65536) * length there) (sym far.there) all)
-    (filter_short (λ u. (unit_at w u).declared) all_units)
+    (short (λ u. (unit_at w u).declared) all_units)
   where
     enough : (n k : ℕ) → n ≤ (127 * 65536) * k → k ≤ 32 → 200 * n < 2 ^ 64 - 1
     enough n k le short = omega (arith, le, short)

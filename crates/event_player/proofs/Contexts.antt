@@ -32,7 +32,7 @@ use Rattle.script_runs.proofs.StopsPasses.{drained_shows}
 use Rattle.trace_lines.specs.answers.AnswerText.{said_text}
 use Rattle.hp_driver.specs.Subsystem.{IsThere}
 use Rattle.script_runs.specs.Writing.{WriteNothing}
-use Rattle.script_runs.specs.Stops.{AreOfOneEvent, StopsAtSink}
+use Rattle.script_runs.specs.Stops.{StopsAtSink}
 use Rattle.script_runs.proofs.StopsPasses.{after_parts}
 use Rattle.script_runs.proofs.StopsEvents.{submissions_write_nothing, empty_drains_write_nothing}
 use Rattle.script_runs.specs.declared.fault.PlayFault.{PlayFault}
@@ -45,8 +45,7 @@ use Rattle.event_player.proofs.Wholes.{Whole, whole_run, whole_drained, drained_
 use Rattle.event_player.proofs.Moves.{move_is}
 use Rattle.event_player.proofs.Inputs.{with_said, line_quiet}
 use Rattle.event_player.proofs.Draining.{first_quiet, later_quiet}
-use Rattle.event_player.proofs.OneEvent.{opened_one, behind, call_one, no_drain, event_one, acts_front}
-use Rattle.event_player.proofs.Stopping.{Place, EventContext, same_beyond, opens_none, opens_line, event_stops, stops_by, acts_stop, front_follows}
+use Rattle.event_player.proofs.Stopping.{Place, EventContext, same_beyond, event_stops, stops_by, acts_stop, front_follows}
 
 -- AT A LINE, behind a run so far that kept the rule
 module _ (script : Script) (tables : ℕ → Option Table) (first : ℕ → Pack) (last : ℕ) (done : List Line) (said taken : List ℕ) (line : ℕ) (input : Input) (old : Stage)
@@ -61,11 +60,9 @@ module _ (script : Script) (tables : ℕ → Option Table) (first : ℕ → Pack
     later = record { line = line; input = input } ∷ next.later;
     rest = next.later;
     follows = whole.follows;
-    ended = inl told.run.so_far.left.stands.over;
     behind = whole.behind;
     inputs = next.inputs ∙ ap (λ (ns : List Numbered). ns ++ record { line = line; input = input } ∷ next.later) (sym told.run.inputs);
     opened = refl;
-    opens = opens_line line input;
     declared = told.run.kept.units;
     shows = told.run.so_far.left.stands.shows;
     reach = told.run.reach;
@@ -80,10 +77,7 @@ module _ (script : Script) (tables : ℕ → Option Table) (first : ℕ → Pack
     sound = told.run.so_far.left.stands.sound;
     goes = λ tried may reads. whole_run script tables first (packs_after_all old.world old.held (event_acts line input tried old.world)) line _ _ _
         (event_goes script tables first last line input tried old.held done old.world told.moments less there none may reads told.run);
-    one = λ tried may reads. call_one (start_of script tables first) told.moments line input old.world (event_acts line input tried old.world) (no_drain old.world input there)
-        (event_goes script tables first last line input tried old.held done old.world told.moments less there none may reads told.run).so_far.follows;
     quiet = λ tried acts rest all off. line_quiet line input old.world tried acts rest told.run all off;
-    move = λ a is. inl is;
   }
 
   -- an event at the line
@@ -96,7 +90,7 @@ module _ (script : Script) (tables : ℕ → Option Table) (first : ℕ → Pack
       → Passes old.out_took old.trace_took (old.said ++ said_text (Played line input)) old.taken old new
       → StopsAtSink script tables first new.held new.out_tells said new.out_took new.trace_tells taken new.trace_took
   opening_stops new follows same passes =
-      stops_by (line_place old) [] new refl follows tt
+      stops_by (line_place old) [] new refl follows
       (subst (λ (ms : List Moment). IsCut script tables first ms said taken new) (sym (append-nil (told.moments ++ Played line input ∷ [])))
       (cut_more told.rule false (old.said ++ said_text (Played line input)) old.taken (Played line input ∷ []) new
       (record { sent = λ on. absurd (false≢true on); kept = λ off. passes }) (λ off. (same, (refl, tt))) (λ on. absurd (false≢true on))
@@ -117,8 +111,6 @@ module _ (script : Script) (tables : ℕ → Option Table) (first : ℕ → Pack
       (submission_goes script tables first last line e.slot r e.held old.held done old.world told.moments less none e.may e.is is.some of told.run).so_far.follows in
       acts_stop place false acts new e.stops (opened_ahead line (says.Submit r) old told.rule (rule_opened told.rule line (says.Submit r) refl))
       (front_follows place acts e.stops.done e.stops.left e.stops.all follows)
-      (acts_front (after_moments (start_of script tables first) told.moments) (Played line (says.Submit r) ∷ []) old.world acts e.stops.done e.stops.left e.stops.all
-      (call_one (start_of script tables first) told.moments line (says.Submit r) old.world acts refl follows))
       (λ off. (
         e.same,
         subst (λ (s : Replay). WriteNothing s (lines_of_all old.world e.stops.done)) (sym (after_parts (start_of script tables first) told.moments (Played line (says.Submit r) ∷ [])))
@@ -139,19 +131,6 @@ module _ (script : Script) (tables : ℕ → Option Table) (first : ℕ → Pack
   abbrev at_drain : Replay
   at_drain = after_moments (start_of script tables first) told.moments
 
-  first_one : (input : Input) (tried : Tried) → next_event old.world ≡ Some input → MayCome old.world input tried
-      → Follows (start_of script tables first) (told.moments ++ Played line says.Drain ∷ lines_of_all old.world (event_acts line input tried old.world))
-      → AreOfOneEvent at_drain (Played line says.Drain ∷ lines_of_all old.world (event_acts line input tried old.world))
-  first_one input tried is may follows =
-      let works : Works old.world (event_acts line input tried old.world) =
-      event_works sound_after line input tried old.world told.run.so_far.left.stands.sound told.run.so_far.left.stands.work may in
-      let goes : GoesOn line input old.held old.world (after_moment at_drain (Played line says.Drain)) =
-      drain_begins line input old.held old.world at_drain told.run.so_far.left.stands told.run.so_far.there is in
-      opened_one at_drain line says.Drain (lines_of_all old.world (event_acts line input tried old.world))
-      (behind (start_of script tables first) told.moments (Played line says.Drain ∷ lines_of_all old.world (event_acts line input tried old.world)) follows)
-      (lines_play_nothing [] old.world (event_acts line input tried old.world))
-      (event_one line input tried old.world (after_moment at_drain (Played line says.Drain)) (next_can old.world input told.run.so_far.left.stands.sound is) goes.rests works.run)
-
   pub first_stops : (fault : PlayFault) (input : Input) (new : Stage) → IsTrue new.packs_tell → next_event old.world ≡ Some input → IsThere old.world input → old.world.answers ≡ []
       → EventStops line input fault old new → StopsAt fault script tables first said taken new
   first_stops fault input new packs is there none stops = event_stops {line = line} {input = input} at new packs fault there stops
@@ -164,10 +143,7 @@ module _ (script : Script) (tables : ℕ → Option Table) (first : ℕ → Pack
         sound = told.run.so_far.left.stands.sound;
         goes = λ tried may reads. whole_drained script tables first (packs_after_all old.world old.held (event_acts line input tried old.world)) line _ _ _
             (drain_first script tables first last line input tried old.held done old.world told.moments less is none may reads told.run);
-        one = λ tried may reads. first_one input tried is may
-            (drain_first script tables first last line input tried old.held done old.world told.moments less is none may reads told.run).draining.follows;
         quiet = λ tried acts rest all off. first_quiet line input old.world tried acts rest told.run all off;
-        move = λ a moved. inr (inl refl, is ∙ ap (λ (i : Input). Some i) moved);
       }
 
   -- or its idle line, where it finds nothing
@@ -178,7 +154,6 @@ module _ (script : Script) (tables : ℕ → Option Table) (first : ℕ → Pack
       let follows : Follows (start_of script tables first) (told.moments ++ Played line says.Drain ∷ Idle line ∷ []) =
       (drain_empty script tables first last line old.held done old.world told.moments less over told.run).so_far.follows in
       stops_by drain_place (Idle line ∷ []) new refl follows
-      (opened_one at_drain line says.Drain (Idle line ∷ []) (behind (start_of script tables first) told.moments (Played line says.Drain ∷ Idle line ∷ []) follows) refl tt)
       (subst (λ (ms : List Moment). IsCut script tables first ms said taken new) (sym (append_assoc told.moments (Played line says.Drain ∷ []) (Idle line ∷ [])))
       (cut_more told.rule false old.said (old.taken ++ moment_text (Idle line)) (Played line says.Drain ∷ Idle line ∷ []) new
       (record { sent = λ on. absurd (false≢true on); kept = λ off. passes })
@@ -198,15 +173,6 @@ later_stops script tables first line done later said taken now new fault input t
     whole : Whole script tables first now.held told.moments
     whole = whole_drained script tables first now.held line done now.world told.moments told.drained
 
-    at_event : Replay
-    at_event = after_moments (start_of script tables first) told.moments
-
-    goes : GoesOn line input now.held now.world at_event
-    goes = drain_goes_on line input now.held now.world at_event told.drained.draining.ends told.drained.draining.work told.drained.draining.there is
-        (subst (λ (b : Bool). WorkMay b at_event) (drain_between line input now.held now.world at_event told.drained.draining.ends told.drained.draining.work is)
-        (moments_consistent (start_of script tables first) told.moments told.drained.draining.follows
-        (scripts_can_start (drives_of script) tables (surface_of first)).consistent).event.at_work)
-
     at : EventContext script tables first said taken now [] line input
     at = record {
       ctx = record {
@@ -214,11 +180,9 @@ later_stops script tables first line done later said taken now new fault input t
         later = later;
         rest = later;
         follows = whole.follows;
-        ended = inr (drain_between line input now.held now.world (after_moments (start_of script tables first) told.moments) told.drained.draining.ends told.drained.draining.work is);
         behind = whole.behind;
         inputs = told.inputs ∙ ap (λ (ns : List Numbered). ns ++ later) (sym told.drained.inputs);
         opened = refl;
-        opens = opens_none;
         declared = told.drained.kept.units;
         reach = told.drained.reach;
         shows = subst (ShowsAll now.world) (sym told.drained.draining.ends.is) (drained_shows now.world told.drained.draining.ends.last told.drained.draining.ends.over.rests.shows);
@@ -228,13 +192,6 @@ later_stops script tables first line done later said taken now new fault input t
       sound = told.drained.draining.ends.over.rests.sound;
       goes = λ tried may reads. whole_drained script tables first (packs_after_all now.world now.held (event_acts line input tried now.world)) line _ _ _
           (drain_more script tables first line input tried now.held done now.world told.moments is none may reads told.drained);
-      one = λ tried may reads. event_one line input tried now.world at_event (next_can now.world input told.drained.draining.ends.over.rests.sound is) goes.rests
-          (event_works sound_after line input tried now.world told.drained.draining.ends.over.rests.sound told.drained.draining.work may).run;
       quiet = λ tried acts rest all off. subst (λ (ms : List Moment). WriteNothing (after_moments (start_of script tables first) ms) (lines_of_all now.world acts)) (sym (append-nil told.moments))
           (later_quiet line input now.world tried acts rest told.drained all off);
-      move = λ a moved. inr (inr drains, is ∙ ap (λ (i : Input). Some i) moved);
     }
-      where
-        drains : IsTrue (after_moments (start_of script tables first) told.moments).event.drains
-        drains = ap (λ (s : Replay). s.event.drains) told.drained.draining.ends.is ∙ drained_drains told.drained.draining.ends.last
-            ∙ told.drained.draining.ends.over.rests.event.drains_is

@@ -1,5 +1,5 @@
 -- What a line of a script leaves where it stopped, and a whole script.
-use Rattle.std.proofs.Common.{◌≡◌, inl, inr, ℕ, ◌+◌, ◌*◌, ◌<◌, ◌≤◌, Bool, true, false, IsTrue, List, [], ◌∷◌, ◌++◌, length, take, drop, Option, Some, None, refl, sym, ap, subst, arith, ◌∙◌, append-nil, append_assoc, take-append-drop}
+use Rattle.std.proofs.Common.{◌≡◌, ◌⊎◌, inl, inr, ℕ, ◌+◌, ◌*◌, ◌<◌, ◌≤◌, Bool, true, false, IsTrue, List, [], ◌∷◌, ◌++◌, length, take, drop, Option, Some, None, refl, sym, ap, subst, arith, ◌∙◌, append-nil, append_assoc, take-append-drop}
 use Rattle.std.specs.Prelude.{Result, Ok, Err, IfErr, IsErrAnd, min}
 use Rattle.std.proofs.lemmas.Bool.{false≢true}
 use Rattle.std.proofs.lemmas.List.{take_all, drop_all}
@@ -13,7 +13,7 @@ use Rattle.trace_replay.specs.requests.Requests.{Request}
 use Rattle.trace_replay.specs.Moments.{Moment, Played, Idle, played}
 use Rattle.trace_replay.specs.Script as says
 use Rattle.trace_replay.specs.Script.{Script, Input, Statement, Declares, Plays, Line, Numbered, AreNumbered, drives_of, inputs_of, inputs_before}
-use Rattle.trace_replay.specs.Replay.{Follows}
+use Rattle.trace_replay.specs.Replay.{after_moments}
 use Rattle.trace_replay.specs.Runs.{start_of}
 use Rattle.trace_replay.specs.Text.{trace_text, moment_text}
 use Rattle.hardware_table.specs.declared.Moved.TheVariants.{Clean}
@@ -41,7 +41,8 @@ use Rattle.script_runs.specs.declared.fault.PlayFault.{PlayFault}
 use Rattle.script_runs.specs.declared.fault.PlayFault.TheVariants as faults
 use Rattle.event_player.specs.Playing.{HasRun}
 use Rattle.script_runs.specs.Ahead.{IsBetween}
-use Rattle.script_runs.specs.Stops.{took, TakesRest, StopsAtSink, StopsAtStore}
+use Rattle.script_runs.specs.StopsPasses.{IsTorn}
+use Rattle.script_runs.specs.Stops.{Came, took, TakesRest, StopsAtSink, StopsAtStore}
 use Rattle.event_player.specs.Steps.{Stage, stage, Passes, IsCut, IsAhead, PlaysEvent, PlaysDrain, MayAsk, MayPlay, HasDrained}
 use Rattle.event_player.specs.Stops.{EventStops, SubmissionStops, StopsInput, StopsLine, StopsDraining, StopsScript, StopsAtMove, StopsAt, IsNext, Leaves}
 use Rattle.event_player.proofs.Contexts.{line_stops, opening_stops, submission_stops, first_stops, idle_stops, later_stops}
@@ -207,22 +208,15 @@ sending_halts s i number old mid drained new all is drains before same passes ta
     let cut : IsCut s tables old.held ends.moments old.said old.taken new =
     (nothing_more ends.rule false new (record { sent = λ on. absurd (false≢true on); kept = λ off. passes }) whole.behind same).0 in
     record {
-      done = ends.moments;
-      under = [];
-      later = [];
-      came = record {
-        follows = subst (Follows (start_of s tables old.held)) (sym (append-nil ends.moments)) whole.follows;
-        inputs = inputs ∙ ap played (sym (append-nil ends.moments)) ∙ sym (append-nil (played (ends.moments ++ [])));
-        ended = inl ends.run.so_far.left.stands.over;
-        event = tt;
-        one = omega arith;
+      reached = record {
+        sent = cut.sent;
+        late = cut.late;
+        came = subst (Came s tables old.held) (sym cut.cut)
+            (record { later = []; follows = whole.follows; inputs = inputs ∙ sym (append-nil (played ends.moments)) });
+        ahead = cut.ahead;
       };
-      sent = cut.sent;
-      late = cut.late;
-      same = cut.cut ∙ sym (append-nil ends.moments);
-      ahead = cut.ahead;
       texts = cut.texts;
-      reach = λ top below tables_below unit. ap (λ (packs : ℕ → Pack). drop (512 * top unit) (packs unit).image) same
+      beyond = λ top below tables_below unit. ap (λ (packs : ℕ → Pack). drop (512 * top unit) (packs unit).image) same
           ∙ whole.reach top (subst (AskBelow top (drives_of s)) inputs below) tables_below unit;
     }
 
@@ -300,27 +294,17 @@ module _ {P O T : Type 0} (holds : P → Bool) (held : P → ℕ → Pack) (out_
       → TakesRest (took out_tells out_took out_faults old_out new_out) [] gathered → TakesRest (took trace_tells trace_took trace_faults old_trace new_trace) [] state.kept
       → StopsAtStore s tables first (held packs) (took out_tells out_took out_faults start_out new_out) (took trace_tells trace_took trace_faults start_trace new_trace)
   store_stops s tables first e rest rest_lines = record {
-    done = e.done;
-    later = e.later;
-    came = e.came;
-    world = e.world;
-    sound = e.sound;
-    declared = e.declared;
-    shows = e.shows;
-    adapter = e.adapter;
-    move = e.move;
-    sent = e.rule.at.sent;
-    late = e.rule.at.late;
-    same = e.rule.at.cut;
-    none_late = e.none_late;
     held = e.held;
-    ahead = e.rule.at.ahead;
-    packs = e.packs;
-    reach = e.reach;
-    lines = rest_on trace_tells trace_took trace_faults start_trace old_trace new_trace state.kept (trace_text e.rule.at.sent) (trace_text e.done) rest_lines again_trace later_trace
-        (λ t. (sent_lines e.rule t, e.rule.trace t));
-    answers = rest_on out_tells out_took out_faults start_out old_out new_out gathered (out_text e.rule.at.sent) (out_text e.done) rest again later
-        (λ t. (sent_answers e.rule t, e.rule.out t));
+    reached = record { sent = e.rule.at.sent; late = e.rule.at.late; came = subst (Came s tables first) (sym e.rule.at.cut) e.came; ahead = e.rule.at.ahead };
+    packs = subst (λ (ms : List Moment). (held packs ≡ e.held) ⊎ ((e.rule.at.late ≡ []) × IsTorn (drives_of s) first e.held (held packs) (after_moments (start_of s tables first) ms)))
+        (sym e.rule.at.cut) e.packs;
+    beyond = e.beyond;
+    lines = subst (λ (ms : List Moment). TakesRest (took trace_tells trace_took trace_faults start_trace new_trace) (trace_text e.rule.at.sent) (trace_text ms)) (sym e.rule.at.cut)
+        (rest_on trace_tells trace_took trace_faults start_trace old_trace new_trace state.kept (trace_text e.rule.at.sent) (trace_text e.done) rest_lines again_trace later_trace
+        (λ t. (sent_lines e.rule t, e.rule.trace t)));
+    answers = subst (λ (ms : List Moment). TakesRest (took out_tells out_took out_faults start_out new_out) (out_text e.rule.at.sent) (out_text ms)) (sym e.rule.at.cut)
+        (rest_on out_tells out_took out_faults start_out old_out new_out gathered (out_text e.rule.at.sent) (out_text e.done) rest again later
+        (λ t. (sent_answers e.rule t, e.rule.out t)));
   }
 
   sink_stops : (s : Script) (tables : ℕ → Option Table) (first : ℕ → Pack) → StopsAt faults.Sink s tables first (out_took start_out) (trace_took start_trace) at_stop

@@ -5,7 +5,7 @@ pub mod TallyLaws
 pub mod Texts
 pub mod Ahead
 pub mod Going
-pub mod OneEvent
+pub mod OneAct
 pub mod Moves
 pub mod Wholes
 pub mod Inputs

@@ -24,7 +24,7 @@ use Rattle.hp_driver.specs.Moves.{writes_next}
 use Rattle.hp_driver.specs.Subsystem.{IsThere, is_move, writes_by}
 use Rattle.hp_driver.proofs.Moves.{tried_by_rules, read_from}
 use Rattle.script_runs.specs.Ahead.{SaysOneSector}
-use Rattle.event_player.proofs.OneEvent.{IsShort, short_or}
+use Rattle.event_player.proofs.OneAct.{IsShort, short_or}
 
 -- A MOVE says one line at most.
 pub says_none : SaysOneSector []
@@ -71,18 +71,7 @@ pub move_is : (input : Input) → is_move input ≡ true → (a : ℕ) × (input
 move_is (says.MoveAt a) is = (a, refl)
 move_is other is = absurd (false≢true is)
 
-pub no_move : (input : Input) → is_move input ≡ false → IsNoMove input
-no_move (says.MoveAt a) is = absurd (false≢true (sym is))
-no_move input is = tt
-
 -- only a move may write
 pub writes_move : (w : World) (input : Input) → writes_by w input ≡ true → is_move input ≡ true
 writes_move w (says.MoveAt a) is = refl
 writes_move w other is = absurd (false≢true is)
-
-pub event_writes : (w : World) (e : Event) (a : ℕ) (b : Bool) → e ≡ event.Move a → b ≡ writes_next w a → writes_by w (input_of e) ≡ b
-event_writes w e a b is writes = ap (λ (x : Event). writes_by w (input_of x)) is ∙ sym writes
-
-pub no_write : (w : World) (e : Event) → ((a : ℕ) → e ≡ event.Move a → ⊥) → writes_by w (input_of e) ≡ false
-no_write w (event.Move a) other = absurd (other a refl)
-no_write w it other = refl

@@ -24,10 +24,6 @@ err_left : {T E : Type 0} (A B : Type 0) (result : Result T E) → OnErr result 
 err_left A B (Ok x) a = tt
 err_left A B (Err e) a = inl a
 
-pub ok_is : {T E : Type 0} {A : Type 0} (result : Result T E) → A → OnOk result A
-ok_is (Ok x) a = a
-ok_is (Err e) a = tt
-
 -- NOTHING is said, where nothing waits,
 pub says_nothing : {E : Type 0} (out lines : Side) → Says {T = Unit {0}} {E = E} out out lines lines (Ok tt) []
 says_nothing out lines = record {
@@ -48,23 +44,6 @@ says_nothing out lines = record {
 
 module _ {O T : Type 0} (tells : O → Bool) (took : O → List ℕ) (faults : O → ℕ) (trace_tells : T → Bool) (trace_took : T → List ℕ) (trace_faults : T → ℕ) where
   -- A TEXT IS KEPT where it fits,
-  pub says_kept : {E : Type 0} (out : O) (kept left : List ℕ) (lines : Side) (text : List ℕ) → left ≡ kept ++ text
-      → Says {T = Unit {0}} {E = E} (side tells took faults out kept) (side tells took faults out left) lines lines (Ok tt) text
-  says_kept out kept left lines text is = record {
-    again = λ t. t;
-    again_lines = λ t. t;
-    front = λ t. record { least = front_same (took out); most = front_more (took out) (kept ++ text) };
-    front_lines = λ t. record { least = front_same lines.took; most = front_more lines.took lines.kept };
-    whole = λ t. ap (λ (xs : List ℕ). took out ++ xs) is;
-    whole_lines = λ t. refl;
-    lines_first = inl (λ t. refl);
-    later = least (faults out);
-    later_lines = least lines.faults;
-    failed = tt;
-  }
-    where
-      least : (n : ℕ) → n ≤ n
-      least n = omega arith
 
   -- or it is put behind the sending of all lines,
   pub says_sent : {A E : Type 0} (out out' : O) (trace trace' : T) (kept was left lines lines' : List ℕ) (result : Result A E) (text : List ℕ)
@@ -226,12 +205,6 @@ still_ahead writes out lines off = record { says = says_nothing out lines; still
 
 pub none_ahead : {F : Type 0} (out lines : Side) → SendsAhead {T = Unit {0}} {E = F} false out out lines lines (Ok tt)
 none_ahead out lines = still_ahead false out lines refl
-
--- and all of it where it may.
-pub sent_ahead : {A E : Type 0} (writes : Bool) (out out' lines lines' : Side) (result : Result A E) → writes ≡ true → Says out out' lines lines' result []
-    → OnOk result ((out'.kept ≡ []) × (lines'.kept ≡ [])) → SendsAhead writes out out' lines lines' result
-sent_ahead writes out out' lines lines' (Ok x) on says emptied = record { says = says; still = λ off. absurd (false≢true (sym off ∙ on)); emptied = λ is. emptied; stopped = tt }
-sent_ahead writes out out' lines lines' (Err e) on says emptied = record { says = says; still = λ off. absurd (false≢true (sym off ∙ on)); emptied = tt; stopped = on }
 
 -- what is passed of the same texts
 pub passes_all : {from_out from_lines said told said' told' : List ℕ} {old new : Stage} → (IsTrue new.out_tells → said' ≡ said) → (IsTrue new.trace_tells → told' ≡ told)

@@ -20,41 +20,25 @@ use Rattle.script_runs.specs.StopsPasses.{AreDeclared}
 use Rattle.script_runs.specs.StopsPasses.{AskBelow, TablesBelow, IsWithinReach}
 use Rattle.script_runs.specs.StopsPasses.{IsReadOf}
 use Rattle.script_runs.specs.StopsPasses.{ShowsAll}
-use Rattle.script_runs.proofs.StopsPasses.{lines_play_nothing}
+use Rattle.script_runs.proofs.StopsPasses.{lines_play_nothing, next_blocks_show}
 use Rattle.script_runs.proofs.Passes.{event_fronts}
 use Rattle.trace_lines.specs.answers.AnswerText.{out_text}
 use Rattle.hp_driver.specs.Subsystem.{IsThere, is_move, writes_by}
 use Rattle.hp_driver.specs.Moves.{writes_next}
 use Rattle.script_runs.specs.Writing.{WriteNothing}
 use Rattle.script_runs.specs.Ahead.{SaysOneSector, AreBehind}
-use Rattle.script_runs.specs.Stops.{IsEventOver, AreOfOneEvent, StaysBeyond, IsAtMove, StopsAtSink}
+use Rattle.script_runs.specs.StopsPasses.{IsTorn}
+use Rattle.script_runs.specs.Stops.{Came, StaysBeyond, StopsAtSink}
 use Rattle.script_runs.specs.declared.fault.PlayFault.{PlayFault}
 use Rattle.script_runs.specs.declared.fault.PlayFault.TheVariants as faults
 use Rattle.event_player.specs.Steps.{Stage, Passes, PassesAhead, IsCut, IsAhead}
 use Rattle.event_player.specs.Stops.{StopsActs, StopsEvent, StopsBefore, MoveFails, EventStops, StopsAtMove, StopsAt}
 use Rattle.event_player.proofs.Reaching.{ask_parts, left_stays}
-use Rattle.event_player.proofs.OneEvent.{front_short, acts_front}
+use Rattle.event_player.proofs.OneAct.{front_short}
 use Rattle.event_player.proofs.Ahead.{cut_more, nothing_more}
 use Rattle.event_player.proofs.Wholes.{Whole}
 use Rattle.event_player.proofs.Moves.{one_of, IsMoveOf, move_of, still_may, move_is, writes_move}
-
--- MOMENTS one behind the other
-played_append : (xs ys : List Moment) → played (xs ++ ys) ≡ played xs ++ played ys
-played_append [] ys = refl
-played_append (Played line input ∷ xs) ys = ap (λ (ns : List Numbered). record { line = line; input = input } ∷ ns) (played_append xs ys)
-played_append (Told line unit id deed ∷ xs) ys = played_append xs ys
-played_append (Idle line ∷ xs) ys = played_append xs ys
-
--- the line of the script at which an event begins, if one does
-pub record IsOpening (opening : List Moment) : Type 0 where
-  pub plays : (ms : List Moment) → played (opening ++ ms) ≡ played opening ++ played ms
-  pub one : length (played opening) ≤ 1
-
-pub opens_none : IsOpening []
-opens_none = record { plays = λ ms. refl; one = omega arith }
-
-pub opens_line : (line : ℕ) (input : Input) → IsOpening (Played line input ∷ [])
-opens_line line input = record { plays = λ ms. refl; one = omega arith }
+use Rattle.driver_laws.proofs.rules.Fronts.{played_append}
 
 -- WHERE A CALL BEGINS: behind moments that follow, with the packs that they leave.
 pub record Place (script : Script) (tables : ℕ → Option Table) (first : ℕ → Pack) (now : Stage) (opening : List Moment) : Type 0 where
@@ -62,11 +46,9 @@ pub record Place (script : Script) (tables : ℕ → Option Table) (first : ℕ 
   pub later : List Numbered
   pub rest : List Numbered
   pub follows : Follows (start_of script tables first) done
-  pub ended : IsEventOver (after_moments (start_of script tables first) done)
   pub behind : AreBehind script tables first now.held done
   pub inputs : inputs_of script ≡ played done ++ later
   pub opened : later ≡ played opening ++ rest
-  pub opens : IsOpening opening
   pub declared : AreDeclared (drives_of script) now.world
   pub shows : ShowsAll now.world (after_moments (start_of script tables first) done)
   pub reach : (ends : ℕ → ℕ) → AskBelow ends (drives_of script) (played done) → TablesBelow ends (drives_of script) tables → IsWithinReach ends first now.held now.world
@@ -79,11 +61,9 @@ unopened at = record {
   later = at.later;
   rest = at.later;
   follows = at.follows;
-  ended = at.ended;
   behind = at.behind;
   inputs = at.inputs;
   opened = refl;
-  opens = opens_none;
   declared = at.declared;
   shows = at.shows;
   reach = at.reach;
@@ -95,14 +75,9 @@ module _ {script : Script} {tables : ℕ → Option Table} {first : ℕ → Pack
       let behind : played (ctx.done ++ (opening ++ lines)) ≡ played ctx.done ++ played opening =
       played_append ctx.done (opening ++ lines)
       ∙ ap (λ (ns : List Numbered). played ctx.done ++ ns)
-      (ctx.opens.plays lines ∙ ap (λ (ns : List Numbered). played opening ++ ns) none ∙ append-nil (played opening)) in
+      (played_append opening lines ∙ ap (λ (ns : List Numbered). played opening ++ ns) none ∙ append-nil (played opening)) in
       ctx.inputs ∙ ap (λ (ns : List Numbered). played ctx.done ++ ns) ctx.opened ∙ sym (append_assoc (played ctx.done) (played opening) ctx.rest)
       ∙ ap (λ (ns : List Numbered). ns ++ ctx.rest) (sym behind)
-
-  one_line : (lines : List Moment) → played lines ≡ [] → length (played (opening ++ lines)) ≤ 1
-  one_line lines none =
-      subst (λ (ns : List Numbered). length ns ≤ 1)
-      (sym (ctx.opens.plays lines ∙ ap (λ (ns : List Numbered). played opening ++ ns) none ∙ append-nil (played opening))) ctx.opens.one
 
   -- WHAT LIES BEYOND all writes stays, where the packs are as they were, and behind the whole call.
   pub same_beyond : (left : ℕ → Pack) → left ≡ now.held → StaysBeyond script tables first left
@@ -128,32 +103,29 @@ module _ {script : Script} {tables : ℕ → Option Table} {first : ℕ → Pack
     (ctx : Place script tables first now opening) where
   -- A SINK FAILED in a call that told these lines.
   pub stops_by : (lines : List Moment) (new : Stage) → played lines ≡ [] → Follows (start_of script tables first) (ctx.done ++ (opening ++ lines))
-      → AreOfOneEvent (after_moments (start_of script tables first) ctx.done) (opening ++ lines)
       → IsCut script tables first ((ctx.done ++ opening) ++ lines) said taken new → StaysBeyond script tables first new.held
       → StopsAtSink script tables first new.held new.out_tells said new.out_took new.trace_tells taken new.trace_took
-  stops_by lines new none follows event cut beyond = record {
-    done = ctx.done;
-    under = opening ++ lines;
-    later = ctx.rest;
-    came = record { follows = follows; inputs = inputs_are ctx lines none; ended = ctx.ended; event = event; one = one_line ctx lines none };
-    sent = cut.sent;
-    late = cut.late;
-    same = cut.cut ∙ append_assoc ctx.done opening lines;
-    ahead = cut.ahead;
+  stops_by lines new none follows cut beyond = record {
+    reached = record {
+      sent = cut.sent;
+      late = cut.late;
+      came = subst (Came script tables first) (sym (cut.cut ∙ append_assoc ctx.done opening lines))
+          (record { later = ctx.rest; follows = follows; inputs = inputs_are ctx lines none });
+      ahead = cut.ahead;
+    };
     texts = cut.texts;
-    reach = beyond;
+    beyond = beyond;
   }
 
   -- The first acts of it were done.
   pub acts_stop : (writes : Bool) (acts : List Act) (new : Stage) (stops : StopsActs writes acts now new) → IsAhead script tables first (ctx.done ++ opening) said taken now
       → Follows (start_of script tables first) (ctx.done ++ (opening ++ lines_of_all now.world stops.done))
-      → AreOfOneEvent (after_moments (start_of script tables first) ctx.done) (opening ++ lines_of_all now.world stops.done)
       → (writes ≡ false → (new.held ≡ now.held) × WriteNothing (after_moments (start_of script tables first) (ctx.done ++ opening)) (lines_of_all now.world stops.done))
       → (writes ≡ true → SaysOneSector (lines_of_all now.world stops.done) × AreBehind script tables first new.held ((ctx.done ++ opening) ++ lines_of_all now.world stops.done))
       → StaysBeyond script tables first new.held
       → StopsAtSink script tables first new.held new.out_tells said new.out_took new.trace_tells taken new.trace_took
-  acts_stop writes acts new stops rule follows event quiet moves beyond =
-      stops_by (lines_of_all now.world stops.done) new (lines_play_nothing [] now.world stops.done) follows event
+  acts_stop writes acts new stops rule follows quiet moves beyond =
+      stops_by (lines_of_all now.world stops.done) new (lines_play_nothing [] now.world stops.done) follows
       (cut_more rule writes (now.said ++ stops.text) (now.taken ++ trace_text (lines_of_all now.world stops.done)) (lines_of_all now.world stops.done) new stops.passes quiet moves
       (λ tells. record {
         rest = stops.says.rest;
@@ -201,11 +173,8 @@ pub record EventContext (script : Script) (tables : ℕ → Option Table) (first
   pub sound : Sound now.world
   pub goes : (tried : Tried) → MayCome now.world input tried → IsReadOf now.world now.held input tried
       → Whole script tables first (packs_after_all now.world now.held (event_acts line input tried now.world)) (ctx.done ++ (opening ++ lines_of_all now.world (event_acts line input tried now.world)))
-  pub one : (tried : Tried) → MayCome now.world input tried → IsReadOf now.world now.held input tried
-      → AreOfOneEvent (after_moments (start_of script tables first) ctx.done) (opening ++ lines_of_all now.world (event_acts line input tried now.world))
   pub quiet : (tried : Tried) (acts rest : List Act) → event_acts line input tried now.world ≡ acts ++ rest → writes_by now.world input ≡ false
       → WriteNothing (after_moments (start_of script tables first) (ctx.done ++ opening)) (lines_of_all now.world acts)
-  pub move : (a : ℕ) → input ≡ says.MoveAt a → IsAtMove now.world (after_moments (start_of script tables first) ctx.done) ctx.later a
 
 module _ {script : Script} {tables : ℕ → Option Table} {first : ℕ → Pack} {said taken : List ℕ} {now : Stage} {opening : List Moment} {line : ℕ} {input : Input}
     (at : EventContext script tables first said taken now opening line input) (new : Stage) (told : IsTrue new.packs_tell) where
@@ -222,13 +191,12 @@ module _ {script : Script} {tables : ℕ → Option Table} {first : ℕ → Pack
       let may : MayCome now.world input e.tried × IsReadOf now.world now.held input e.tried = still_may input e.tried now.world now.held is there in
       acts_stop at.ctx (writes_by now.world input) acts new e.stops at.rule
       (front_follows at.ctx acts e.stops.done e.stops.left e.stops.all (at.goes e.tried may.0 may.1).follows)
-      (acts_front (after_moments (start_of script tables first) at.ctx.done) opening now.world acts e.stops.done e.stops.left e.stops.all (at.one e.tried may.0 may.1))
       (λ off. (same, at.quiet e.tried e.stops.done e.stops.left e.stops.all off)) (λ on. absurd (never_writes is on)) (same_beyond at.ctx new.held same)
 
   -- Nothing was done of a move.
   none_stops : is_move input ≡ true → (writes : Bool) → PassesAhead writes now.said now.taken now new → new.held ≡ now.held → Sink
   none_stops moves writes passes same =
-      stops_by (unopened at.ctx) [] new refl (subst (Follows (start_of script tables first)) (sym (append-nil at.ctx.done)) at.ctx.follows) tt
+      stops_by (unopened at.ctx) [] new refl (subst (Follows (start_of script tables first)) (sym (append-nil at.ctx.done)) at.ctx.follows)
       (subst (λ (ms : List Moment). IsCut script tables first ms said taken new)
       (sym (append-nil at.ctx.done) ∙ ap (λ (ms : List Moment). ms ++ []) (sym (append-nil at.ctx.done)))
       (nothing_more (at.before moves) writes new passes at.ctx.behind same).0)
@@ -256,7 +224,6 @@ module _ {script : Script} {tables : ℕ → Option Table} {first : ℕ → Pack
           let whole : Whole script tables first (packs_after_all now.world now.held acts) (at.ctx.done ++ (opening ++ lines_of_all now.world acts)) = at.goes e.tried may reads in
           acts_stop at.ctx (writes_by now.world input) acts new e.stops at.rule
           (front_follows at.ctx acts e.stops.done e.stops.left e.stops.all whole.follows)
-          (acts_front (after_moments (start_of script tables first) at.ctx.done) opening now.world acts e.stops.done e.stops.left e.stops.all (at.one e.tried may reads))
           (λ off. (e.leaves off told, at.quiet e.tried e.stops.done e.stops.left e.stops.all off))
           (λ on. (
             subst (λ (done : List Act). SaysOneSector (lines_of_all now.world done)) (sym all) (one_of line input e.tried now.world moves),
@@ -283,44 +250,34 @@ module _ {script : Script} {tables : ℕ → Option Table} {first : ℕ → Pack
   -- THE PACKS FAILED
   event_store : MoveFails input now new → StopsAtMove script tables first said taken new
   event_store e =
-      let moved : (a : ℕ) × (input ≡ says.MoveAt a) = move_is input e.move in
       let before : IsAhead script tables first at.ctx.done said taken now = at.before e.move in
-      let writes : writes_by now.world input ≡ writes_next now.world moved.0 = ap (λ (i : Input). writes_by now.world i) moved.1 in
-      let cut : (rule : IsCut script tables first at.ctx.done said taken (record new { held = now.held })) × (writes_by now.world input ≡ true → rule.late ≡ []) =
-      nothing_more before (writes_by now.world input) (record new { held = now.held }) (passes_held (writes_by now.world input) e.passes) at.ctx.behind refl in
+      let writes : Bool = writes_by now.world input in
+      let cut : (rule : IsCut script tables first at.ctx.done said taken (record new { held = now.held })) × (writes ≡ true → rule.late ≡ []) =
+      nothing_more before writes (record new { held = now.held }) (passes_held writes e.passes) at.ctx.behind refl in
       record {
         done = at.ctx.done;
-        later = at.ctx.later;
-        came = record {
-          follows = subst (Follows (start_of script tables first)) (sym (append-nil at.ctx.done)) at.ctx.follows;
-          inputs = at.ctx.inputs ∙ ap (λ (ms : List Moment). played ms ++ at.ctx.later) (sym (append-nil at.ctx.done));
-          ended = at.ctx.ended;
-          event = tt;
-          one = omega arith;
-        };
-        world = now.world;
-        sound = at.sound;
-        declared = at.ctx.declared;
-        shows = at.ctx.shows;
-        adapter = moved.0;
-        move = at.move moved.0 moved.1;
+        came = record { later = at.ctx.later; follows = at.ctx.follows; inputs = at.ctx.inputs };
         held = now.held;
         rule = record {
           at = cut.0;
-          out = λ t. e.out t ∙ before.out (still_said_by (writes_by now.world input) e.passes t);
-          trace = λ t. e.trace t ∙ before.trace (still_told_by (writes_by now.world input) e.passes t);
+          out = λ t. e.out t ∙ before.out (still_said_by writes e.passes t);
+          trace = λ t. e.trace t ∙ before.trace (still_told_by writes e.passes t);
         };
-        none_late = λ on. cut.1 (writes ∙ on);
-        packs = packs_by writes (e.packs told);
-        reach = λ ends below tables_below. left_stays ends first now.held new.held now.world at.sound
+        packs = torn cut.0.late cut.1 (e.packs told);
+        beyond = λ ends below tables_below. left_stays ends first now.held new.held now.world at.sound
             (at.ctx.reach ends (ask_parts ends (drives_of script) (played at.ctx.done) at.ctx.later (subst (AskBelow ends (drives_of script)) at.ctx.inputs below)).0 tables_below)
             (left_by (e.packs told));
       }
     where
-      packs_by : {b : Bool} → writes_by now.world input ≡ b → (new.held ≡ now.held) ⊎ ((writes_by now.world input ≡ true) × IsNextBlock now.world now.held new.held)
-          → (new.held ≡ now.held) ⊎ ((b ≡ true) × IsNextBlock now.world now.held new.held)
-      packs_by writes (inl same) = inl same
-      packs_by writes (inr next) = inr (sym writes ∙ next.0, next.1)
+      torn : (late : List Moment) → (writes_by now.world input ≡ true → late ≡ [])
+          → (new.held ≡ now.held) ⊎ ((writes_by now.world input ≡ true) × IsNextBlock now.world now.held new.held)
+          → (new.held ≡ now.held) ⊎ ((late ≡ []) × IsTorn (drives_of script) first now.held new.held (after_moments (start_of script tables first) at.ctx.done))
+      torn late none (inl same) = inl same
+      torn late none (inr next) = inr (
+        none next.0,
+        next_blocks_show (drives_of script) first now.held new.held (after_moments (start_of script tables first) at.ctx.done) now.world at.sound at.ctx.shows
+            at.ctx.declared at.ctx.behind.surface next.1,
+      )
 
       left_by : (new.held ≡ now.held) ⊎ ((writes_by now.world input ≡ true) × IsNextBlock now.world now.held new.held) → (new.held ≡ now.held) ⊎ IsNextBlock now.world now.held new.held
       left_by (inl same) = inl same

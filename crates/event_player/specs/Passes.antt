@@ -4,6 +4,5 @@ pub use Rattle.hp_driver.specs.UnitSetup.{UnitSetup}
 pub use Rattle.script_runs.specs.OneRun.{HasOneRun, IsTheRun}
 pub use Rattle.script_runs.specs.Steps.{AreSetFor, AreUnits, tables_in}
 pub use Rattle.script_runs.specs.Ahead.{AreBehind, SaysOneSector, WritesAhead}
-pub use Rattle.script_runs.specs.StopsPasses.{AskBelow, HasNext, NextBlocksShow, ShowsAll}
-pub use Rattle.hp_driver.specs.Moves.{writes_next}
-pub use Rattle.script_runs.specs.Stops.{CameTo, StopsAtSink, Took, took}
+pub use Rattle.script_runs.specs.StopsPasses.{AskBelow, IsTorn}
+pub use Rattle.script_runs.specs.Stops.{Came, Reached, StopsAtSink, Took, took}

@@ -14,17 +14,14 @@ use Rattle.driver_machine.specs.Acts.{Act, Tried}
 use Rattle.driver_machine.specs.Lines.{lines_of_all}
 use Rattle.driver_machine.specs.Events.{refusal_of, submit_acts, event_acts}
 use Rattle.driver_machine.specs.Guards.{IsHeldFor}
-use Rattle.driver_machine.specs.Sound.{Sound}
 use Rattle.driver_machine.specs.Runs.{Run, MaySubmit}
 use Rattle.driver_laws.specs.answers.Outcome.{IsFront, IsNextBlock}
 use Rattle.driver_laws.specs.answers.Packs.{ReadAll, packs_after_all}
-use Rattle.script_runs.specs.StopsPasses.{AreDeclared}
 use Rattle.script_runs.specs.StopsPasses.{AllFlip}
-use Rattle.script_runs.specs.StopsPasses.{ShowsAll}
 use Rattle.trace_lines.specs.answers.AnswerText.{out_text}
 use Rattle.hp_driver.specs.Subsystem.{is_move, writes_by}
-use Rattle.hp_driver.specs.Moves.{writes_next}
-use Rattle.script_runs.specs.Stops.{CameTo, StaysBeyond, IsAtMove, Took, StopsAtSink, StopsAtStore}
+use Rattle.script_runs.specs.StopsPasses.{IsTorn}
+use Rattle.script_runs.specs.Stops.{Came, StaysBeyond, Took, StopsAtSink, StopsAtStore}
 use Rattle.script_runs.specs.declared.fault.PlayFault.{PlayFault}
 use Rattle.script_runs.specs.declared.fault.PlayFault.TheVariants as faults
 use Rattle.script_runs.specs.Stops.{IsUnplayed}
@@ -85,19 +82,11 @@ SubmissionStops line r fault old new = ⊥
 -- A RUN THAT STOPPED AT THE PACKS, before the rest of its text is sent
 pub record StopsAtMove (script : Script) (tables : ℕ → Option Table) (first : ℕ → Pack) (said taken : List ℕ) (now : Stage) : Type 0 where
   pub done : List Moment
-  pub later : List Numbered
-  pub came : CameTo script tables first done [] later
-  pub world : World
-  pub sound : Sound world
-  pub declared : AreDeclared (drives_of script) world
-  pub shows : ShowsAll world (after_moments (start_of script tables first) done)
-  pub adapter : ℕ
-  pub move : IsAtMove world (after_moments (start_of script tables first) done) later adapter
+  pub came : Came script tables first done
   pub held : ℕ → Pack
   pub rule : IsAhead script tables first done said taken (record now { held = held })
-  pub none_late : writes_next world adapter ≡ true → rule.at.late ≡ []
-  pub packs : (now.held ≡ held) ⊎ ((writes_next world adapter ≡ true) × IsNextBlock world held now.held)
-  pub reach : StaysBeyond script tables first now.held
+  pub packs : (now.held ≡ held) ⊎ ((rule.at.late ≡ []) × IsTorn (drives_of script) first held now.held (after_moments (start_of script tables first) done))
+  pub beyond : StaysBeyond script tables first now.held
 
 abbrev pub StopsAt : PlayFault → Script → (ℕ → Option Table) → (first : ℕ → Pack) → (said taken : List ℕ) → Stage → Type 0
 StopsAt faults.Store script tables first said taken now = StopsAtMove script tables first said taken now

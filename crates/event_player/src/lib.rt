@@ -27,4 +27,3 @@ mod player;
 
 pub use hp_driver::UnitSetup;
 pub use script_reader::{ReadFault, Script, ScriptKind, read_script};
-pub use script_runs::stops::next_block_law;

@@ -23,17 +23,3 @@ module _ (w : World) (line u id : ℕ) (sound : Sound w) (lt : u < 32) where
   attention_free taken = λ needs. absurd (false_true (sym (ap (λ (v : UnitView). needs_free v.phase)
       (own_unit w u (slot_in_hand (unit_at w u)) (effect line u (slot_in_hand (unit_at w u)) (Attn taken) (scene_of w u))
       (subst (λ (n : ℕ). u < n) (sym sound.units) lt))) ∙ needs))
-
--- between two events no unit may have a command without a choice
-none_needs : (phase : Phase) (v : UnitView) → WorkOf phase v.queue → needs_free phase ≡ true → ⊥
-none_needs (Due task) v works needs = works
-none_needs other v works needs = false_true needs
-
-pub work_free : (w : World) (u : ℕ) → AtWork w → u < 32 → IsFree w u
-work_free w u work lt = λ needs. absurd (none_needs (unit_at w u).phase (unit_at w u) (work.units u lt) needs)
-
--- and a request that joins changes nothing of it
-pub join_free : (w : World) (line p : ℕ) (h : Held) → Sound w → h.unit < 32 → IsFree w h.unit → IsFree (after w (Submit line p h)) h.unit
-join_free w line p h sound lt free = λ needs. free
-    (sym (ap (λ (v : UnitView). needs_free v.phase)
-    (get_or-set_same w.units h.unit (joined p h (unit_at w h.unit)) no_unit (subst (λ (n : ℕ). h.unit < n) (sym sound.units) lt))) ∙ needs)

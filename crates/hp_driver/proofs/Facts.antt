@@ -26,43 +26,6 @@ use Rattle.hp_driver.specs.Hand.{hand_at}
 pub unit_there : (w : World) (u : ℕ) → Sound w → u < 32 → u < length w.units
 unit_there w u sound lt = subst (λ (n : ℕ). u < n) (sym sound.units) lt
 
--- how many steps a retry has
-offset_few : (code : Option OffsetCode) → length (offset_steps code) ≤ 1
-offset_few None = omega arith
-offset_few (Some code) = omega arith
-
-seek_few : (b : Bool) (cylinder : ℕ) (left : List RetryStep) → length left ≤ 1 → length (if b then left else Seek cylinder ∷ left) ≤ 2
-seek_few true cylinder left few = omega (arith, few)
-seek_few false cylinder left few = omega (arith, few)
-
-more : (step : RetryStep) (left : List RetryStep) → length left ≤ 2 → length (step ∷ left) ≤ 3
-more step left few = omega (arith, few)
-
-one_three : (n : ℕ) → n ≤ 1 → n ≤ 3
-one_three n few = omega (arith, few)
-
-steps_few : (cylinder : ℕ) (step : Step) → length (steps_for cylinder step) ≤ 3
-steps_few cylinder (retry.Offset code) = one_three _ (offset_few (Some code))
-steps_few cylinder (retry.Recalibrate code) =
-    more Recalibrate (seek_steps cylinder (offset_steps code)) (seek_few (cylinder == 0) cylinder (offset_steps code) (offset_few code))
-steps_few cylinder other = omega arith
-
--- how far a segment came when it ended
-ended_most : (last : Moved) (moved count : ℕ) → IsEndedAt last moved count → moved ≤ count
-ended_most verdict.Clean moved count is = is.1
-ended_most (verdict.Burst at pattern) moved count is = less moved count is
-  where
-    less : (moved count : ℕ) → moved < count → moved ≤ count
-    less moved count lt = omega (arith, lt)
-ended_most other moved count is = less moved count is
-  where
-    less : (moved count : ℕ) → moved < count → moved ≤ count
-    less moved count lt = omega (arith, lt)
-
-segment_most : (index : Option ℕ) (job : Job) (done : ℕ) → done < job.count → job.count ≤ 127 → (segment_by index job done).count ≤ 127
-segment_most None job done left few = omega (arith, left, few)
-segment_most (Some i) job done left few = omega arith
-
 module _ (w : World) (u id : ℕ) (sound : Sound w) (hand : InHand w u id) where
   ok : SceneOk u (scene_of w u)
   ok = scene_ok w u id sound hand
@@ -77,40 +40,5 @@ module _ (w : World) (u id : ℕ) (sound : Sound w) (hand : InHand w u id) where
       less first count limit some inside = omega (arith, some, inside)
 
   -- behind some steps of a retry
-  steps_is : (taken : ℕ) → (unit_at w u).phase ≡ Due (Steps taken) → IsTask (unit_at w u) (hand_at w u) (Steps taken)
-  steps_is taken phase = phase_is u (scene_of w u) (Due (Steps taken)) ok phase
-
-  pub steps_kind : (taken : ℕ) → (unit_at w u).phase ≡ Due (Steps taken) → (transfer_of (unit_at w u)).job.kind ≡ (unit_at w u).drive.kind
-  steps_kind taken phase = ap (λ (j : Job). j.kind) (steps_is taken phase).0.job
-
-  pub steps_write : (taken : ℕ) → (unit_at w u).phase ≡ Due (Steps taken) → (transfer_of (unit_at w u)).job.write ≡ (hand_at w u).write
-  steps_write taken phase = ap (λ (j : Job). j.write) (steps_is taken phase).0.job
-
-  pub steps_small : (taken : ℕ) → (unit_at w u).phase ≡ Due (Steps taken) → taken ≤ 3
-  steps_small taken phase = most _ _ (steps_is taken phase).2 (steps_few _ _)
-    where
-      most : (taken all : ℕ) → taken ≤ all → all ≤ 3 → taken ≤ 3
-      most taken all less few = omega (arith, less, few)
 
   -- behind a verdict
-  judge_is : (moved : ℕ) (last : Moved) → (unit_at w u).phase ≡ Due (Judge moved last) → IsTask (unit_at w u) (hand_at w u) (Judge moved last)
-  judge_is moved last phase = phase_is u (scene_of w u) (Due (Judge moved last)) ok phase
-
-  pub done_small : (moved : ℕ) (last : Moved) → (unit_at w u).phase ≡ Due (Judge moved last) → (transfer_of (unit_at w u)).done + moved ≤ 254
-  done_small moved last phase =
-      let is = judge_is moved last phase in
-      let job = is.0.is.is_job in
-      let most = segment_most (transfer_of (unit_at w u)).index (transfer_of (unit_at w u)).job (transfer_of (unit_at w u)).done is.0.is.left job.few in
-      few _ _ _ _ is.0.is.left job.few (ended_most last moved _ is.2) most
-    where
-      few : (done count moved all : ℕ) → done < count → count ≤ 127 → moved ≤ all → all ≤ 127 → done + moved ≤ 254
-      few done count moved all left small less most = omega (arith, left, small, less, most)
-
-  pub judge_begun : (moved : ℕ) (last : Moved) → (unit_at w u).phase ≡ Due (Judge moved last) → (unit_at w u).transfer ≡ Some (transfer_of (unit_at w u))
-  judge_begun moved last phase = (judge_is moved last phase).0.some
-
-  pub judge_kind : (moved : ℕ) (last : Moved) → (unit_at w u).phase ≡ Due (Judge moved last) → (transfer_of (unit_at w u)).job.kind ≡ (unit_at w u).drive.kind
-  judge_kind moved last phase = ap (λ (j : Job). j.kind) (judge_is moved last phase).0.job
-
-  pub marked_less : (moved : ℕ) → (unit_at w u).phase ≡ Due (Judge moved verdict.Marked) → moved < (segment_of (transfer_of (unit_at w u))).count
-  marked_less moved phase = (judge_is moved verdict.Marked phase).2

@@ -17,7 +17,6 @@ pub mod Facts
 pub mod Begins
 pub mod Whole
 pub mod Going
-pub mod Lowest
 pub mod Parts
 pub mod Attends
 pub mod Exits

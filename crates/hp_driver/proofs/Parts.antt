@@ -111,10 +111,6 @@ module _ (w : World) (a u : ℕ) (sound : Sound w) (busy : (adapter_at w a).stat
       ∙ ap (λ (x : ℕ). in_hand line x (deed.Sector (next_block (adapter_at w a).state) tried) w) is
       ∙ sym (ap (λ (b : Bool). or_nothing b line (in_hand line (unit_of w a) (deed.Sector (next_block (adapter_at w a).state) tried)) w) can)
 
-pub no_interrupt : (w : World) (line a : ℕ) → (adapter_at w a).state.completion ≡ false → [] ≡ data_interrupt line a w
-no_interrupt w line a up =
-    sym (ap (λ (b : Bool). when_by b (begun line (unit_of w a) (deed.Intr (adapter_at w a).state.moved (adapter_at w a).state.verdict)) w) up)
-
 pub can_move_is : (w : World) (a : ℕ) → can_move (adapter_at w a) ≡ true → ((adapter_at w a).state.busy ≡ true) × ((adapter_at w a).state.completion ≡ false)
 can_move_is w a can = both (adapter_at w a).state.busy (adapter_at w a).state.completion can
   where
@@ -156,10 +152,6 @@ pub attends : (w : World) (line a k : ℕ) → (unit_at w (unit_on a k)).drive.a
 attends w line a k up =
     sym (ap (λ (b : Bool). when_by b (begun line (unit_on a k) (deed.Attn (steps_taken (unit_at w (unit_on a k)).phase))) w) up)
 
-pub no_attention : (w : World) (line a k : ℕ) → (unit_at w (unit_on a k)).drive.attention ≡ false → [] ≡ attention line a k w
-no_attention w line a k up =
-    sym (ap (λ (b : Bool). when_by b (begun line (unit_on a k) (deed.Attn (steps_taken (unit_at w (unit_on a k)).phase))) w) up)
-
 pub unit_less : (a k : ℕ) → a < 4 → k < 8 → unit_on a k < 32
 unit_less a k four eight = omega (arith, four, eight)
 
@@ -169,14 +161,6 @@ pending w line a can = sym (ap (λ (b : Bool). or_nothing b line (attended line 
 
 pub none_pending : (w : World) (line a : ℕ) → can_attend (adapter_at w a) ≡ false → Nothing line ∷ [] ≡ attend_acts line a w
 none_pending w line a can = sym (ap (λ (b : Bool). or_nothing b line (attended line a) w) can)
-
--- THE CHOICE of a unit
-pub busy_chooses_none : (w : World) (line a : ℕ) → (adapter_at w a).state.busy ≡ true → [] ≡ choose_acts line a w
-busy_chooses_none w line a busy = sym (ap (λ (b : Bool). choose_by b (adapter_at w a).queue line w) busy)
-
-pub none_waits : (w : World) (line a : ℕ) → (adapter_at w a).state.busy ≡ false → (adapter_at w a).queue ≡ [] → [] ≡ choose_acts line a w
-none_waits w line a busy none =
-    sym (ap (λ (b : Bool). choose_by b (adapter_at w a).queue line w) busy ∙ ap (λ (l : List ℕ). choose_by false l line w) none)
 
 pub chooses : (w : World) (line a u : ℕ) (rest : List ℕ) → (adapter_at w a).state.busy ≡ false → (adapter_at w a).queue ≡ u ∷ rest
     → begun line u (command_of (unit_at w u) (held_in w (slot_in_hand (unit_at w u)))) w ≡ choose_acts line a w

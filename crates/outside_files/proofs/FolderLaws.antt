@@ -136,13 +136,6 @@ pack_twice packs unit a b = fun_ext (λ other. at_other (other == unit) (packs o
     at_other true pack = refl
     at_other false pack = refl
 
-pack_again : (packs : ℕ → Pack) (unit : ℕ) → with_pack packs unit (packs unit) ≡ packs
-pack_again packs unit = fun_ext (λ other. at_other other (other == unit) refl)
-  where
-    at_other : (other : ℕ) (is : Bool) → (other == unit) ≡ is → (if is then packs unit else packs other) ≡ packs other
-    at_other other true e = ap packs (sym (eqb-true other unit e))
-    at_other other false e = refl
-
 file_twice : (pack : Pack) (part : Part) (a b : List ℕ) → with_file (with_file pack part a) part b ≡ with_file pack part b
 file_twice pack Image a b = refl
 file_twice pack Marks a b = refl
@@ -150,14 +143,6 @@ file_twice pack Marks a b = refl
 file_put : (pack : Pack) (part : Part) (a : List ℕ) → file_of (with_file pack part a) part ≡ a
 file_put pack Image a = refl
 file_put pack Marks a = refl
-
-file_again : (pack : Pack) (part : Part) → with_file pack part (file_of pack part) ≡ pack
-file_again pack Image = refl
-file_again pack Marks = refl
-
--- nothing was put yet
-pub put_none : (packs : ℕ → Pack) (unit : ℕ) (part : Part) (at : ℕ) → packs ≡ with_put packs unit part at []
-put_none packs unit part at = sym (ap (λ (pack : Pack). with_pack packs unit pack) (file_again (packs unit) part) ∙ pack_again packs unit)
 
 put_more_here : (packs : ℕ → Pack) (unit : ℕ) (part : Part) (at n : ℕ) (xs ys : List ℕ) (mid : Pack) → length xs ≡ n
     → mid ≡ with_file (packs unit) part (put_at at xs (file_of (packs unit) part))

@@ -58,17 +58,6 @@ fronts_join before middle after text held more e f g =
 pub rose_more : (old middle new : ℕ) → old ≤ middle → Rose middle new → Rose old new
 rose_more old middle new l r = omega (arith, l, r)
 
--- after nothing was done, the empty text was put
-pub gathers_nothing : {O T E : Type 0} (tells : O → Bool) (taken : O → List ℕ) (faults : O → ℕ) (sink : O) (kept : List ℕ) (value : T)
-    → Gathers {E = E} tells taken faults sink sink kept kept (Ok value) []
-gathers_nothing tells taken faults sink kept value = record {
-  never_again = λ t. t;
-  front = λ t. (0, sym (append-nil (taken sink)));
-  bytes = λ t. ap (λ (l : List ℕ). taken sink ++ l) (sym (append-nil kept));
-  none_kept = tt;
-  cause = record { later = omega arith; failed = tt };
-}
-
 -- two texts one after another
 pub gathers_join : {O T E U F : Type 0} (tells : O → Bool) (taken : O → List ℕ) (faults : O → ℕ) (old middle new : O) (kept held left : List ℕ) (first : Result T E) (second : Result U F) (x y : List ℕ)
     → IsOk first → Gathers tells taken faults old middle kept held first x → Gathers tells taken faults middle new held left second y
@@ -161,14 +150,3 @@ pub put_behind : {O T E U F : Type 0} (tells : O → Bool) (taken : O → List �
 put_behind tells taken faults old middle new kept held left first value second text ok none a b =
     gathers_join tells taken faults old middle new kept [] left (Ok value) second [] text refl
     (subst (λ (r : Result _ _). Gathers tells taken faults old middle kept [] r []) ok (subst (λ (l : List ℕ). Gathers tells taken faults old middle kept l first []) none a)) b
-
--- a text was kept
-pub kept_only : {O T E : Type 0} (tells : O → Bool) (taken : O → List ℕ) (faults : O → ℕ) (sink : O) (kept left text : List ℕ) (value : T)
-    → left ≡ kept ++ text → Gathers {E = E} tells taken faults sink sink kept left (Ok value) text
-kept_only tells taken faults sink kept left text value e = record {
-  never_again = λ t. t;
-  front = λ t. (0, sym (append-nil (taken sink)));
-  bytes = λ t. ap (λ (l : List ℕ). taken sink ++ l) e;
-  none_kept = tt;
-  cause = record { later = omega arith; failed = tt };
-}

@@ -250,13 +250,6 @@ module _ {kind : DriveKind} {unit serial : ℕ} {tells : Bool} {old new : ℕ �
     unchanged = λ e. absurd (omega (arith, e));
   }
 
--- a text was taken whole, or a front of it
-pub told_all : (taken after text line bytes : List ℕ) → bytes ≡ line → line ≡ text → after ≡ taken ++ bytes → after ≡ taken ++ text
-told_all taken after text line_text bytes_text bytes line all = all ∙ ap (λ (xs : List ℕ). taken ++ xs) (bytes ∙ line)
-
-pub told_front : (taken after text line bytes : List ℕ) → bytes ≡ line → line ≡ text → TakesFront taken after bytes → TakesFront taken after text
-told_front taken after text line_text bytes_text bytes line front = subst (λ (xs : List ℕ). TakesFront taken after xs) (bytes ∙ line) front
-
 -- `bad144 mark` answered a fault
 module _ {kind : DriveKind} {unit : ℕ} {tells : Bool} {old new : ℕ → Pack} {out_tells : Bool} {taken after : List ℕ} {faults faults_after : ℕ} where
   pub mark_fault : (f : ToolFault) → IsMarkFault kind f → (IsTrue tells → IsWhy kind (old unit) 0 f) → (IsTrue tells → LeavesMarks kind unit old new f)

@@ -219,16 +219,6 @@ survey_refused kind serial pack block number table fault survey lt few why =
 
 -- ---- the first marked replacement
 
-pub first_none : (kind : DriveKind) (pack : Pack) → IsFirst kind pack 0 None
-first_none kind pack i lt = absurd (omega (arith, lt))
-
-pub first_later : (kind : DriveKind) (pack : Pack) (i : ℕ) → IsFirst kind pack i None → is_marked pack (replacement_at kind i) ≡ false → IsFirst kind pack (i + 1) None
-first_later kind pack i first unmarked j lt =
-    elim (cases_lt j i) [
-      | inl less ↦ first j less
-      | inr same ↦ let e : j ≡ i = omega (arith, lt, same) in ap (λ (n : ℕ). is_marked pack (replacement_at kind n)) e ∙ unmarked
-    ]
-
 -- ---- the copies
 
 pub all_none : (kind : DriveKind) (pack : Pack) → all_marked kind pack 0 ≡ true
@@ -274,36 +264,10 @@ no_used kind pack number index (Some i) few first none lt = first.1 index (by (n
         clash h = cc
     by false is e = let no : number ≤ i = grind (arith, nat_tests) in omega (arith, no, lt)
 
-used_some : (kind : DriveKind) (pack : Pack) (number index : ℕ) (spare : Option ℕ) → IsFirst kind pack 126 spare → used_of number spare ≡ Some index
-    → (index < number) × (is_marked pack (replacement_at kind index) ≡ true) × ((i : ℕ) → i < index → is_marked pack (replacement_at kind i) ≡ false)
-used_some kind pack number index None first is = absurd (clash is)
-  where
-    clash : None ≡ Some index → ⊥
-    clash h = cc
-used_some kind pack number index (Some i) first is = by (nat_lt i number) refl is
-  where
-    by : (b : Bool) → nat_lt i number ≡ b → (if b then Some i else None) ≡ Some index
-        → (index < number) × (is_marked pack (replacement_at kind index) ≡ true) × ((j : ℕ) → j < index → is_marked pack (replacement_at kind j) ≡ false)
-    by true t e =
-        let same : i ≡ index = cc in
-        let less : i < number = grind (arith, nat_tests) in
-        (omega (arith, same, less), ap (λ (n : ℕ). is_marked pack (replacement_at kind n)) (sym same) ∙ first.0, λ j lt. first.1 j (omega (arith, lt, same)))
-    by false t e = absurd (clash e)
-      where
-        clash : None ≡ Some index → ⊥
-        clash h = cc
-
 module _ (kind : DriveKind) (pack : Pack) (number : ℕ) (spare : Option ℕ) (no_copy : Bool) (judged : IsJudged kind pack number spare no_copy) where
-  pub too_many : 126 < number → IsWhy kind pack (TooMany number)
-  too_many over = (judged.fits, omega (arith, over, judged.counted), judged.counted)
 
   few_found : number ≤ 126 → IsTooMany kind pack → ⊥
   few_found few many = omega (arith, few, many, judged.counted)
-
-  pub is_spare : (index : ℕ) → number ≤ 126 → used_of number spare ≡ Some index → IsWhy kind pack (Spare index)
-  is_spare index few is =
-      let u = used_some kind pack number index spare judged.first is in
-      (judged.fits, few_found few, record { used = omega (arith, u.0, judged.counted); marked = u.1; first = u.2 })
 
   none_spare : number ≤ 126 → used_of number spare ≡ None → (index : ℕ) → IsSpare kind pack index → ⊥
   none_spare few none index is =

@@ -9,15 +9,11 @@ use Rattle.pack_geometry.specs.Geometry.{block_count}
 use Rattle.pack_geometry.specs.TableSpelling.{Table}
 use Rattle.trace_replay.specs.requests.Requests.{first_block}
 use Rattle.trace_replay.specs.Moments.{Told}
-use Rattle.trace_replay.specs.Replay.{after_moments}
-use Rattle.trace_replay.specs.Runs.{start_of}
 use Rattle.trace_replay.specs.Script as says
 use Rattle.trace_replay.specs.Script.{Input, Numbered, drives_of, inputs_of}
 use Rattle.driver_laws.specs.rules.Drains.{event_by}
 use Rattle.driver_laws.specs.shown.Reach.{AsksBelow, AskBelow, TablesBelow}
-use Rattle.script_runs.specs.Stops.{AreOfOneEvent}
-use Rattle.event_player.proofs.OneEvent.{over_at_last}
-use Rattle.promise_rows.specs.Naming.{LaterUnitNamed, FittingLengthNamed, FirstEventUntold, OtherRunByOtherTables, NoneWrites, WritesTo, ReadsLengthen, TwoLinesUnderWay, TwoEventsUnderWay, MarkGoneBehindAFailure, NotAsLongAsWritten}
+use Rattle.promise_rows.specs.Naming.{LaterUnitNamed, FittingLengthNamed, FirstEventUntold, OtherRunByOtherTables, NoneWrites, WritesTo, ReadsLengthen, MarkGoneBehindAFailure, NotAsLongAsWritten}
 
 pub later_unit_named : LaterUnitNamed
 later_unit_named script packs unit n named other kind there more =
@@ -124,16 +120,6 @@ reads_lengthen script old new out_tells said said' trace_tells taken taken' play
 
 pub not_as_long_as_written : NotAsLongAsWritten
 not_as_long_as_written script old new out_tells said said' trace_tells taken taken' plays unit other = other (plays.long unit)
-
-pub two_lines_under_way : TwoLinesUnderWay
-two_lines_under_way script tables first left out_tells said said' trace_tells taken taken' stops two =
-    let one = stops.came.one in
-    omega (arith, one, two)
-
-pub two_events_under_way : TwoEventsUnderWay
-two_events_under_way script tables first left out_tells said said' trace_tells taken taken' stops front back m n is over =
-    over_at_last (after_moments (start_of script tables first) stops.done) front back m n
-    (subst (AreOfOneEvent (after_moments (start_of script tables first) stops.done)) is stops.came.event) over
 
 pub mark_gone_behind_a_failure : MarkGoneBehindAFailure
 mark_gone_behind_a_failure script first left out trace stops keeps unit other = other ((keeps stops).2.taken.hold.marks unit)

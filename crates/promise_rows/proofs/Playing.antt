@@ -89,7 +89,7 @@ block_of_no_unit left left_after old new out_tells said said' trace_tells taken 
 
 pub block_behind_a_stop : BlockBehindAStop
 block_behind_a_stop script tables first left out_tells said said' trace_tells taken taken' stops unit none other =
-    other (stops.ahead.packs.surface.others unit none)
+    other (stops.reached.ahead.packs.surface.others unit none)
 
 -- A LINE OF NOISE is text.
 noise_said : (line : ℕ) (noise : LiveNoise) (before after : List Moment) → out_text (before ++ Played line (Noise noise) ∷ after) ≡ [] → ⊥

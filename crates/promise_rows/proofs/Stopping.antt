@@ -88,5 +88,5 @@ text_dropped script tables first left out trace stops calm tells other = other (
 
 pub text_sent_twice : TextSentTwice
 text_sent_twice script tables first left out trace stops calm tells some twice =
-    let text : List ℕ = trace_text stops.done in
+    let text : List ℕ = trace_text (stops.reached.sent ++ stops.reached.late) in
     some (nothing_more text text (append_cancel_left trace.before text (text ++ text) (sym (stops.lines.whole calm tells) ∙ twice)))

@@ -14,7 +14,7 @@ use Rattle.driver_laws.specs.shown.Lengths.{length_behind}
 use Rattle.script_runs.specs.declared.fault.PlayFault.TheVariants as faults
 use Rattle.event_player.specs.Plays.{Plays}
 use Rattle.script_runs.specs.Lengths.{NamesTooLong}
-use Rattle.script_runs.specs.Stops.{IsEventOver, Took, StopsAtSink}
+use Rattle.script_runs.specs.Stops.{Took}
 use Rattle.event_player.specs.Stops.{StopsPlaying}
 use Rattle.hpsim_run.specs.SoFar.{Keeps}
 
@@ -57,17 +57,6 @@ abbrev pub NotAsLongAsWritten : Type 0
 NotAsLongAsWritten = (script : Script) (old new : ℕ → Pack) (out_tells : Bool) (said said' : List ℕ) (trace_tells : Bool) (taken taken' : List ℕ)
     → (plays : Plays script old new out_tells said said' trace_tells taken taken') → (unit : ℕ)
     → ¬ (length (new unit).image ≢ length_behind (start_of script plays.tables old) plays.moments unit (length (old unit).image))
-
--- TWO LINES OF THE SCRIPT UNDER WAY, where a sink failed
-abbrev pub TwoLinesUnderWay : Type 0
-TwoLinesUnderWay = (script : Script) (tables : ℕ → Option Table) (first left : ℕ → Pack) (out_tells : Bool) (said said' : List ℕ) (trace_tells : Bool) (taken taken' : List ℕ)
-    → (stops : StopsAtSink script tables first left out_tells said said' trace_tells taken taken') → ¬ (2 ≤ length (played stops.under))
-
--- TWO EVENTS UNDER WAY, where a sink failed: one of them is over, and a moment of another one stands behind it.
-abbrev pub TwoEventsUnderWay : Type 0
-TwoEventsUnderWay = (script : Script) (tables : ℕ → Option Table) (first left : ℕ → Pack) (out_tells : Bool) (said said' : List ℕ) (trace_tells : Bool) (taken taken' : List ℕ)
-    → (stops : StopsAtSink script tables first left out_tells said said' trace_tells taken taken') → (front back : List Moment) (m n : Moment) → stops.under ≡ front ++ m ∷ n ∷ back
-    → ¬ IsEventOver (after_moments (after_moments (start_of script tables first) stops.done) (front ++ m ∷ []))
 
 -- A MARK GONE BEHIND A FAILURE: the packs failed, and in what is left a mark is another one.
 abbrev pub MarkGoneBehindAFailure : Type 0

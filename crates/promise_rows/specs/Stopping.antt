@@ -30,10 +30,10 @@ TwoBlocksAhead = (script : Script) (tables : ℕ → Option Table) (first held :
 -- TEXT DROPPED: the packs failed and the trace did not, and it lacks a line of what was done,
 abbrev pub TextDropped : Type 0
 TextDropped = (script : Script) (tables : ℕ → Option Table) (first left : ℕ → Pack) (out trace : Took) → (stops : StopsAtStore script tables first left out trace)
-    → ¬ (Rose trace.faults trace.faults_after) → IsTrue trace.tells → ¬ (trace.after ≢ trace.before ++ trace_text stops.done)
+    → ¬ (Rose trace.faults trace.faults_after) → IsTrue trace.tells → ¬ (trace.after ≢ trace.before ++ trace_text (stops.reached.sent ++ stops.reached.late))
 
 -- OR SENT TWICE.
 abbrev pub TextSentTwice : Type 0
 TextSentTwice = (script : Script) (tables : ℕ → Option Table) (first left : ℕ → Pack) (out trace : Took) → (stops : StopsAtStore script tables first left out trace)
-    → ¬ (Rose trace.faults trace.faults_after) → IsTrue trace.tells → trace_text stops.done ≢ []
-    → ¬ (trace.after ≡ trace.before ++ (trace_text stops.done ++ trace_text stops.done))
+    → ¬ (Rose trace.faults trace.faults_after) → IsTrue trace.tells → trace_text (stops.reached.sent ++ stops.reached.late) ≢ []
+    → ¬ (trace.after ≡ trace.before ++ (trace_text (stops.reached.sent ++ stops.reached.late) ++ trace_text (stops.reached.sent ++ stops.reached.late)))

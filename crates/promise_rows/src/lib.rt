@@ -8,7 +8,7 @@ pub mod packs;
 pub mod transfers;
 
 ghost use Rattle.promise_rows.specs.Playing.{AlwaysAFault, AnswersKeptBack, BlockBeforeItsEvent, BlockBehindAStop, BlockOfNoUnit, NoiseLineUncounted, ShortLastBlockWhole};
-ghost use Rattle.promise_rows.specs.Naming.{LaterUnitNamed, FittingLengthNamed, FirstEventUntold, OtherRunByOtherTables, ReadsLengthen, NotAsLongAsWritten, TwoLinesUnderWay, TwoEventsUnderWay, MarkGoneBehindAFailure};
+ghost use Rattle.promise_rows.specs.Naming.{LaterUnitNamed, FittingLengthNamed, FirstEventUntold, OtherRunByOtherTables, ReadsLengthen, NotAsLongAsWritten, MarkGoneBehindAFailure};
 ghost use Rattle.promise_rows.specs.Stopping.{AnswerBeforeItsLine, TextDropped, TextSentTwice, TwoBlocksAhead};
 ghost use Rattle.promise_rows.specs.Strikes.{FailedByFewStrikes};
 ghost use Rattle.promise_rows.specs.Headers.{HeadersAreAsTheDriveHasThem};
@@ -51,8 +51,6 @@ pub fn naming_rows()
     ensures other_run_by_other_tables { OtherRunByOtherTables }
     ensures reads_lengthen { ReadsLengthen }
     ensures not_as_long_as_written { NotAsLongAsWritten }
-    ensures two_lines_under_way { TwoLinesUnderWay }
-    ensures two_events_under_way { TwoEventsUnderWay }
     ensures mark_gone_behind_a_failure { MarkGoneBehindAFailure }
 {}
 

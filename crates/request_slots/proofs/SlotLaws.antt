@@ -54,11 +54,6 @@ none_in m slots {seen} p view none =
 pub within : (m : Memory) (slots : List (Option Slot)) {seen : List (Option Held)} (p : ℕ) → as_seen m slots ≡ seen → p < length seen → p < length slots
 within m slots {seen} p view inside = omega (arith, ap length view, length-map slots (option_map (held_of m)))
 
--- a slot that is found after one was changed is the new one, or was there before
-by_test : (b : Bool) {X : Type 0} → (b ≡ true → X) → (b ≡ false → X) → X
-by_test true on off = on refl
-by_test false on off = off refl
-
 pub slot_cases : (slots : List (Option Slot)) (p q : ℕ) (o : Option Slot) (found : Slot) {X : Type 0} → slot_in (set slots p o) q ≡ Some found
     → (q ≡ p → o ≡ Some found → X) → (q ≢ p → slot_in slots q ≡ Some found → X) → X
 slot_cases [] p q o found at here there = absurd (none-some found at)
@@ -220,14 +215,6 @@ kept-replicate m n sound all few = record {
   apart = λ p q slot other ne at there. absurd (slot_in-replicate n p slot at);
   counted = omega (arith, frames_lent-replicate m n, all);
 }
-
--- a request stands in each slot where one is in each
-pub all_taken : (m : Memory) (slots items : List (Option Slot)) (seen : List (Option Held)) → as_seen m slots ≡ seen → items ≡ slots
-    → ((p : ℕ) → p < length items → IsSome (slot_in items p)) → (p : ℕ) → p < length seen → IsSome (slot_at seen p)
-all_taken m slots items seen view same taken p inside =
-    let size : length seen ≡ length items = sym (ap length view) ∙ length-map slots (option_map (held_of m)) ∙ sym (ap length same) in
-    sym (is_some-as_seen m slots p ∙ ap (λ (ps : List (Option Held)). is_some (slot_at ps p)) view)
-    ∙ sym (ap (λ (xs : List (Option Slot)). is_some (slot_in xs p)) same) ∙ taken p (omega arith)
 
 -- A block that is read from a buffer is that block of the slot.
 pub block_in-as_seen : (m : Memory) {slots items : List (Option Slot)} {seen : List (Option Held)} (p : ℕ) {slot : Slot} (loan : Loan) (k : ℕ) {block : List ℕ} → as_seen m slots ≡ seen → items ≡ slots

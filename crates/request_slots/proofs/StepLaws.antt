@@ -124,10 +124,6 @@ kept-same_frames m m' slots kept free sound = record {
   counted = omega (arith, frames_lent-same m m' slots, ap length free, kept.counted);
 }
 
-by_test : (b : Bool) {X : Type 0} → (b ≡ true → X) → (b ≡ false → X) → X
-by_test true on off = on refl
-by_test false on off = off refl
-
 -- A STEP, from what it says of the memory: a sector that is read is block k of the buffer, else nothing changes
 module _ (m : Memory) (slots : List (Option Slot)) (p : ℕ) (loan : Loan) (k : ℕ) (kept : IsKept m slots) (at : IsMoved slots p loan k) (m' : Memory) where
   abbrev after : Bool → Memory

@@ -1,5 +1,5 @@
 -- Nothing is written beyond the room of an exercise.
-use Rattle.std.proofs.Common.{◌≡◌, ◌≢◌, ◌⊎◌, inl, inr, ℕ, zero, suc, ◌+◌, ◌*◌, ◌≤◌, Bool, true, false, List, [], ◌∷◌, drop, length, Option, None, Some, refl, sym, ap, subst, arith, ◌∙◌}
+use Rattle.std.proofs.Common.{◌≡◌, ◌≢◌, ◌⊎◌, inl, inr, ℕ, zero, suc, ◌+◌, ◌*◌, ◌≤◌, Bool, true, false, List, [], ◌∷◌, ◌++◌, drop, length, Option, None, Some, refl, sym, ap, subst, arith, ◌∙◌}
 use Rattle.std.specs.Prelude.{if◌then◌else◌, ◌==◌}
 use Rattle.std.proofs.lemmas.Grind.{common_steps}
 use Rattle.std.proofs.lemmas.Bool.{eq-eqb}
@@ -8,10 +8,11 @@ use Rattle.pack_geometry.specs.Pack.{Pack, grown, with_window, with_block, with_
 use Rattle.pack_geometry.proofs.PackLaws.{length-grown}
 use Rattle.outside_traits.specs.Causes.{Rose}
 use Rattle.trace_replay.specs.Script.{Script, drives_of}
-use Rattle.driver_laws.specs.answers.Outcome.{IsNextBlock}
+use Rattle.trace_replay.specs.Replay.{after_moments}
+use Rattle.trace_replay.specs.Runs.{start_of}
 use Rattle.event_player.specs.PlayFault.{PlayFault}
 use Rattle.event_player.specs.PlayFault.TheVariants as faults
-use Rattle.event_player.specs.Passes.{writes_next}
+use Rattle.event_player.specs.Passes.{IsTorn}
 use Rattle.event_player.specs.Passes.{Took}
 use Rattle.event_player.specs.Stops.{Leaves}
 use Rattle.hp_exercise.specs.Room.{AreEmpty, IsOutside, faults_of, room_on, with_outside}
@@ -51,15 +52,18 @@ module _ (number : ℕ) (first left : ℕ → Pack) (out trace : Took) (empty : 
   store_within (inl unplayed) = subst IsWithin (sym unplayed.packs) (empty_within first empty)
   store_within (inr is) = record {
     beyond = λ unit.
-        is.stopped.reach room_on (asks_below number)
+        is.stopped.beyond room_on (asks_below number)
         (λ u kind table there some. absurd (no_tables (drives_of (exercise_script number)) first is.tables u table is.read empty some)) unit
         ∙ (empty_within first empty).beyond unit;
-    marks = λ unit. by_block unit is.stopped.packs ∙ is.stopped.ahead.packs.surface.marks unit ∙ (empty_within first empty).marks unit;
+    marks = λ unit. by_block unit is.stopped.packs ∙ is.stopped.reached.ahead.packs.surface.marks unit ∙ (empty_within first empty).marks unit;
   }
     where
-      by_block : (unit : ℕ) → (left ≡ is.stopped.held) ⊎ ((writes_next is.stopped.world is.stopped.adapter ≡ true) × IsNextBlock is.stopped.world is.stopped.held left) → (left unit).marks ≡ (is.stopped.held unit).marks
+      by_block : (unit : ℕ) → (left ≡ is.stopped.held) ⊎ ((is.stopped.reached.late ≡ [])
+          × IsTorn (drives_of (exercise_script number)) first is.stopped.held left
+          (after_moments (start_of (exercise_script number) is.tables first) (is.stopped.reached.sent ++ is.stopped.reached.late)))
+          → (left unit).marks ≡ (is.stopped.held unit).marks
       by_block unit (inl same) = ap (λ (f : ℕ → Pack). (f unit).marks) same
-      by_block unit (inr next) = ap (λ (f : ℕ → Pack). (f unit).marks) next.1.is ∙ marks_stay is.stopped.held next.1.unit _ _ unit
+      by_block unit (inr torn) = ap (λ (f : ℕ → Pack). (f unit).marks) torn.1.is ∙ marks_stay is.stopped.held torn.1.at.unit _ _ unit
 
 -- and nothing that lies outside is among what they hold.
 long_window : (image bytes : List ℕ) (at : ℕ) → at + length bytes ≤ length (with_window at bytes image)

@@ -22,13 +22,9 @@ use Rattle.driver_laws.proofs.rules.Kept.{input_asks}
 use Rattle.driver_laws.proofs.rules.MachineRuns.{each_beginning, script_ids}
 use Rattle.event_player.specs.PlayFault.{PlayFault}
 use Rattle.event_player.specs.PlayFault.TheVariants as faults
-use Rattle.driver_laws.specs.answers.Outcome.{IsNextBlock}
-use Rattle.event_player.specs.Passes.{HasNext, NextBlocksShow}
-use Rattle.event_player.specs.Passes.{ShowsAll}
-use Rattle.event_player.specs.Passes.{writes_next}
-use Rattle.event_player.specs.Passes.{AreBehind, WritesAhead}
-use Rattle.event_player.specs.Passes.{CameTo, Took}
-use Rattle.event_player.proofs.Passes.{rules_hold, behind_more}
+use Rattle.event_player.specs.Passes.{IsTorn}
+use Rattle.event_player.specs.Passes.{Came, Reached, Took}
+use Rattle.event_player.proofs.Passes.{rules_hold}
 use Rattle.event_player.specs.Stops.{StopsPlaying}
 use Rattle.driver_laws.specs.rules.Beginnings.{IsBegun, BeginningsKeep, NextBlocksKeep, PromisesSoFar}
 use Rattle.script_commands.specs.SoFar.{KeepsSoFar, HoldSoFar, Holds, Keeps}
@@ -90,18 +86,18 @@ ids_append (n ∷ ns) more = asked_more n.input (ids_asked ns) (ids_asked more) 
 
 -- THE MOMENTS that a script came to
 module _ (script : Script) (good : IsScript script) (tables : ℕ → Option Table) (first : ℕ → Pack) (read : AreTablesOf (drives_of script) first tables)
-    (done under : List Moment) (later : List Numbered) (came : CameTo script tables first done under later) where
-  all_good : AllGood (drives_of script) (played (done ++ under))
+    (moments : List Moment) (came : Came script tables first moments) where
+  all_good : AllGood (drives_of script) (played moments)
   all_good =
-      good_front (drives_of script) (played (done ++ under)) later
+      good_front (drives_of script) (played moments) came.later
       (subst (AllGood (drives_of script)) came.inputs (lines_good (drives_of script) (record { line = script.count + 1; input = Drain } ∷ []) script.lines good.inputs (tt, tt)))
 
-  apart : AreApart (ids_asked (played (done ++ under)))
+  apart : AreApart (ids_asked (played moments))
   apart =
-      apart_front (ids_asked (played (done ++ under))) (ids_asked later)
-      (subst AreApart (sym (script_ids script) ∙ ap ids_asked came.inputs ∙ ids_append (played (done ++ under)) later) good.ids)
+      apart_front (ids_asked (played moments)) (ids_asked came.later)
+      (subst AreApart (sym (script_ids script) ∙ ap ids_asked came.inputs ∙ ids_append (played moments) came.later) good.ids)
 
-  module _ (line unit id : ℕ) (answer : Answer) (before after : List Moment) (is : done ++ under ≡ before ++ Told line unit id (End answer) ∷ after) where
+  module _ (line unit id : ℕ) (answer : Answer) (before after : List Moment) (is : moments ≡ before ++ Told line unit id (End answer) ∷ after) where
     front : Follows (start_of script tables first) (before ++ Told line unit id (End answer) ∷ [])
     front =
         let parts : Follows (start_of script tables first) before × Follows (after_moments (start_of script tables first) before) (Told line unit id (End answer) ∷ after) =
@@ -111,9 +107,9 @@ module _ (script : Script) (good : IsScript script) (tables : ℕ → Option Tab
     asks : AskSome before
     asks = moments_ask (drives_of script) before (Told line unit id (End answer) ∷ after) (subst (λ (ms : List Moment). AllGood (drives_of script) (played ms)) is all_good)
 
-  pub keeps_so_far : KeepsSoFar script tables first (done ++ under)
+  pub keeps_so_far : KeepsSoFar script tables first moments
   keeps_so_far = record {
-    legal = each_beginning (record { drives = drives_of script; tables = tables; packs = first }) (done ++ under) read (moments_good (drives_of script) (done ++ under) all_good) apart came.follows;
+    legal = each_beginning (record { drives = drives_of script; tables = tables; packs = first }) moments read (moments_good (drives_of script) moments all_good) apart came.follows;
     explained = λ line unit id answer before after is kept.
         are_explained (drives_of script) tables (surface_of first) before line unit id answer (asks line unit id answer before after is) (front line unit id answer before after is) kept;
     commands = λ line unit id answer before after is kept.
@@ -121,19 +117,18 @@ module _ (script : Script) (good : IsScript script) (tables : ℕ → Option Tab
   }
 
 -- WITH THE PACKS behind them
-module _ (keep : BeginningsKeep) (script : Script) (good : IsScript script) (tables : ℕ → Option Table) (first left : ℕ → Pack)
-    (read : AreTablesOf (drives_of script) first tables) (done under : List Moment) (later : List Numbered) (came : CameTo script tables first done under later)
-    (sent late : List Moment) (same : sent ++ late ≡ done ++ under) where
-  begun : IsBegun script tables first (sent ++ late)
-  begun = subst (IsBegun script tables first) (sym same) (record { good = good; later = later; inputs = came.inputs; tables_read = read; follows = came.follows })
+module _ (keep : BeginningsKeep) (script : Script) (good : IsScript script) (tables : ℕ → Option Table) (first held : ℕ → Pack)
+    (read : AreTablesOf (drives_of script) first tables) (reached : Reached script tables first held) where
+  begun : IsBegun script tables first (reached.sent ++ reached.late)
+  begun = record { good = good; later = reached.came.later; inputs = reached.came.inputs; tables_read = read; follows = reached.came.follows }
 
-  hold_so_far : WritesAhead script tables first left sent late → HoldSoFar script tables first left sent late
-  hold_so_far ahead = record {
-    move = ahead.move;
-    quiet = ahead.quiet;
-    cut = ahead.cut;
-    one = ahead.one;
-    each = rules_hold keep script tables first left sent late begun ahead;
+  hold_so_far : HoldSoFar script tables first held reached.sent reached.late
+  hold_so_far = record {
+    move = reached.ahead.move;
+    quiet = reached.ahead.quiet;
+    cut = reached.ahead.cut;
+    one = reached.ahead.one;
+    each = rules_hold keep script tables first held reached.sent reached.late begun reached.ahead;
   }
 
 holds : (script : Script) (tables : ℕ → Option Table) (first left : ℕ → Pack) (out : Took) (sent late : List Moment) → HoldSoFar script tables first left sent late → Holds script tables first left out sent late
@@ -149,12 +144,6 @@ holds script tables first left out sent late hold =
         hold = hold.each f.front f.rest f.cut;
       };
     }
-
--- the packs behind all of them
-all_behind : (script : Script) (tables : ℕ → Option Table) (first left : ℕ → Pack) (sent late : List Moment) → WritesAhead script tables first left sent late → AreBehind script tables first left (sent ++ late)
-all_behind script tables first left sent late ahead =
-    subst (AreBehind script tables first left) (append_assoc sent ahead.move ahead.quiet ∙ ap (λ (ms : List Moment). sent ++ ms) (sym ahead.cut))
-    (behind_more script tables first left (sent ++ ahead.move) ahead.quiet ahead.packs ahead.nothing)
 
 -- where nothing is late
 hold_none : (script : Script) (tables : ℕ → Option Table) (first left : ℕ → Pack) (sent late : List Moment) → late ≡ [] → PromisesSoFar script tables first left (sent ++ late)
@@ -172,43 +161,34 @@ hold_none script tables first left sent late none promises = record {
     each (m ∷ front) rest cut = absurd (cc cut)
 
 -- THE PACKS FAILED: with the block that may be new, and without it
-module _ (keep : BeginningsKeep) (next : NextBlocksKeep) (shows : NextBlocksShow) (script : Script) (good : IsScript script) (first left : ℕ → Pack) (out trace : Took)
+module _ (keep : BeginningsKeep) (next : NextBlocksKeep) (script : Script) (good : IsScript script) (first left : ℕ → Pack) (out trace : Took)
     (is : StopsPlaying faults.Store script first left out trace) where
-  same_moments : is.stopped.sent ++ is.stopped.late ≡ is.stopped.done ++ []
-  same_moments = is.stopped.same ∙ sym (append-nil is.stopped.done)
+  abbrev At : Reached script is.tables first is.stopped.held
+  At = is.stopped.reached
 
-  without : HoldSoFar script is.tables first is.stopped.held is.stopped.sent is.stopped.late
-  without = hold_so_far keep script good is.tables first is.stopped.held is.read is.stopped.done [] is.stopped.later is.stopped.came is.stopped.sent is.stopped.late same_moments is.stopped.ahead
+  without : HoldSoFar script is.tables first is.stopped.held At.sent At.late
+  without = hold_so_far keep script good is.tables first is.stopped.held is.read At
 
-  begun_so : IsBegun script is.tables first (is.stopped.sent ++ is.stopped.late)
-  begun_so = begun keep script good is.tables first left is.read is.stopped.done [] is.stopped.later is.stopped.came is.stopped.sent is.stopped.late same_moments
-
-  shown : ShowsAll is.stopped.world (after_moments (start_of script is.tables first) (is.stopped.sent ++ is.stopped.late))
-  shown = subst (λ (ms : List Moment). ShowsAll is.stopped.world (after_moments (start_of script is.tables first) ms)) (sym is.stopped.same) is.stopped.shows
-
-  left_holds : HoldSoFar script is.tables first left is.stopped.sent is.stopped.late
+  left_holds : HoldSoFar script is.tables first left At.sent At.late
   left_holds = by is.stopped.packs
     where
-      by : (left ≡ is.stopped.held) ⊎ ((writes_next is.stopped.world is.stopped.adapter ≡ true) × IsNextBlock is.stopped.world is.stopped.held left)
-          → HoldSoFar script is.tables first left is.stopped.sent is.stopped.late
-      by (inl same) = subst (λ (packs : ℕ → Pack). HoldSoFar script is.tables first packs is.stopped.sent is.stopped.late) (sym same) without
-      by (inr block) =
-          let has : HasNext (drives_of script) first left (after_moments (start_of script is.tables first) (is.stopped.sent ++ is.stopped.late)) =
-          shows (drives_of script) first is.stopped.held left (after_moments (start_of script is.tables first) (is.stopped.sent ++ is.stopped.late)) is.stopped.world is.stopped.sound shown
-          is.stopped.declared (all_behind script is.tables first is.stopped.held is.stopped.sent is.stopped.late is.stopped.ahead).surface block.1 in
-          hold_none script is.tables first left is.stopped.sent is.stopped.late (is.stopped.none_late block.0)
-          (next script is.tables first left (is.stopped.sent ++ is.stopped.late) has.unit has.block has.kind begun_so has.declared has.next has.packs)
+      by : (left ≡ is.stopped.held) ⊎ ((At.late ≡ []) × IsTorn (drives_of script) first is.stopped.held left (after_moments (start_of script is.tables first) (At.sent ++ At.late)))
+          → HoldSoFar script is.tables first left At.sent At.late
+      by (inl same) = subst (λ (packs : ℕ → Pack). HoldSoFar script is.tables first packs At.sent At.late) (sym same) without
+      by (inr torn) =
+          hold_none script is.tables first left At.sent At.late torn.0
+          (next script is.tables first left (At.sent ++ At.late) torn.1.at.unit torn.1.at.block torn.1.at.kind
+          (begun keep script good is.tables first is.stopped.held is.read At) torn.1.at.declared torn.1.at.next torn.1.at.packs)
 
-pub keeps : BeginningsKeep → NextBlocksKeep → NextBlocksShow → (fault : PlayFault) (script : Script) (first left : ℕ → Pack) (out trace : Took)
-    → IsScript script → Keeps fault script first left out trace
-keeps keep next shows faults.Store script first left out trace good = λ is. (
-  keeps_so_far script good is.tables first is.read is.stopped.done [] is.stopped.later is.stopped.came,
-  holds script is.tables first is.stopped.held out is.stopped.sent is.stopped.late (without keep next shows script good first left out trace is),
-  holds script is.tables first left out is.stopped.sent is.stopped.late (left_holds keep next shows script good first left out trace is),
+pub keeps : BeginningsKeep → NextBlocksKeep → (fault : PlayFault) (script : Script) (first left : ℕ → Pack) (out trace : Took) → IsScript script → Keeps fault script first left out trace
+keeps keep next faults.Store script first left out trace good = λ is. (
+  keeps_so_far script good is.tables first is.read (is.stopped.reached.sent ++ is.stopped.reached.late) is.stopped.reached.came,
+  holds script is.tables first is.stopped.held out is.stopped.reached.sent is.stopped.reached.late (without keep next script good first left out trace is),
+  holds script is.tables first left out is.stopped.reached.sent is.stopped.reached.late (left_holds keep next script good first left out trace is),
 )
-keeps keep next shows faults.Sink script first left out trace good = λ is. (
-  keeps_so_far script good is.tables first is.read is.stopped.done is.stopped.under is.stopped.later is.stopped.came,
-  holds script is.tables first left out is.stopped.sent is.stopped.late
-      (hold_so_far keep script good is.tables first left is.read is.stopped.done is.stopped.under is.stopped.later is.stopped.came is.stopped.sent is.stopped.late is.stopped.same is.stopped.ahead),
+keeps keep next faults.Sink script first left out trace good = λ is. (
+  keeps_so_far script good is.tables first is.read (is.stopped.reached.sent ++ is.stopped.reached.late) is.stopped.reached.came,
+  holds script is.tables first left out is.stopped.reached.sent is.stopped.reached.late
+      (hold_so_far keep script good is.tables first left is.read is.stopped.reached),
 )
-keeps keep next shows other script first left out trace good = tt
+keeps keep next other script first left out trace good = tt

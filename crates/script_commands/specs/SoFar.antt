@@ -67,9 +67,11 @@ pub record Holds (script : Script) (tables : ℕ → Option Table) (first left :
 -- new, and of those without it.
 abbrev pub Keeps : (fault : PlayFault) (script : Script) (first left : ℕ → Pack) (out trace : Took) → Type 0
 Keeps faults.Store script first left out trace = (is : StopsPlaying faults.Store script first left out trace)
-    → KeepsSoFar script is.tables first (is.stopped.done ++ []) × Holds script is.tables first is.stopped.held out is.stopped.sent is.stopped.late
-    × Holds script is.tables first left out is.stopped.sent is.stopped.late
+    → KeepsSoFar script is.tables first (is.stopped.reached.sent ++ is.stopped.reached.late)
+    × Holds script is.tables first is.stopped.held out is.stopped.reached.sent is.stopped.reached.late
+    × Holds script is.tables first left out is.stopped.reached.sent is.stopped.reached.late
 Keeps faults.Sink script first left out trace = (is : StopsPlaying faults.Sink script first left out trace)
-    → KeepsSoFar script is.tables first (is.stopped.done ++ is.stopped.under) × Holds script is.tables first left out is.stopped.sent is.stopped.late
+    → KeepsSoFar script is.tables first (is.stopped.reached.sent ++ is.stopped.reached.late)
+    × Holds script is.tables first left out is.stopped.reached.sent is.stopped.reached.late
 Keeps faults.Memory script first left out trace = Unit {0}
 Keeps (faults.TooLong u n) script first left out trace = Unit {0}

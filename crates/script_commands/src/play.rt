@@ -9,7 +9,6 @@ ghost use Rattle.script_commands.specs.Plays.{RunsPlay};
 use command_parts::load::{LoadFault, load};
 use command_parts::{Status, too_long};
 use driver_laws::rules::promises::{beginnings_law, promises_law};
-use event_player::next_block_law;
 use event_player::play::{PlayFault, play};
 use outside_traits::traits::{Packs, Sink, Source};
 use outside_traits::whole::write_all;
@@ -39,7 +38,6 @@ pub fn run_play<S: Source, P: Packs, O: Sink, T: Sink>(
     beginnings_law();
     meaning_law();
     grammar_law();
-    next_block_law();
     let script = match load(alloc, script) {
         Ok(script) => script,
         Err(LoadFault::Memory) => return Status::OutOfMemory,

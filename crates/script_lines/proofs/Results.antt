@@ -16,8 +16,3 @@ err-ok x y e = cc
 pub then_ok : {A B E : Type 0} (res : Result A E) (f : A → Result B E) (b : B) → and_then res f ≡ Ok b → (a : A) × (res ≡ Ok a) × (f a ≡ Ok b)
 then_ok (Ok a) f b e = (a, refl, e)
 then_ok (Err x) f b e = absurd (err-ok x b e)
-
--- what stands before a change of faults
-pub ok_before : {A E : Type 0} (F : Type 0) (result : Result A E) (value : A) → MatchResult result (λ x. ◌≡◌ {A = Result A F} (Ok value) (Ok x)) (λ _. ⊥) → result ≡ Ok value
-ok_before {A} F (Ok x) value e = ap (λ (v : A). Ok v) (sym (same_Ok value x e))
-ok_before F (Err fault) value none = absurd none

@@ -12,6 +12,7 @@ use Rattle.script_runs.specs.Writing.{WriteNothing}
 use Rattle.script_runs.specs.Ahead.{AreBehind, RulesStart, AllSent, NothingKeepsRule, WritesKeepRule, RulesHold}
 use Rattle.driver_laws.proofs.rules.Quiet.{after_parts}
 use Rattle.script_runs.proofs.Writing.{nothing_leaves_packs, nothing_leaves_lengths, nothing_joined, nothing_front}
+use Rattle.driver_laws.proofs.rules.Fronts.{begun_front}
 
 -- BEHIND MOMENTS THAT WRITE NOTHING the packs are as before.
 pub behind_more : (script : Script) (tables : ℕ → Option Table) (first left : ℕ → Pack) (moments more : List Moment) → AreBehind script tables first left moments
@@ -62,22 +63,6 @@ writes_keep_rule script tables first held sent move one are = record {
   one = one;
   nothing = tt;
   packs = are;
-}
-
--- THE PACKS BEHIND A STOP, wherever the moments since the move are cut
-played_append : (xs ys : List Moment) → played (xs ++ ys) ≡ played xs ++ played ys
-played_append [] ys = refl
-played_append (Played line input ∷ xs) ys = ap (λ (ns : List Numbered). record { line = line; input = input } ∷ ns) (played_append xs ys)
-played_append (Told line unit id deed ∷ xs) ys = played_append xs ys
-played_append (Idle line ∷ xs) ys = played_append xs ys
-
-begun_front : (script : Script) (tables : ℕ → Option Table) (old : ℕ → Pack) (ms rest : List Moment) → IsBegun script tables old (ms ++ rest) → IsBegun script tables old ms
-begun_front script tables old ms rest begun = record {
-  good = begun.good;
-  later = played rest ++ begun.later;
-  inputs = begun.inputs ∙ ap (λ (ns : List Numbered). ns ++ begun.later) (played_append ms rest) ∙ append_assoc (played ms) (played rest) begun.later;
-  tables_read = begun.tables_read;
-  follows = ((follow_on (start_of script tables old) ms rest).0 begun.follows).0;
 }
 
 pub rules_hold : BeginningsKeep → RulesHold

@@ -35,9 +35,6 @@ pub record AreTold (packs : ℕ → Pack) (lines : List Line) (setups : List Set
   pub fits : (unit : ℕ) (kind : DriveKind) → drives_in lines unit ≡ Some kind → length (packs unit).image ≤ 512 * block_count kind
   pub tables : AreTablesOf (drives_in lines) packs (tables_in setups)
 
-pub told_none : (packs : ℕ → Pack) → AreTold packs [] []
-told_none packs = record { fits = λ unit kind e. absurd (none-some kind e); tables = λ unit. refl }
-
 pub set_up_as : {tells : Bool} {packs : ℕ → Pack} {u : ℕ} {kind : DriveKind} {s : Setup} → IsSet tells packs u kind s → IsSetupOf u kind s
 set_up_as set = record { unit_is = set.unit_is; kind_is = set.kind_is; good = set.good }
 
@@ -72,14 +69,6 @@ told_still {packs} {lines} {setups} line played told = record {
   fits = λ unit kind e. told.fits unit kind (sym (drives_same lines line unit played) ∙ e);
   tables = one.told_still packs lines setups line played told.tables;
 }
-
--- NONE IS TOO LONG, where all fit
-pub none_long : (script : Script) (packs : ℕ → Pack) (setups : List Setup) → AreTold packs script.lines setups → (unit n : ℕ) → ¬ (IsTooLong script packs unit n)
-none_long script packs setups told unit n long =
-    let fits = told.fits unit long.kind long.declared in
-    let is = long.is in
-    let more = long.more in
-    omega (arith, fits, is, more)
 
 -- THE LINES of a script, parted at one of them
 pub lines_split : (s : Stored) (i : ℕ) (line : Kept) → i < length s.lines → line ≡ slice_index_or s.lines i line

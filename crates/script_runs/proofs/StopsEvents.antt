@@ -26,6 +26,7 @@ use Rattle.driver_laws.proofs.shown.Starting.{set_up}
 use Rattle.driver_laws.proofs.shown.Sectors.{IsNoMove, event_quiet, submission_quiet}
 use Rattle.script_runs.specs.Writing.{WriteNothing, EventsWriteNothing, FirstEventsWriteNothing, LaterEventsWriteNothing, SubmissionsWriteNothing, EmptyDrainsWriteNothing}
 use Rattle.script_runs.proofs.Writing.{quiet_write_nothing}
+use Rattle.driver_laws.proofs.shown.Lengths.{same_shown}
 
 -- A TRANSFER that reads writes nothing.
 both : (b c : Bool) → b && not c ≡ true → (b ≡ true) × (c ≡ false)
@@ -87,17 +88,6 @@ move_nothing s w line a t acts rest sound shows off cut = at (can_move (adapter_
         → WriteNothing s (lines_of_all w acts)
     at true can cut = moved can cut
     at false can cut = one_nothing s w (Nothing line) acts rest cut (refl, tt)
-
--- another event is seen over the same world
-same_shown : (w : World) (s : Replay) (e : Event) → ShowsAll w s → ShowsAll w (record s { event = e })
-same_shown w s e is = record {
-  units = is.units;
-  adapters = is.adapters;
-  ready = is.ready;
-  noise = is.noise;
-  frames = is.frames;
-  outstanding = is.outstanding;
-}
 
 -- ANY OTHER EVENT tells of no sector.
 quiet_event : (s : Replay) (w : World) (line : ℕ) (input : Input) (t : Tried) (acts rest : List Act) → IsNoMove input → event_acts line input t w ≡ acts ++ rest → WriteNothing s (lines_of_all w acts)

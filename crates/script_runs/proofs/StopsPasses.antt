@@ -1,5 +1,6 @@
 -- What is passed on of the crates below, so that those above stand on this one.
 pub use Rattle.driver_laws.proofs.shown.Blocks.{next_blocks_stay}
+pub use Rattle.driver_laws.proofs.shown.NextBlock.{next_blocks_show}
 pub use Rattle.driver_laws.proofs.shown.RunsCalls.{answers_keep_reach, events_keep_reach, starts_within_reach, submissions_keep_reach}
 pub use Rattle.driver_laws.proofs.shown.Lengths.{drained_shows, empty_drains_keep_lengths, events_keep_lengths, first_events_keep_lengths, later_events_keep_lengths, submissions_keep_lengths}
 pub use Rattle.driver_laws.proofs.shown.RunsLaws.{events_keep, packs_are_left, runs_are_legal, starts_kept, submissions_keep}

@@ -1,73 +1,41 @@
 -- What a stop leaves where a sink or the packs failed.
-use Rattle.std.specs.Prelude.{◌≡◌, ◌⊎◌, ℕ, ◌≤◌, Bool, true, IsTrue, List, [], ◌∷◌, ◌++◌, length, Option, Some}
+use Rattle.std.specs.Prelude.{◌≡◌, ◌⊎◌, ℕ, Bool, IsTrue, List, [], ◌++◌, Option}
 use Rattle.pack_geometry.specs.Pack.{Pack}
 use Rattle.pack_geometry.specs.TableSpelling.{Table}
 use Rattle.outside_traits.specs.Causes.{Rose}
 use Rattle.trace_replay.specs.Moments.{Moment, played}
-use Rattle.trace_replay.specs.Script.{Script, MoveAt, Drain, Numbered, drives_of, inputs_of}
-use Rattle.trace_replay.specs.Events.{NoLine}
-use Rattle.trace_replay.specs.Replay.{Replay, Follows, next_wish, after_moment, after_moments}
+use Rattle.trace_replay.specs.Script.{Script, Numbered, drives_of, inputs_of}
+use Rattle.trace_replay.specs.Replay.{Follows, after_moments}
 use Rattle.trace_replay.specs.Runs.{start_of}
 use Rattle.trace_replay.specs.Text.{trace_text}
-use Rattle.driver_machine.specs.World.{World}
-use Rattle.driver_machine.specs.Events.{next_event}
-use Rattle.driver_machine.specs.Sound.{Sound}
-use Rattle.driver_laws.specs.answers.Outcome.{IsNextBlock}
-use Rattle.driver_laws.specs.shown.RunsRuns.{AreDeclared}
+use Rattle.driver_laws.specs.shown.NextBlock.{IsTorn}
 use Rattle.driver_laws.specs.shown.Reach.{AskBelow, TablesBelow, StayFrom}
-use Rattle.driver_laws.specs.shown.Within.{ShowsAll}
 use Rattle.trace_lines.specs.answers.AnswerText.{out_text}
-use Rattle.driver_machine.specs.Writes.{writes_next}
 use Rattle.script_runs.specs.Ahead.{IsBetween, WritesAhead, TellsAhead}
 
--- AN EVENT IS OVER where no line of it is still to come, or a drain stands before its next one.
-abbrev pub IsEventOver : Replay → Type 0
-IsEventOver s = (next_wish s ≡ NoLine) ⊎ (s.event.between ≡ true)
-
--- MOMENTS OF ONE EVENT: it is over behind none of them but the last.
-abbrev pub AreOfOneEvent : Replay → List Moment → Type 0
-AreOfOneEvent s [] = Unit {0}
-AreOfOneEvent s (m ∷ []) = Unit {0}
-AreOfOneEvent s (m ∷ n ∷ ms) = (IsEventOver (after_moment s m) → ⊥) × AreOfOneEvent (after_moment s m) (n ∷ ms)
-
--- HOW FAR IT CAME: what was done, the last event of it to its end, and the one event under way as far as it came, of one line of the
--- script at most. The moments follow from the start, and play the first inputs of the script.
-pub record CameTo (script : Script) (tables : ℕ → Option Table) (first : ℕ → Pack) (done under : List Moment) (later : List Numbered) : Type 0 where
-  pub follows : Follows (start_of script tables first) (done ++ under)
-  pub inputs : inputs_of script ≡ played (done ++ under) ++ later
-  pub ended : IsEventOver (after_moments (start_of script tables first) done)
-  pub event : AreOfOneEvent (after_moments (start_of script tables first) done) under
-  pub one : length (played under) ≤ 1
+-- HOW FAR THE RUN CAME: moments that follow from the start of the script over the packs as they were, and play its first inputs.
+pub record Came (script : Script) (tables : ℕ → Option Table) (first : ℕ → Pack) (moments : List Moment) : Type 0 where
+  pub later : List Numbered
+  pub follows : Follows (start_of script tables first) moments
+  pub inputs : inputs_of script ≡ played moments ++ later
 
 -- WHAT LIES BEYOND the ends of all writes stayed: of a unit to which nothing is written the whole image.
 abbrev pub StaysBeyond : Script → (ℕ → Option Table) → (old new : ℕ → Pack) → Type 0
 StaysBeyond script tables old new = (ends : ℕ → ℕ) → AskBelow ends (drives_of script) (inputs_of script) → TablesBelow ends (drives_of script) tables → StayFrom ends old new
 
--- A SINK FAILED. What came is cut another way, too: where text was last sent. Packs and texts are by the rule, and what images have beyond
--- all writes stayed.
-pub record StopsAtSink (script : Script) (tables : ℕ → Option Table) (first left : ℕ → Pack) (out_tells : Bool) (said said' : List ℕ) (trace_tells : Bool) (taken taken' : List ℕ) : Type 0 where
-  pub done : List Moment
-  pub under : List Moment
-  pub later : List Numbered
-  pub came : CameTo script tables first done under later
+-- WHERE TEXT WAS LAST SENT: it was sent of the first moments, and what came late, of which the first move alone may have written, is in the
+-- packs.
+pub record Reached (script : Script) (tables : ℕ → Option Table) (first held : ℕ → Pack) : Type 0 where
   pub sent : List Moment
   pub late : List Moment
-  pub same : sent ++ late ≡ done ++ under
-  pub ahead : WritesAhead script tables first left sent late
-  pub texts : TellsAhead out_tells said said' trace_tells taken taken' sent late
-  pub reach : StaysBeyond script tables first left
+  pub came : Came script tables first (sent ++ late)
+  pub ahead : WritesAhead script tables first held sent late
 
--- the next event is the move of an adapter: the next line of the script is, or that of a drain
-abbrev pub IsMoveLine : ℕ → List Numbered → Type 0
-IsMoveLine a [] = ⊥
-IsMoveLine a (next ∷ later) = next.input ≡ MoveAt a
-
-abbrev pub IsDrainLine : List Numbered → Type 0
-IsDrainLine [] = ⊥
-IsDrainLine (next ∷ later) = next.input ≡ Drain
-
-abbrev pub IsAtMove : World → Replay → List Numbered → ℕ → Type 0
-IsAtMove w s later a = IsMoveLine a later ⊎ ((IsDrainLine later ⊎ IsTrue s.event.drains) × (next_event w ≡ Some (MoveAt a)))
+-- A SINK FAILED: packs and texts are by the rule, and what images have beyond all writes stayed.
+pub record StopsAtSink (script : Script) (tables : ℕ → Option Table) (first left : ℕ → Pack) (out_tells : Bool) (said said' : List ℕ) (trace_tells : Bool) (taken taken' : List ℕ) : Type 0 where
+  pub reached : Reached script tables first left
+  pub texts : TellsAhead out_tells said said' trace_tells taken taken' reached.sent reached.late
+  pub beyond : StaysBeyond script tables first left
 
 -- WHAT A SINK TOOK: whether it tells, its text before and after, and its count of faults
 pub record Took : Type 0 where
@@ -85,29 +53,15 @@ pub record TakesRest (sink : Took) (sent all : List ℕ) : Type 0 where
   pub some : IsTrue sink.tells → IsBetween (sink.before ++ sent) (sink.before ++ all) sink.after
   pub whole : (Rose sink.faults sink.faults_after → ⊥) → IsTrue sink.tells → sink.after ≡ sink.before ++ all
 
--- THE PACKS FAILED, at a move, which did nothing else; the driver's world is that which the replay shows, of the units that are declared.
--- Where it was to write, all text had been sent, and one block more may be there, the next one of a write whose transfer is under way. Else the
--- packs are as before, and what was kept is sent behind the failure, to the trace and then to the other, whatever the first one did.
+-- THE PACKS FAILED, and nothing else was done: they are as before, or, where all text had been sent, one block more is there, the next one of
+-- a write whose sectors move. What was kept is sent behind the failure, to the trace and then to the other, whatever the first one did.
 pub record StopsAtStore (script : Script) (tables : ℕ → Option Table) (first left : ℕ → Pack) (out trace : Took) : Type 0 where
-  pub done : List Moment
-  pub later : List Numbered
-  pub came : CameTo script tables first done [] later
-  pub world : World
-  pub sound : Sound world
-  pub declared : AreDeclared (drives_of script) world
-  pub shows : ShowsAll world (after_moments (start_of script tables first) done)
-  pub adapter : ℕ
-  pub move : IsAtMove world (after_moments (start_of script tables first) done) later adapter
-  pub sent : List Moment
-  pub late : List Moment
-  pub same : sent ++ late ≡ done
-  pub none_late : writes_next world adapter ≡ true → late ≡ []
   pub held : ℕ → Pack
-  pub ahead : WritesAhead script tables first held sent late
-  pub packs : (left ≡ held) ⊎ ((writes_next world adapter ≡ true) × IsNextBlock world held left)
-  pub reach : StaysBeyond script tables first left
-  pub lines : TakesRest trace (trace_text sent) (trace_text done)
-  pub answers : TakesRest out (out_text sent) (out_text done)
+  pub reached : Reached script tables first held
+  pub packs : (left ≡ held) ⊎ ((reached.late ≡ []) × IsTorn (drives_of script) first held left (after_moments (start_of script tables first) (reached.sent ++ reached.late)))
+  pub beyond : StaysBeyond script tables first left
+  pub lines : TakesRest trace (trace_text reached.sent) (trace_text (reached.sent ++ reached.late))
+  pub answers : TakesRest out (out_text reached.sent) (out_text (reached.sent ++ reached.late))
 
 -- nothing was played, as the packs failed when a unit was attached
 pub record IsUnplayed (first left : ℕ → Pack) (out trace : Took) : Type 0 where

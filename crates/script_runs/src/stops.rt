@@ -42,5 +42,4 @@ pub fn rule_law()
     beginnings_law();
 }
 
-pub use driver_laws::shown::runs::next_block_law;
 pub use hp_units::UnitSetup;

@@ -15,7 +15,7 @@ played_append (Played line input ∷ xs) ys = ap (λ (ns : List Numbered). recor
 played_append (Told line unit id deed ∷ xs) ys = played_append xs ys
 played_append (Idle line ∷ xs) ys = played_append xs ys
 
-begun_front : (script : Script) (tables : ℕ → Option Table) (old : ℕ → model.Pack) (ms rest : List Moment) → IsBegun script tables old (ms ++ rest) → IsBegun script tables old ms
+pub begun_front : (script : Script) (tables : ℕ → Option Table) (old : ℕ → model.Pack) (ms rest : List Moment) → IsBegun script tables old (ms ++ rest) → IsBegun script tables old ms
 begun_front script tables old ms rest begun = record {
   good = begun.good;
   later = played rest ++ begun.later;

@@ -45,10 +45,6 @@ all_ended (Some g ∷ slots) none zero h is =
     some_same e = grind (arith, e)
 all_ended (Some g ∷ slots) none (suc p) h is = all_ended slots (more_than g.ended (outstanding_in slots) none).1 p h is
 
-none_more : (b : Bool) (others : ℕ) → b ≡ true → others ≡ 0 → counted_by b others ≡ 0
-none_more true others ended none = none
-none_more false others ended none = absurd (false_true ended)
-
 -- while a next event is there some are
 some_outstanding : (w : World) (n : ℕ) (input : Input) → Sound w → AtWork w → next_event w ≡ Some input → n ≡ outstanding_in w.slots → n ≢ 0
 some_outstanding w n input sound work is same none =

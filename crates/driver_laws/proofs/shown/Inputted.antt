@@ -35,10 +35,5 @@ calls_are_played moments line input w acts =
     played_append moments (Played line input ∷ lines_of_all w acts)
     ∙ ap (λ (l : List Numbered). played moments ++ record { line = line; input = input } ∷ l) (lines_none w acts)
 
-answers_told : (line unit id : ℕ) (deed : moment.Deed) (ms ns : List Moment) → answers_in (ms ++ ns) ≡ answers_in ms ++ answers_in ns
-    → answers_in (Told line unit id deed ∷ ms ++ ns) ≡ answers_in (Told line unit id deed ∷ ms) ++ answers_in ns
-answers_told line unit id (moment.End answer) ms ns later = ap (λ (l : List Answered). record { line = line; id = id; answer = answer } ∷ l) later
-answers_told line unit id other ms ns later = later
-
 pub calls_are_answered : CallsAreAnswered
 calls_are_answered moments line input w acts = answers_append moments (Played line input ∷ lines_of_all w acts)

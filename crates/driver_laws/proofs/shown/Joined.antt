@@ -92,7 +92,7 @@ some_line unit moment.Attn = refl
 some_line unit other = refl
 
 -- where a line comes next a drain does not go on
-not_drained : (s : Replay) → is_no_line (next_wish s) ≡ false → drained s ≡ s
+pub not_drained : (s : Replay) → is_no_line (next_wish s) ≡ false → drained s ≡ s
 not_drained s some = by_drain s.event.drains
   where
     by_drain : (drains : Bool)

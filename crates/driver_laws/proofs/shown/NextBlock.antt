@@ -44,7 +44,7 @@ use Rattle.driver_laws.proofs.shown.Moves.{cut_filled, written_marks}
 use Rattle.driver_laws.proofs.shown.Resting.{shows_one}
 use Rattle.driver_laws.proofs.shown.Starting.{set_up}
 use Rattle.driver_laws.specs.rules.Beginnings.{IsNextSector, with_next}
-use Rattle.driver_laws.specs.shown.NextBlock.{HasNext, NextBlocksShow}
+use Rattle.driver_laws.specs.shown.NextBlock.{IsTorn, NextBlocksShow}
 use Rattle.driver_laws.specs.shown.RunsRuns.{AreDeclared}
 use Rattle.driver_laws.proofs.shown.Acts.{written_beyond}
 use Rattle.main_memory.proofs.BlockLaws.{size_few}
@@ -208,12 +208,15 @@ module _ (drives : ℕ → Option DriveKind) (old held left : ℕ → Pack) (s :
           ∙ other_by true held n.unit (next_block State) (filled 512 (block_in Slot (next_window State))) x (λ same. none-some kind (sym none ∙ ap drives same ∙ declared)) ∙ packs.others x none;
     }
 
-  has_next : HasNext drives old left s
-  has_next = by_drive (drives n.unit) refl
+  is_torn : IsTorn drives old held left s
+  is_torn = by_drive (drives n.unit) refl
     where
-      by_drive : (drive : Option DriveKind) → drives n.unit ≡ drive → HasNext drives old left s
+      by_drive : (drive : Option DriveKind) → drives n.unit ≡ drive → IsTorn drives old held left s
       by_drive None none = absurd (false≢true (sym (units.others n.unit none) ∙ there.declared))
-      by_drive (Some kind) declared = record { unit = n.unit; block = next_block State; kind = kind; declared = declared; next = next; packs = is_left kind declared }
+      by_drive (Some kind) declared = record {
+        at = record { unit = n.unit; block = next_block State; kind = kind; declared = declared; next = next; packs = is_left kind declared };
+        is = n.is ∙ ap (λ (bytes : List ℕ). with_written held n.unit (next_block State) bytes) (sym content);
+      }
 
 pub next_blocks_show : NextBlocksShow
-next_blocks_show drives old held left s w sound shows units packs n = has_next drives old held left s w sound shows units packs n
+next_blocks_show drives old held left s w sound shows units packs n = is_torn drives old held left s w sound shows units packs n

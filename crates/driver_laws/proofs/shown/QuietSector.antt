@@ -59,20 +59,6 @@ tried_home None kind table pack first done moved forwarded one below unmarked = 
 tried_home (Some i) kind table pack first done moved forwarded one below unmarked =
     listed_home kind table pack (first + (done + moved)) i below (subst (λ n. IsForwarded kind table pack (first + n) i) (sym (one i refl)) (forwarded i refl)) unmarked
 
--- A sector with the verdict that it is marked is marked.
-is_stop : (on : Bool) (armed : Option FaultKind) (x : Moved) → (if on then option_map verdict.Faulted armed else Some verdict.Offline) ≡ Some x → x ≢ verdict.Marked
-is_stop true None x e same = none-some x e
-is_stop true (Some kind) x e same = cc
-is_stop false armed x e same = cc
-
-marked_by : (stop : Option Moved) (marked write : Bool) (places : Option (List ℕ)) → ((x : Moved) → stop ≡ Some x → x ≢ verdict.Marked)
-    → IsVerdictBy stop marked write places verdict.Marked → marked ≡ true
-marked_by (Some x) marked write places other is = absurd (other x refl (sym is))
-marked_by None true write places other is = refl
-marked_by None false true places other is = absurd (cc)
-marked_by None false false None other is = absurd (cc)
-marked_by None false false (Some places) other is = absurd is
-
 abbrev clean_sort : Moved → ℕ
 clean_sort verdict.Clean = 0
 clean_sort v = 1

@@ -61,7 +61,7 @@ all_blocks units (x ∷ xs) each = both (blocks_waiting (units x).service.waitin
     both : (a b n : ℕ) → a ≤ 127 → b ≤ 127 * n → a + b ≤ 127 * suc n
     both a b n first rest = omega (arith, first, rest)
 
-short : (test : ℕ → Bool) (xs : List ℕ) → length (filter test xs) ≤ length xs
+pub short : (test : ℕ → Bool) (xs : List ℕ) → length (filter test xs) ≤ length xs
 short test [] = omega arith
 short test (x ∷ xs) = by (test x) (short test xs)
   where

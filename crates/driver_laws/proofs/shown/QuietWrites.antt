@@ -54,22 +54,6 @@ deed_writes line u p d s ok may writes = refl
 kept : (w now : World) (p : ℕ) (h g : Held) → slot_at now p ≡ slot_at w p → slot_at w p ≡ Some h → slot_at now p ≡ Some g → g.blocks ≡ h.blocks
 kept w now p h g same was is = ap (λ (x : Held). x.blocks) (same_Some g h (sym is ∙ same ∙ was))
 
-freed_or : (slots : List (Option Held)) (slot : Option ℕ) (p : ℕ) (g : Held) → slice_index_or (option_map_or (λ q. slice_set slots q None) slot slots) p None ≡ Some g
-    → slice_index_or slots p None ≡ Some g
-freed_or slots None p g is = is
-freed_or slots (Some q) p g is = elim (cases_eq p q) [
-  | inr other ↦ sym (get_or-set_other slots q p None None other) ∙ is
-  | inl same ↦ absurd (gone same)
-]
-  where
-    gone : p ≡ q → ⊥
-    gone same = none-some g (sym (none_there slots q) ∙ subst (λ x. slice_index_or (slice_set slots q None) x None ≡ Some g) same is)
-      where
-        none_there : (xs : List (Option Held)) (k : ℕ) → slice_index_or (slice_set xs k None) k None ≡ None
-        none_there [] k = refl
-        none_there (x ∷ xs) zero = refl
-        none_there (x ∷ xs) (suc k) = none_there xs k
-
 changed_slot : (w : World) (input : Input) (p : ℕ) → MayChange w input → slot_at (after w (Change input)) p ≡ slot_at w p
 changed_slot w (script.Turn u sector) p may = refl
 changed_slot w (script.Noise noise) p may = refl

@@ -163,15 +163,6 @@ read_back unit block told Clean old new before after polls t unmarked = ap (λ (
 read_back unit block told Marked old new before after polls t unmarked =
     absurd (false_true (sym unmarked ∙ answered_marked (is_marked (old unit) block) Marked (polls.answer t) refl))
 
-pub read_mark : (unit block : ℕ) (told mark : Bool) (polled : Polled) (old new : ℕ → Pack) (before after : List ℕ)
-    → Polls unit block false told (record { held = old; bytes = before }) (record { held = new; bytes = after }) polled → polled ≡ answer_for mark
-    → IsTrue told → mark ≡ is_marked (old unit) block
-read_mark unit block told mark polled old new before after polls is t = by mark (is_marked (old unit) block) (sym is ∙ polls.answer t)
-  where
-    by : (a b : Bool) → answer_for a ≡ answer_for b → a ≡ b
-    by true b e = sym (answered_marked b Marked e refl)
-    by false b e = sym (answered b Clean e refl)
-
 pub write_clean : (unit block : ℕ) (told : Bool) (old new : ℕ → Pack) (bytes : List ℕ)
     → Polls unit block true told (record { held = old; bytes = bytes }) (record { held = new; bytes = bytes }) Clean → IsTrue told
     → (is_marked (old unit) block ≡ false) × (new ≡ with_written old unit block bytes)

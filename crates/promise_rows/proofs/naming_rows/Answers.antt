@@ -1,4 +1,4 @@
-use Rattle.promise_rows.proofs.Naming.{later_unit_named, fitting_length_named, first_event_untold, other_run_by_other_tables, reads_lengthen, not_as_long_as_written, two_lines_under_way, two_events_under_way, mark_gone_behind_a_failure}
+use Rattle.promise_rows.proofs.Naming.{later_unit_named, fitting_length_named, first_event_untold, other_run_by_other_tables, reads_lengthen, not_as_long_as_written, mark_gone_behind_a_failure}
 use Rattle.promise_rows.proofs.naming_rows.Goals as goal
 
 pub returns-clause-later_unit_named : goal.returns-clause-later_unit_named
@@ -18,12 +18,6 @@ returns-clause-reads_lengthen c = reads_lengthen
 
 pub returns-clause-not_as_long_as_written : goal.returns-clause-not_as_long_as_written
 returns-clause-not_as_long_as_written c = not_as_long_as_written
-
-pub returns-clause-two_lines_under_way : goal.returns-clause-two_lines_under_way
-returns-clause-two_lines_under_way c = two_lines_under_way
-
-pub returns-clause-two_events_under_way : goal.returns-clause-two_events_under_way
-returns-clause-two_events_under_way c = two_events_under_way
 
 pub returns-clause-mark_gone_behind_a_failure : goal.returns-clause-mark_gone_behind_a_failure
 returns-clause-mark_gone_behind_a_failure c = mark_gone_behind_a_failure

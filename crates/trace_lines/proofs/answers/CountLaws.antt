@@ -22,37 +22,6 @@ counts_both old mid new a b x y first later requests before said is =
     (subst (λ (text : List ℕ). new ≡ tally_by requests ((before ++ a) ++ b) text) (append_assoc said x y)
     (later requests (before ++ a) (said ++ x) (first requests before said is)))
 
--- WHAT A TALLY IS with more counted
-abbrev pub more_counted : List Answered → List ℕ → Tally → Tally
-more_counted answers text old = record {
-  requests = old.requests;
-  answers = at_most (old.answers + length answers);
-  ok = at_most (old.ok + count_by is_ok answers);
-  text = at_most (old.text + length text);
-  sum = (old.sum + sum text) % 2 ^ 32;
-}
-
-count_by-append : (xs ys : List Answered) → count_by is_ok (xs ++ ys) ≡ count_by is_ok xs + count_by is_ok ys
-count_by-append xs ys = sum_by-append (λ (a : Answered). if is_ok a then 1 else 0) xs ys
-
-stays_at_most : (m a b n : ℕ) → n ≡ a + b → min (min a m + b) m ≡ min n m
-stays_at_most m a b n is = omega (arith, is)
-
-same_tally : (requests a a' o o' t t' s s' : ℕ) → a ≡ a' → o ≡ o' → t ≡ t' → s ≡ s'
-    → ◌≡◌ {A = Tally} (record { requests = requests; answers = a; ok = o; text = t; sum = s }) (record { requests = requests; answers = a'; ok = o'; text = t'; sum = s' })
-same_tally requests a a' o o' t t' s s' answers ok text sums = cc
-
-more_is : (requests : ℕ) (before answers : List Answered) (said text : List ℕ) → more_counted answers text (tally_by requests before said) ≡ tally_by requests (before ++ answers) (said ++ text)
-more_is requests before answers said text =
-    same_tally requests _ _ _ _ _ _ _ _
-    (stays_at_most (2 ^ 64 - 1) (length before) (length answers) (length (before ++ answers)) (length-append before answers))
-    (stays_at_most (2 ^ 64 - 1) (count_by is_ok before) (count_by is_ok answers) (count_by is_ok (before ++ answers)) (count_by-append before answers))
-    (stays_at_most (2 ^ 64 - 1) (length said) (length text) (length (said ++ text)) (length-append said text))
-    (mod-add-mod (sum said) (2 ^ 32) (sum text) ∙ ap (λ (n : ℕ). n % 2 ^ 32) (sym (sum_by-append (λ (x : ℕ). x) said text)))
-
-pub counts_on : (answers : List Answered) (text : List ℕ) (old : Tally) → Counts answers text old (more_counted answers text old)
-counts_on answers text old requests before said is = ap (more_counted answers text) is ∙ more_is requests before answers said text
-
 -- the same piece by other names
 pub counts_same : (old new : Tally) (a b : List Answered) (x y : List ℕ) → Counts a x old new → a ≡ b → x ≡ y → Counts b y old new
 counts_same old new a b x y counts same same_text =

@@ -169,12 +169,3 @@ inserted-runs c x (y ∷ ys) h = sym (cond-false _ _ _ (not_first (c y) (c x))) 
 
 pub queue_with-runs : {A : Type 0} (c : A → ℕ) (x : A) (q : List A) → IsInOrder c q → queue_with c x q ≡ in_runs c x q
 queue_with-runs c x q h = queue_with-inserted c x q h ∙ inserted-runs c x q h
-
--- Worked: cylinders 10, 50, 20, 5 and 20 join, as numbers 1 to 5; and a queue that empties begins anew.
-two_sweeps : map (λ (x : ℕ × ℕ). x.0) (queue_of (service_after (λ (x : ℕ × ℕ). x.1) empty_service
-    (Joins (1, 10) ∷ Joins (2, 50) ∷ Joins (3, 20) ∷ Joins (4, 5) ∷ Joins (5, 20) ∷ []))) ≡ 1 ∷ 3 ∷ 5 ∷ 2 ∷ 4 ∷ []
-two_sweeps = refl
-
-sweeps_anew : map (λ (w : Waiting ℕ). w.sweep) (service_after (λ (c : ℕ). c) empty_service
-    (Joins 10 ∷ Joins 5 ∷ Leaves ∷ Joins 3 ∷ Leaves ∷ Leaves ∷ Joins 4 ∷ [])).waiting ≡ 0 ∷ []
-sweeps_anew = refl

@@ -1,5 +1,6 @@
 use Rattle.std.proofs.Common.{refl}
-use Rattle.callers.proofs.Taking.{so_far, one_more, fewer_wait, all_are_taken}
+use Rattle.callers.proofs.Taking.{so_far, one_more, all_are_taken}
+use Rattle.blocking_io.proofs.Taking.{fewer_wait}
 use Rattle.callers.proofs.both.take_answers.Goals as goal
 
 pub loop-answer-init : goal.loop-answer-init

@@ -53,7 +53,7 @@ returns-in-Err-Sink-clause-runs g c = runs_sink _ _ c.in-Ok.ensures.taken
       read = λ t. c.in-Ok.ensures.end t;
       spelled = λ t. c.in-Ok.ensures.ok t;
       leaves = λ t. left_by _ _ _ _ _ _ _ c.in-Err-Sink.field-0-is (c.in-Err-Sink.ensures.stopped t);
-      keeps = λ t. keeps c.beginnings_law.ensures.begun c.beginnings_law.ensures.next c.next_block_law.ensures
+      keeps = λ t. keeps c.beginnings_law.ensures.begun c.beginnings_law.ensures.next
           faults.Sink _ _ _ _ _ (c.meaning_law.ensures.read c.in-Ok.script.text c.in-Ok.script c.in-Ok.ensures.spells);
     })
     (c.in-Err-Sink.ensures.fits (sink_plays _ c.in-Err-Sink.field-0-is))
@@ -67,7 +67,7 @@ returns-in-Err-Store-clause-runs g c = runs_store _ _ c.in-Ok.ensures.taken
       read = λ t. c.in-Ok.ensures.end t;
       spelled = λ t. c.in-Ok.ensures.ok t;
       leaves = λ t. left_by _ _ _ _ _ _ _ c.in-Err-Store.field-0-is (c.in-Err-Store.ensures.stopped t);
-      keeps = λ t. keeps c.beginnings_law.ensures.begun c.beginnings_law.ensures.next c.next_block_law.ensures
+      keeps = λ t. keeps c.beginnings_law.ensures.begun c.beginnings_law.ensures.next
           faults.Store _ _ _ _ _ (c.meaning_law.ensures.read c.in-Ok.script.text c.in-Ok.script c.in-Ok.ensures.spells);
     })
     (c.in-Err-Store.ensures.causes.store (err_is c.in-Err-Store.field-0-is))
