@@ -6,3 +6,4 @@ pub mod Notes
 pub mod Watched
 pub mod Views
 pub mod Captions
+pub mod Answers

@@ -10,9 +10,11 @@
 //! its text and the drive that it names.
 //!
 //! What is proved: `watch_run`: whoever watches a run sees exactly its lines, in order, or a refusal names the first fault of the
-//! trace. `plays_of` gives the script as it is played.
+//! trace. `plays_of` gives the script as it is played. `answers_law`: if the trace is that of a legal run, the view has the answer of
+//! each request.
 #![tactic(auto)]
 
+mod answers;
 mod caption;
 mod counter;
 mod plays;
@@ -21,6 +23,7 @@ mod view;
 mod watch;
 mod watching;
 
+pub use answers::answers_law;
 pub use caption::caption_of;
 pub use plays::{first_text, plays_of, script_law};
 pub use seen::{Seen, Watcher};
