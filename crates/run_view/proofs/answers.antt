@@ -13,6 +13,7 @@ pub mod Meant
 pub mod OfRuns
 pub mod OwnLines
 pub mod Running
+pub mod Named
 pub mod Shown
 pub mod Starting
 pub mod Telling

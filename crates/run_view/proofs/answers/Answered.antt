@@ -15,7 +15,7 @@ use Rattle.run_picture.specs.Places.{place_of}
 use Rattle.trace_lines.specs.declared.telling.Told.TheVariants as deed
 use Rattle.trace_replay.specs.History.{lines_of, is_refusal, with_deed, lines_after, lines_behind}
 use Rattle.run_view.proofs.answers.OwnLines.{HasHeard, IsInCondition}
-use Rattle.run_view.specs.Answers.{IsWordOf, answer_word, IsDrawn}
+use Rattle.run_view.specs.Answers.{IsWordOf, answer_word, IsAnswered}
 use Rattle.run_view.proofs.answers.Hearing.{Holds, no_refusal}
 use Rattle.run_view.proofs.answers.Listening.{own_at}
 use Rattle.run_view.proofs.answers.OfRuns.{are_answered}
@@ -42,6 +42,7 @@ use Rattle.trace_replay.proofs.Asking.{run_asks}
 use Rattle.run_view.proofs.answers.Declaring.{IsDeclared, script_declared}
 use Rattle.run_view.proofs.answers.Conditions.{conditions_of}
 use Rattle.run_view.proofs.answers.Ended.{IsEnded, all_ended, finished_ended}
+use Rattle.run_view.proofs.answers.Named.{IsNamed, all_named, none_named}
 use Rattle.run_view.proofs.answers.Running.{refused_is_so, Both, AreGood, WishTied, next_tied, turned_both, moment_both, moment_fits}
 use Rattle.run_view.proofs.answers.Starting.{run_good, names_behind, good_parts, some_parts, all_both, start_both}
 use Rattle.run_view.proofs.answers.Telling.{request_many}
@@ -52,7 +53,7 @@ use Rattle.run_view.proofs.answers.Tying.{IsTied, Tied}
 abbrev pub AreAnswersDrawn : Type 0
 AreAnswersDrawn = (script : Script) (tables : ℕ → Option Table) (old new : ℕ → model.Pack) (ms ns : List Moment) (line u id : ℕ) (a : Answer) (window : Window)
     → IsLegalRun script tables old new (ms ++ Told line u id (End a) ∷ ns) → length ms < 2 ^ 64
-    → IsDrawn (run_from (known_of script window) (map seen_of (ms ++ Told line u id (End a) ∷ ns))) id a line
+    → IsAnswered (run_from (known_of script window) (map seen_of (ms ++ Told line u id (End a) ∷ ns))).requests id a line
 
 -- THE HEAD, and what it has heard
 pub record FullHead (names : List ℕ) (l : List Request) (x : Drive) (u : ℕ) (lines : List Deed) (id : ℕ) : Type 0 where
@@ -198,8 +199,9 @@ reached script tables old new known ms ns run is =
 
 pub are_answers_drawn : AreAnswersDrawn
 are_answers_drawn script tables old new ms ns line u id a window run short =
-    subst (λ z. IsDrawn (finished z) id a line) (sym whole)
+    subst (λ (z : Known). IsAnswered (finished z).requests id a line) (sym whole)
     (finished_ended (fold step (step k (seen_of m)) (map seen_of ns)) id a line
+    (all_named (step k (seen_of m)) (map seen_of ns) (all_named k (seen_of m ∷ []) (all_named known (map seen_of ms) start)))
     (all_ended (drives_of script) (names_behind [] ms) (after_moment s m) (step k (seen_of m)) ns (λ x. lines_after x m (lines_behind x [] ms)) id a line (some_parts m ns r.some).1 r.follows.1 r.good.1
     (moment_fits s (λ x. lines_behind x [] ms) m (some_parts m ns r.some).0 r.follows.0 r.fit) (moment_both (drives_of script) (names_behind [] ms) s k (λ x. lines_behind x [] ms) m r.follows.0 r.fit r.good.0 r.both) ended))
   where
@@ -208,6 +210,9 @@ are_answers_drawn script tables old new ms ns line u id a window run short =
 
     is : IsDeclared (drives_of script) known
     is = script_declared script window run.good
+
+    start : IsNamed known.ids known.requests
+    start = subst (λ (names : List ℕ). IsNamed names known.requests) (sym is.ids) (subst (λ (l : List Request). IsNamed [] l) (sym is.requests) none_named)
 
     m : Moment
     m = Told line u id (End a)

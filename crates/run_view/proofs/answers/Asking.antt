@@ -55,10 +55,10 @@ new_from n (x ∷ names) id e =
 from_none : (n m : ℕ) → n ≡ m → 0 + n ≡ m
 from_none n m e = omega (arith, e)
 
-new_place : (names : List ℕ) (l : List Request) (id : ℕ) → length names ≡ length l → place_of names id ≡ None → place_of (names ++ id ∷ []) id ≡ Some (length l)
+pub new_place : (names : List ℕ) (l : List Request) (id : ℕ) → length names ≡ length l → place_of names id ≡ None → place_of (names ++ id ∷ []) id ≡ Some (length l)
 new_place names l id e none = new_from 0 names id none ∙ ap (λ (m : ℕ). Some m) (from_none (length names) (length l) e)
 
-last_at : (l : List Request) (x : Request) → request_at (l ++ x ∷ []) (length l) ≡ x
+pub last_at : (l : List Request) (x : Request) → request_at (l ++ x ∷ []) (length l) ≡ x
 last_at [] x = refl
 last_at (y ∷ l) x = last_at l x
 
@@ -80,7 +80,7 @@ below_end n p inside e = omega (arith, inside, e)
 one_longer : (n m a b : ℕ) → n ≡ m → a ≡ n + 1 → b ≡ m + 1 → a ≡ b
 one_longer n m a b e f g = omega (arith, e, f, g)
 
-new_level : (names : List ℕ) (l : List Request) (id : ℕ) (x : Request) → length names ≡ length l → length (names ++ id ∷ []) ≡ length (l ++ x ∷ [])
+pub new_level : (names : List ℕ) (l : List Request) (id : ℕ) (x : Request) → length names ≡ length l → length (names ++ id ∷ []) ≡ length (l ++ x ∷ [])
 new_level names l id x e = one_longer (length names) (length l) (length (names ++ id ∷ [])) (length (l ++ x ∷ [])) e (length-append names (id ∷ [])) (length-append l (x ∷ []))
 
 -- NO OTHER has its id

@@ -1,16 +1,16 @@
 -- A request that was answered stays as it is drawn.
 use Rattle.std.proofs.Common.{◌≡◌, ◌≢◌, ℕ, zero, suc, ◌<◌, Bool, true, false, List, [], ◌∷◌, ◌++◌, length, map, fold, Option, Some, None, refl, sym, ap, ◌∙◌, subst, arith}
 use Rattle.std.specs.Prelude.{is_some}
-use Rattle.std.proofs.lemmas.Option.{none-some}
+use Rattle.std.proofs.lemmas.Option.{none-some, same_Some}
 use Rattle.drive_pictures.specs.declared.moments.Moment.{Moment as Seen}
 use Rattle.drive_pictures.specs.declared.moments.Moment.TheVariants as seen
 use Rattle.drive_pictures.specs.declared.requests.Request.{Request}
 use Rattle.drive_pictures.specs.Requests.{new_request, left}
 use Rattle.pack_geometry.specs.declared.DriveKind.{DriveKind}
 use Rattle.run_view.proofs.answers.Hears.{at_moment, seen_of, play_of, asked_of}
-use Rattle.run_view.proofs.answers.Listening.{own_at}
-use Rattle.run_view.specs.Answers.{IsWordOf, IsDrawn}
-use Rattle.run_picture.specs.Fold.{Known, heard, asked_at, admitted, drive_at, request_at, request_asked, frames_of, request_after, ended_behind, events_in, finished, step}
+use Rattle.run_view.proofs.answers.Listening.{own_at, one_id}
+use Rattle.run_view.specs.Answers.{IsWordOf, IsAnswered}
+use Rattle.run_picture.specs.Fold.{Known, heard, asked_at, admitted, drive_at, request_at, request_asked, frames_of, request_after, events_in, finished, step}
 use Rattle.run_picture.specs.Places.{place_of}
 use Rattle.trace_replay.specs.requests.Requests.{Answer, Request as Wished}
 use Rattle.trace_lines.specs.declared.telling.Told.{Told as Line}
@@ -23,10 +23,11 @@ use Rattle.trace_replay.specs.Replay.{Replay, LineMay, ToldMay, MayCome, Follows
 use Rattle.trace_replay.specs.Script.{Input, Submit, SetOnline, SetLocked}
 use Rattle.trace_replay.proofs.Kept.{AllFit}
 use Rattle.run_view.proofs.answers.Asking.{append_grows, below_end}
+use Rattle.run_view.proofs.answers.Drives.{is_same}
+use Rattle.run_view.proofs.answers.Named.{IsNamed}
 use Rattle.run_view.proofs.answers.Running.{Both, AreGood, names_after, AsksSomeAt, WishTied, next_tied, turned_both, moment_both, moment_fits}
 use Rattle.run_view.proofs.answers.Starting.{some_parts}
 use Rattle.run_view.proofs.answers.Telling.{HeadAt, head_at, set_grows}
-use Rattle.run_view.proofs.answers.Turning.{Rest, rest_of, ended_rest}
 use Rattle.run_view.proofs.answers.Tying.{Tied, Grows, Stays, moment_stays}
 
 -- IT HAS ENDED, with its answer's word or stopped
@@ -121,14 +122,28 @@ left_at events [] p inside = absurd (omega (arith, inside))
 left_at events (r ∷ l) zero inside = refl
 left_at events (r ∷ l) (suc p) inside = left_at events l p (omega (arith, inside))
 
-behind_rest : (o : Option Seen) (k : Known) → rest_of (ended_behind o k) ≡ rest_of k
-behind_rest None k = refl
-behind_rest (Some last) k = ended_rest last k
+left_many : (events : ℕ) (l : List Request) → length (map (left events) l) ≡ length l
+left_many events [] = refl
+left_many events (r ∷ l) = ap (λ (n : ℕ). suc n) (left_many events l)
 
-pub finished_ended : (k : Known) (id : ℕ) (a : Answer) (number : ℕ) → IsEnded k.ids k.requests id a number → IsDrawn (finished k) id a number
-finished_ended k id a number e = record {
-  place = e.place;
-  found = ap (λ (r : Rest). place_of r.ids id) (behind_rest k.before k) ∙ e.found;
-  line = ap (λ (r : Request). r.ended_line) (left_at (events_in k.before k.event) k.requests e.place e.inside) ∙ e.line;
-  outcome = subst (λ (r : Request). IsWordOf r.outcome a) (sym (left_at (events_in k.before k.event) k.requests e.place e.inside)) e.word;
-}
+-- it is the one of its id
+one_own : (names : List ℕ) (l : List Request) (id place : ℕ) → IsNamed names l → place_of names id ≡ Some place → place < length l → (request_at l place).id ≡ id
+one_own names l id place named found inside = is_same (request_at l place).id id (one_id 0 names (request_at l place).id id place (named.own place inside) found)
+
+one_alone : (names : List ℕ) (l : List Request) (id place : ℕ) → IsNamed names l → place_of names id ≡ Some place → (other : ℕ) → other < length l → (request_at l other).id ≡ id → other ≡ place
+one_alone names l id place named found other inside is = same_Some other place (sym (named.own other inside) ∙ ap (place_of names) is ∙ found)
+
+pub finished_ended : (k : Known) (id : ℕ) (a : Answer) (number : ℕ) → IsNamed k.ids k.requests → IsEnded k.ids k.requests id a number → IsAnswered (finished k).requests id a number
+finished_ended k id a number named e =
+    let events : ℕ = events_in k.before k.event in
+    let is : request_at (map (left events) k.requests) e.place ≡ left events (request_at k.requests e.place) = left_at events k.requests e.place e.inside in
+    let many : length (map (left events) k.requests) ≡ length k.requests = left_many events k.requests in record {
+      place = e.place;
+      inside = subst (λ n. e.place < n) (sym many) e.inside;
+      own = ap (λ (r : Request). r.id) is ∙ one_own k.ids k.requests id e.place named e.found e.inside;
+      alone = λ other inside own.
+          let before : other < length k.requests = subst (λ n. other < n) many inside in
+          one_alone k.ids k.requests id e.place named e.found other before (sym (ap (λ (r : Request). r.id) (left_at events k.requests other before)) ∙ own);
+      line = ap (λ (r : Request). r.ended_line) is ∙ e.line;
+      outcome = subst (λ (r : Request). IsWordOf r.outcome a) (sym is) e.word;
+    }
