@@ -1,3 +1,4 @@
+pub mod answers
 pub mod SeeLaws
 pub mod LinesTextLaws
 pub mod UnitLaws

@@ -8,13 +8,14 @@ use Rattle.run_view.specs.Runs.{run_of}
 use Rattle.run_view.specs.Runs as runs
 use Rattle.run_view.specs.Saids.{Said}
 use Rattle.run_picture.specs.Columns.{window_of}
-use Rattle.run_picture.specs.Fold.{step, finished, events_in}
+use Rattle.run_picture.specs.Fold.{step, finished, run_from, events_in}
 use Rattle.run_view.specs.declared.counter.Counter.{Counter}
 use Rattle.run_view.specs.declared.view.View.{View}
 use Rattle.run_view.specs.Events.{new_counter, counted}
 use Rattle.run_view.specs.Notes.{noted_of, notes_from}
 use Rattle.run_view.specs.Views.{known_before, played_text, Views}
 use Rattle.run_view.specs.Watched.{Watched, new_watched, saw}
+use Rattle.run_view.proofs.answers.Shown.{are_shown}
 use Rattle.run_view.proofs.WatchLaws.{known_all, notes_all}
 
 abbrev pub count_said : Counter → Said → Counter
@@ -39,12 +40,15 @@ made script trace first last view plays counter before behind plays_are one coun
     counts.saw ∙ ap (λ (ls : List TraceLine). fold count_said new_counter (run_of plays ls)) same
     ∙ ap (λ (ps : List Said). fold count_said new_counter (run_of ps lines)) plays_are in
     let behind_is : behind ≡ fold saw before run = watched.saw ∙ ap (λ (ps : List Said). fold saw before (run_of ps lines)) plays_are in
+    let known_is : view.run ≡ run_from (known_before script view.window) (map (λ said. said.moment) run) =
+    run_is ∙ ap (λ (w : Watched). finished w.known) behind_is ∙ ap finished (known_all before run)
+    ∙ ap (λ (w : Watched). finished (fold step w.known (map (λ said. said.moment) run))) before_is in
     record {
       lines = lines;
       spells = watched.spells;
       window = window_is ∙ ap (λ (c : Counter). window_of (events_in c.before c.event) first last) counter_is;
-      run = run_is ∙ ap (λ (w : Watched). finished w.known) behind_is ∙ ap finished (known_all before run)
-          ∙ ap (λ (w : Watched). finished (fold step w.known (map (λ said. said.moment) run))) before_is;
+      run = known_is;
+      answers = are_shown script trace lines view.window view.run watched.spells known_is;
       notes = notes_are ∙ ap (λ (w : Watched). w.notes) behind_is ∙ notes_all before run
           ∙ ap (λ (w : Watched). w.notes ++ notes_from w.window w.counter.before w.counter.event run) before_is;
       texts = texts_are ∙ ap (λ (ps : List Said). map (λ column. played_text ps column.head.line) view.run.columns) plays_are;

@@ -4,5 +4,6 @@ pub mod Runs
 pub mod Events
 pub mod Notes
 pub mod Watched
+pub mod Answers
 pub mod Views
 pub mod Captions

@@ -1,6 +1,7 @@
 -- WHAT A PICTURE SHOWS OF A RUN.
 use Rattle.std.specs.Prelude.{◌≡◌, ℕ, ◌==◌, if◌then◌else◌, List, [], ◌∷◌, map, fold}
 use Rattle.drive_pictures.specs.Events.{line_of}
+use Rattle.run_view.specs.Answers.{HasAnswers}
 use Rattle.run_view.specs.Plays.{plays_of}
 use Rattle.run_view.specs.Runs.{run_of}
 use Rattle.run_view.specs.Saids.{Said}
@@ -39,11 +40,13 @@ played_text [] line = []
 played_text (play ∷ plays) line = if line_of play.moment == line then play.text else played_text plays line
 
 -- IT SHOWS THE RUN of a script and of the lines that the bytes of its trace spell: of its own events those from one up to another;
--- what is known behind its last line; the lines that name a drive; and the texts of the lines at which columns begin.
+-- what is known behind its last line, and so the answers, where the run is legal; the lines that name a drive; and the texts of the
+-- lines at which columns begin.
 pub record Views (script : Stored) (trace : List ℕ) (first last : ℕ) (view : View) : Type 0 where
   pub lines : List TraceLine
   pub spells : Spells script trace lines
   pub window : view.window ≡ window_of (events_of (run_of (plays_of script) lines)) first last
   pub run : view.run ≡ run_from (known_before script view.window) (map (λ said. said.moment) (run_of (plays_of script) lines))
+  pub answers : HasAnswers script trace view.run.requests
   pub notes : map noted_of view.notes.items ≡ notes_of view.window (run_of (plays_of script) lines)
   pub texts : map (λ text. text.now) view.texts.items ≡ map (λ column. played_text (plays_of script) column.head.line) view.run.columns

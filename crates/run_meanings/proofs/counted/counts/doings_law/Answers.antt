@@ -1,5 +1,0 @@
-use Rattle.run_meanings.proofs.counted.Doing.{does}
-use Rattle.run_meanings.proofs.counted.counts.doings_law.Goals as goal
-
-pub returns : goal.returns
-returns c = does
