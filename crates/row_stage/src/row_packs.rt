@@ -1,6 +1,6 @@
 // The packs of a row.
 ghost use Rattle.std.specs.Prelude.{◌≡◌, OnErr};
-ghost use Rattle.outside_traits.specs.declared.traits.PackCall.TheVariants.{Block};
+ghost use Rattle.outside_traits.specs.declared.traits.PackCall.TheVariants as asked;
 
 use crate::scenes::{Operation, is_last};
 use outside_traits::traits::{PackCall, Packs, StoreFailed};
@@ -170,7 +170,7 @@ impl RowPacks {
 
     /// The same for a call that changes a block. There may be no room for that block.
     fn called_at(&mut self, operation: Operation, unit: u8, block: u32) -> Result<(), StoreFailed>
-        ensures { OnErr result (self.new.called ≡ Block unit block) }
+        ensures { OnErr result (self.new.called ≡ asked.Block unit block) }
     {
         if u64::from(block) < self.units[unit as usize % 32].room {
             return self.called(operation, PackCall::Block { unit, block });
