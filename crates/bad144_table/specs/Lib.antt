@@ -1,3 +1,4 @@
 pub mod Faults
 pub mod Inserts
 pub mod Last
+pub mod Copies

@@ -1,7 +1,10 @@
-ghost use Rattle.std.specs.Prelude.{◌≡◌, ◌<◌, IfOk, IfSome, IsTrue, MatchOption};
+ghost use Rattle.std.specs.Prelude.{◌≡◌, ◌<◌, IfOk, IfSome, IsTrue, MatchOption, OnErr};
+ghost use Rattle.pack_geometry.specs.Geometry.{copy_at};
 ghost use Rattle.pack_geometry.specs.TableSpelling.{Table};
 ghost use Rattle.pack_geometry.specs.PackTable.{IsTableOf, Tells};
 ghost use Rattle.outside_traits.specs.Causes.{HasCause};
+ghost use Rattle.outside_traits.specs.declared.traits.PackCall.TheVariants.{Block};
+ghost use Rattle.bad144_table.specs.Copies.{IsAtCopy};
 
 use crate::spelling::read_table;
 use crate::table::BadTable;
@@ -23,6 +26,7 @@ fn told_by<P: Packs>(
         ((table : Table) → ¬ (Tells kind (P.held packs.old unit) k table)) (λ table. Tells kind (P.held packs.old unit) k table)) }
     ensures same { IsTrue (P.tells packs.new) → P.held packs.new ≡ P.held packs.old }
     ensures cause { HasCause (P.faults packs.old) (P.faults packs.new) result }
+    ensures at { OnErr result (P.failed_at packs.new ≡ Block unit (copy_at kind k)) }
 {
     let block = copy_block(kind, k);
     if packs.marked(unit, block)? {
@@ -37,7 +41,8 @@ fn told_by<P: Packs>(
 }
 
 /// The table of a unit's pack, by DEC STD 144: the first of its five copies that is unmarked and spells a table for this
-/// kind of drive tells it. None if no copy does. The packs stay as they are. The call fails only if their count of faults rose.
+/// kind of drive tells it. None if no copy does. The packs stay as they are. The call fails only if their count of faults rose,
+/// and then at one of the five copies.
 pub fn table_of<P: Packs>(
     packs: &mut P,
     unit: u8,
@@ -49,6 +54,7 @@ pub fn table_of<P: Packs>(
     ensures table { IfOk result (λ table. IsTrue (P.tells packs.new) → IsTableOf kind (P.held packs.old unit) table) }
     ensures same { IsTrue (P.tells packs.new) → P.held packs.new ≡ P.held packs.old }
     ensures cause { HasCause (P.faults packs.old) (P.faults packs.new) result }
+    ensures at { OnErr result (IsAtCopy kind unit (P.failed_at packs.new)) }
 {
     for k in 0..5u32 {
         match told_by(packs, unit, kind, k)? {

@@ -1,7 +1,9 @@
 // What a caller may supply itself: a source, a sink, and packs.
 ghost use Rattle.std.specs.Prelude.{true, false, [], replicate};
 
-use outside_traits::traits::{Packs, Sink, SinkFailed, Source, SourceFailed, StoreFailed};
+use outside_traits::traits::{
+    PackCall, Packs, Sink, SinkFailed, Source, SourceFailed, StoreFailed,
+};
 
 /// A source of zeros. It tells how many are left, and it never fails.
 #[derive(Drop)]
@@ -49,18 +51,24 @@ impl Sink for Counter {
 pub struct Disk {
     bytes: Vec<u8>,
     faults: u64,
+    failed_at: PackCall,
 }
 
 impl Disk {
     ghost use Rattle.std.specs.Prelude.{◌≡◌, ◌≤◌};
     ghost use Rattle.outside_traits.specs.Causes.{Rose};
+    ghost use Rattle.outside_traits.specs.declared.traits.PackCall.TheVariants.{Block};
 
     /// Creates the disk whose image has these bytes.
     pub fn new(bytes: Vec<u8>) -> Disk
         ensures image { result.bytes.items ≡ bytes.items }
         ensures faults { result.faults ≡ 0 }
     {
-        Disk { bytes, faults: 0 }
+        Disk {
+            bytes,
+            faults: 0,
+            failed_at: PackCall::Length { unit: 0 },
+        }
     }
 
     /// The bytes of the image as they are now.
@@ -70,12 +78,14 @@ impl Disk {
         &self.bytes
     }
 
-    /// Counts a failure.
-    fn failed(&mut self) -> StoreFailed
+    /// Counts a failure, and keeps which block it was about.
+    fn failed(&mut self, unit: u8, block: u32) -> StoreFailed
         ensures later { self.old.faults ≤ self.new.faults }
         ensures rose { Rose self.old.faults self.new.faults }
+        ensures at { self.new.failed_at ≡ Block unit block }
     {
         self.faults = self.faults.saturating_add(1);
+        self.failed_at = PackCall::Block { unit, block };
         StoreFailed
     }
 }
@@ -88,6 +98,8 @@ impl Packs for Disk {
     ghost held = { λ _ _. empty_pack };
 
     ghost faults = { λ p. p.faults };
+
+    ghost failed_at = { λ p. p.failed_at };
 
     fn length(&mut self, unit: u8) -> Result<u64, StoreFailed> {
         if unit == 0 {
@@ -110,7 +122,7 @@ impl Packs for Disk {
     fn write(&mut self, unit: u8, block: u32, from: &[u8; 512]) -> Result<(), StoreFailed> {
         let at = 512 * block as usize;
         if unit != 0 || at + 512 > self.bytes.len() {
-            return Err(self.failed());
+            return Err(self.failed(unit, block));
         }
         self.bytes[at..at + 512].copy_from_slice(from);
         Ok(())
@@ -120,7 +132,7 @@ impl Packs for Disk {
         Ok(false)
     }
 
-    fn set_mark(&mut self, _unit: u8, _block: u32, _on: bool) -> Result<(), StoreFailed> {
-        Err(self.failed())
+    fn set_mark(&mut self, unit: u8, block: u32, _on: bool) -> Result<(), StoreFailed> {
+        Err(self.failed(unit, block))
     }
 }

@@ -1,8 +1,8 @@
 // A pack of which few blocks are written, and on which one call goes wrong.
-ghost use Rattle.std.specs.Prelude.{◌≡◌};
+ghost use Rattle.std.specs.Prelude.{◌≡◌, OnErr};
 ghost use Rattle.outside_traits.specs.Causes.{HasCause};
 
-use outside_traits::traits::{Packs, StoreFailed};
+use outside_traits::traits::{PackCall, Packs, StoreFailed};
 use std::alloc::Global;
 
 /// How a call goes wrong.
@@ -37,6 +37,7 @@ pub(crate) struct FewBlocks {
     pub(crate) written: Vec<Written>,
     marks: &'static [u32],
     failed: u64,
+    failed_at: PackCall,
     number: u64,
     wrong: Wrong,
 }
@@ -54,6 +55,7 @@ pub(crate) fn few_blocks(
         written: Vec::new(alloc),
         marks,
         failed: 0,
+        failed_at: PackCall::Length { unit: 0 },
         number,
         wrong,
     }
@@ -61,12 +63,14 @@ pub(crate) fn few_blocks(
 
 impl FewBlocks {
     /// Counts a call, which fails if it is to fail.
-    fn call(&mut self) -> Result<(), StoreFailed>
-        ensures { HasCause self.old.failed self.new.failed result }
+    fn call(&mut self, call: PackCall) -> Result<(), StoreFailed>
+        ensures cause { HasCause self.old.failed self.new.failed result }
+        ensures at { OnErr result (self.new.failed_at ≡ call) }
     {
         self.calls = self.calls.saturating_add(1);
         if matches!(self.wrong_now(), Some(Wrong::Fails | Wrong::FailsBehind)) {
             self.failed = self.failed.saturating_add(1);
+            self.failed_at = call;
             return Err(StoreFailed);
         }
         Ok(())
@@ -94,7 +98,8 @@ impl FewBlocks {
 
     /// Keeps what is written.
     fn keep(&mut self, block: u32, bytes: &[u8; 512])
-        ensures { self.new.failed ≡ self.old.failed }
+        ensures failed { self.new.failed ≡ self.old.failed }
+        ensures failed_at { self.new.failed_at ≡ self.old.failed_at }
     {
         let _ = self.written.push(Written {
             call: self.calls,
@@ -114,13 +119,15 @@ impl Packs for FewBlocks {
 
     ghost faults = { λ p. p.failed };
 
-    fn length(&mut self, _: u8) -> Result<u64, StoreFailed> {
-        self.call()?;
+    ghost failed_at = { λ p. p.failed_at };
+
+    fn length(&mut self, unit: u8) -> Result<u64, StoreFailed> {
+        self.call(PackCall::Length { unit })?;
         Ok(self.length)
     }
 
-    fn read(&mut self, _: u8, block: u32, into: &mut [u8; 512]) -> Result<(), StoreFailed> {
-        self.call()?;
+    fn read(&mut self, unit: u8, block: u32, into: &mut [u8; 512]) -> Result<(), StoreFailed> {
+        self.call(PackCall::Block { unit, block })?;
         *into = self.content(block);
         if matches!(self.wrong_now(), Some(Wrong::Lies)) {
             into[511] = !into[511];
@@ -128,16 +135,16 @@ impl Packs for FewBlocks {
         Ok(())
     }
 
-    fn write(&mut self, _: u8, block: u32, from: &[u8; 512]) -> Result<(), StoreFailed> {
-        let called = self.call();
+    fn write(&mut self, unit: u8, block: u32, from: &[u8; 512]) -> Result<(), StoreFailed> {
+        let called = self.call(PackCall::Block { unit, block });
         if matches!(self.wrong_now(), None | Some(Wrong::FailsBehind)) {
             self.keep(block, from);
         }
         called
     }
 
-    fn marked(&mut self, _: u8, block: u32) -> Result<bool, StoreFailed> {
-        self.call()?;
+    fn marked(&mut self, unit: u8, block: u32) -> Result<bool, StoreFailed> {
+        self.call(PackCall::Block { unit, block })?;
         let lies = matches!(self.wrong_now(), Some(Wrong::Lies));
         let good = block == 0 || block == 65_760 || block > 131_520;
         Ok(lies || self.marks.contains(&block) || (!good && self.calls > SURVEYED))

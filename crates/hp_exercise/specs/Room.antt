@@ -1,6 +1,7 @@
 -- The room for an exercise, and the packs in memory on which it is played.
 use Rattle.std.specs.Prelude.{◌≡◌, ℕ, ◌<◌, ◌≤◌, ◌-◌, ◌^◌, ◌==◌, ◌||◌, true, if◌then◌else◌, List, [], length, Option, None, Some, slice_get}
 use Rattle.pack_geometry.specs.Pack.{Pack, empty_pack, with_written, with_mark}
+use Rattle.outside_traits.specs.declared.traits.PackCall.{PackCall}
 use Rattle.mass_outside.specs.declared.slots.Image.{Image}
 use Rattle.mass_outside.specs.Images.{slot_of}
 use Rattle.mass_outside.specs.Slots.{blocks_in}
@@ -16,10 +17,11 @@ room_on unit = if (unit == 0) || (unit == 1) || (unit == 8) then 15015 else 0
 abbrev pub AreEmpty : (ℕ → Pack) → Type 0
 AreEmpty packs = (unit : ℕ) → packs unit ≡ empty_pack
 
--- Packs with this room; and what was to be written beyond it, once it was tried.
+-- Packs with this room; what was to be written beyond it, once it was tried; and at which call they failed.
 pub record RoomView : Type 0 where
   pub packs : SureView
   pub outside : Option Outside
+  pub failed_at : PackCall
 
 abbrev pub with_outside : Option Outside → (ℕ → Pack) → ℕ → Pack
 with_outside None packs = packs

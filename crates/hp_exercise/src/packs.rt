@@ -4,7 +4,7 @@ ghost use Rattle.hp_exercise.specs.Room.{AreEmpty, IsBlank, AreBlank, held_on, r
 
 use mass_outside::slots::Image;
 use mass_outside::sure_packs::SurePacks;
-use outside_traits::traits::{NoMemory, Packs, StoreFailed};
+use outside_traits::traits::{NoMemory, PackCall, Packs, StoreFailed};
 use std::alloc::Global;
 use std::marker::Model;
 
@@ -63,6 +63,7 @@ fn images(alloc: Global) -> Result<Vec<Image>, NoMemory>
 pub struct ExercisePacks {
     packs: SurePacks,
     outside: Option<Outside>,
+    failed_at: PackCall,
 }
 
 impl Model for ExercisePacks {
@@ -70,7 +71,7 @@ impl Model for ExercisePacks {
 
     ghost Value = { RoomView };
 
-    ghost view = { λ p. record { packs = p.packs; outside = p.outside } };
+    ghost view = { λ p. record { packs = p.packs; outside = p.outside; failed_at = p.failed_at } };
 
     ghost invariant = { λ p. HasRoom p.packs × IsOutside p.outside };
 }
@@ -89,7 +90,16 @@ impl ExercisePacks {
         Ok(ExercisePacks {
             packs,
             outside: None,
+            failed_at: PackCall::Length { unit: 0 },
         })
+    }
+
+    /// Keeps at which call the packs failed.
+    fn failed(&mut self, call: PackCall) -> StoreFailed
+        ensures { self.new ≡ record self.old { failed_at = call } }
+    {
+        self.failed_at = call;
+        StoreFailed
     }
 
     /// The law of what is kept beside the packs: it lies beyond their room.
@@ -109,23 +119,25 @@ impl Packs for ExercisePacks {
 
     ghost faults = { λ p. faults_of p.outside };
 
+    ghost failed_at = { λ p. p.failed_at };
+
     fn length(&mut self, unit: u8) -> Result<u64, StoreFailed> {
         if self.outside.is_some() {
-            return Err(StoreFailed);
+            return Err(self.failed(PackCall::Length { unit }));
         }
         self.packs.length(unit)
     }
 
     fn read(&mut self, unit: u8, block: u32, into: &mut [u8; 512]) -> Result<(), StoreFailed> {
         if self.outside.is_some() {
-            return Err(StoreFailed);
+            return Err(self.failed(PackCall::Block { unit, block }));
         }
         self.packs.read(unit, block, into)
     }
 
     fn write(&mut self, unit: u8, block: u32, from: &[u8; 512]) -> Result<(), StoreFailed> {
         if self.outside.is_some() {
-            return Err(StoreFailed);
+            return Err(self.failed(PackCall::Block { unit, block }));
         }
         if block >= room(unit) {
             self.outside = Some(Outside::Block {
@@ -133,25 +145,25 @@ impl Packs for ExercisePacks {
                 block,
                 bytes: *from,
             });
-            return Err(StoreFailed);
+            return Err(self.failed(PackCall::Block { unit, block }));
         }
         self.packs.write(unit, block, from)
     }
 
     fn marked(&mut self, unit: u8, block: u32) -> Result<bool, StoreFailed> {
         if self.outside.is_some() {
-            return Err(StoreFailed);
+            return Err(self.failed(PackCall::Block { unit, block }));
         }
         self.packs.marked(unit, block)
     }
 
     fn set_mark(&mut self, unit: u8, block: u32, on: bool) -> Result<(), StoreFailed> {
         if self.outside.is_some() {
-            return Err(StoreFailed);
+            return Err(self.failed(PackCall::Block { unit, block }));
         }
         if block >= room(unit) {
             self.outside = Some(Outside::Mark { unit, block, on });
-            return Err(StoreFailed);
+            return Err(self.failed(PackCall::Block { unit, block }));
         }
         self.packs.set_mark(unit, block, on)
     }

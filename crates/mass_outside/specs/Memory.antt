@@ -3,9 +3,10 @@ use Rattle.std.specs.Prelude.{◌≡◌, ℕ, nat_lt, not, Bool, if◌then◌els
 use Rattle.pack_geometry.specs.Pack.{Pack}
 use Rattle.mass_outside.specs.Slots.{SlotView, held_slots, blocks_in, slot_written, slot_marked}
 use Rattle.outside_traits.specs.Causes.{next}
+use Rattle.outside_traits.specs.declared.traits.PackCall.{PackCall}
 use Rattle.mass_outside.specs.declared.mem_packs.FailCall.{FailCall}
 
--- the slots of the 32 units, the calls that fail, how many calls of each operation were made, and the failures
+-- the slots of the 32 units, the calls that fail, how many calls of each operation were made, the failures, and at which call the last one was
 pub record MemView : Type 0 where
   pub slots : List SlotView
   pub fail : List FailCall
@@ -15,6 +16,7 @@ pub record MemView : Type 0 where
   pub markeds : ℕ
   pub set_marks : ℕ
   pub faults : ℕ
+  pub failed_at : PackCall
 
 abbrev pub held_by : MemView → ℕ → Pack
 held_by packs unit = held_slots packs.slots unit

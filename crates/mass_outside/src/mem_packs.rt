@@ -4,7 +4,7 @@ ghost use Rattle.mass_outside.specs.Slots.{AllEmpty};
 ghost use Rattle.mass_outside.specs.Memory.{IsFresh};
 
 use crate::slots::{Image, Slot};
-use outside_traits::traits::{NoMemory, Packs, StoreFailed};
+use outside_traits::traits::{NoMemory, PackCall, Packs, StoreFailed};
 use std::alloc::{AllocError, Global};
 use std::marker::Model;
 
@@ -65,6 +65,7 @@ pub struct MemPacks {
     markeds: u64,
     set_marks: u64,
     faults: u64,
+    failed_at: PackCall,
 }
 
 impl Model for MemPacks {
@@ -82,6 +83,7 @@ impl Model for MemPacks {
       markeds = p.markeds;
       set_marks = p.set_marks;
       faults = p.faults;
+      failed_at = p.failed_at;
     } };
 
     ghost invariant = { λ p. length p.slots.items ≡ 32 };
@@ -136,14 +138,16 @@ impl MemPacks {
             markeds: 0,
             set_marks: 0,
             faults: 0,
+            failed_at: PackCall::Length { unit: 0 },
         })
     }
 
-    /// Counts a failure.
-    fn failed(&mut self) -> StoreFailed
-        ensures { self.new ≡ record self.old { faults = next self.old.faults } }
+    /// Counts a failure of this call.
+    fn failed(&mut self, call: PackCall) -> StoreFailed
+        ensures { self.new ≡ record self.old { faults = next self.old.faults; failed_at = call } }
     {
         self.faults = self.faults.saturating_add(1);
+        self.failed_at = call;
         StoreFailed
     }
 }
@@ -152,6 +156,7 @@ impl Packs for MemPacks {
     ghost use Rattle.std.specs.Prelude.{true};
     ghost use Rattle.pack_geometry.specs.Pack.{block_at, is_marked, with_written, with_mark};
     ghost use Rattle.outside_traits.specs.Causes.{HasCause, next};
+    ghost use Rattle.outside_traits.specs.declared.traits.PackCall.TheVariants.{Length, Block};
     ghost use Rattle.mass_outside.specs.Memory.{held_by, has_no_room, AfterWrite, AfterMark};
 
     ghost tells = { λ _. true };
@@ -159,6 +164,8 @@ impl Packs for MemPacks {
     ghost held = { held_by };
 
     ghost faults = { λ p. p.faults };
+
+    ghost failed_at = { λ p. p.failed_at };
 
     fn length(&mut self, unit: u8) -> Result<u64, StoreFailed>
         requires { unit < 32 }
@@ -169,11 +176,11 @@ impl Packs for MemPacks {
         // The call fails exactly if it is listed, and then counts the failure.
         ensures exact { is_err result ≡ is_listed self.old.fail PackOp.Length (next self.old.lengths) }
         ensures ok { OnOk result (self.new ≡ record self.old { lengths = next self.old.lengths }) }
-        ensures err { OnErr result (self.new ≡ record self.old { lengths = next self.old.lengths; faults = next self.old.faults }) }
+        ensures err { OnErr result (self.new ≡ record self.old { lengths = next self.old.lengths; faults = next self.old.faults; failed_at = Length unit }) }
     {
         self.lengths = self.lengths.saturating_add(1);
         if is_listed(self.fail.as_slice(), PackOp::Length, self.lengths) {
-            return Err(self.failed());
+            return Err(self.failed(PackCall::Length { unit }));
         }
         Ok(self.slots[unit as usize].length())
     }
@@ -187,11 +194,11 @@ impl Packs for MemPacks {
         // The call fails exactly if it is listed, and then counts the failure.
         ensures exact { is_err result ≡ is_listed self.old.fail PackOp.Read (next self.old.reads) }
         ensures ok { OnOk result (self.new ≡ record self.old { reads = next self.old.reads }) }
-        ensures err { OnErr result (self.new ≡ record self.old { reads = next self.old.reads; faults = next self.old.faults }) }
+        ensures err { OnErr result (self.new ≡ record self.old { reads = next self.old.reads; faults = next self.old.faults; failed_at = Block unit block }) }
     {
         self.reads = self.reads.saturating_add(1);
         if is_listed(self.fail.as_slice(), PackOp::Read, self.reads) {
-            return Err(self.failed());
+            return Err(self.failed(PackCall::Block { unit, block }));
         }
         self.slots[unit as usize].read(block, into);
         Ok(())
@@ -206,14 +213,14 @@ impl Packs for MemPacks {
         // The call fails exactly if it is listed or there is no room, and then counts the failure.
         ensures exact { is_err result ≡ (is_listed self.old.fail PackOp.Write (next self.old.writes) || has_no_room self.old unit block) }
         ensures done { OnOk result (AfterWrite self.old unit block from.now self.new) }
-        ensures failed { OnErr result (self.new ≡ record self.old { writes = next self.old.writes; faults = next self.old.faults }) }
+        ensures failed { OnErr result (self.new ≡ record self.old { writes = next self.old.writes; faults = next self.old.faults; failed_at = Block unit block }) }
     {
         self.writes = self.writes.saturating_add(1);
         if is_listed(self.fail.as_slice(), PackOp::Write, self.writes) {
-            return Err(self.failed());
+            return Err(self.failed(PackCall::Block { unit, block }));
         }
         if !self.slots[unit as usize].has(block) {
-            return Err(self.failed());
+            return Err(self.failed(PackCall::Block { unit, block }));
         }
         self.slots[unit as usize].write(block, from);
         Ok(())
@@ -228,11 +235,11 @@ impl Packs for MemPacks {
         // The call fails exactly if it is listed, and then counts the failure.
         ensures exact { is_err result ≡ is_listed self.old.fail PackOp.Marked (next self.old.markeds) }
         ensures ok { OnOk result (self.new ≡ record self.old { markeds = next self.old.markeds }) }
-        ensures err { OnErr result (self.new ≡ record self.old { markeds = next self.old.markeds; faults = next self.old.faults }) }
+        ensures err { OnErr result (self.new ≡ record self.old { markeds = next self.old.markeds; faults = next self.old.faults; failed_at = Block unit block }) }
     {
         self.markeds = self.markeds.saturating_add(1);
         if is_listed(self.fail.as_slice(), PackOp::Marked, self.markeds) {
-            return Err(self.failed());
+            return Err(self.failed(PackCall::Block { unit, block }));
         }
         Ok(self.slots[unit as usize].marked(block))
     }
@@ -246,14 +253,14 @@ impl Packs for MemPacks {
         // The call fails exactly if it is listed or there is no room, and then counts the failure.
         ensures exact { is_err result ≡ (is_listed self.old.fail PackOp.SetMark (next self.old.set_marks) || has_no_room self.old unit block) }
         ensures done { OnOk result (AfterMark self.old unit block on self.new) }
-        ensures failed { OnErr result (self.new ≡ record self.old { set_marks = next self.old.set_marks; faults = next self.old.faults }) }
+        ensures failed { OnErr result (self.new ≡ record self.old { set_marks = next self.old.set_marks; faults = next self.old.faults; failed_at = Block unit block }) }
     {
         self.set_marks = self.set_marks.saturating_add(1);
         if is_listed(self.fail.as_slice(), PackOp::SetMark, self.set_marks) {
-            return Err(self.failed());
+            return Err(self.failed(PackCall::Block { unit, block }));
         }
         if !self.slots[unit as usize].has(block) {
-            return Err(self.failed());
+            return Err(self.failed(PackCall::Block { unit, block }));
         }
         self.slots[unit as usize].set_mark(block, u8::from(on));
         Ok(())

@@ -43,6 +43,7 @@ impl SurePacks {
 impl Packs for SurePacks {
     ghost use Rattle.pack_geometry.specs.Pack.{block_at, is_marked, with_written, with_mark};
     ghost use Rattle.outside_traits.specs.Causes.{HasCause};
+    ghost use Rattle.outside_traits.specs.declared.traits.PackCall.TheVariants.{Length};
     ghost use Rattle.mass_outside.specs.Sure.{sure_held, SureWrote, SureMarked};
 
     ghost tells = { λ p. p.tells };
@@ -50,6 +51,8 @@ impl Packs for SurePacks {
     ghost held = { sure_held };
 
     ghost faults = { λ _. 0 };
+
+    ghost failed_at = { λ _. Length 0 };
 
     // The result of a call that changes nothing is what the packs hold, even after they no longer tell it.
     fn length(&mut self, unit: u8) -> Result<u64, StoreFailed>

@@ -10,7 +10,7 @@ ghost use Rattle.pack_geometry.specs.TableSpelling.{IsTable};
 ghost use Rattle.outside_traits.specs.Causes.{Rose};
 ghost use Rattle.mba_autoconf.specs.declared.attaching.Attached.{Attached};
 ghost use Rattle.mba_autoconf.specs.Probe.{nine_bits, type_code};
-ghost use Rattle.mba_autoconf.specs.Attach.{Answers, IsLong};
+ghost use Rattle.mba_autoconf.specs.Attach.{Answers, IsAttaching, IsLong};
 
 use crate::probing::kind_of_drive;
 use bad144_table::{BadTable, entries, table_of};
@@ -66,7 +66,7 @@ fn valid_law(table: &Option<BadTable>)
 /// the kind, and the first of the pack's five copies that is unmarked and spells a table for that kind tells the table.
 ///
 /// TooLong comes, before any block is read, exactly if the image has more bytes than the drive's blocks have; Store comes
-/// only if the packs' count of faults rose. The packs stay as they are.
+/// only if the packs' count of faults rose, as they failed at the image's length or at a copy of its table. The packs stay as they are.
 pub fn attach<P: Packs>(drive: &mut Drive, packs: &mut P, unit: u8) -> Result<Attached, AttachFault>
     requires unit { unit < 32 }
     requires ready { is_ready drive.old.work ≡ true }
@@ -80,6 +80,7 @@ pub fn attach<P: Packs>(drive: &mut Drive, packs: &mut P, unit: u8) -> Result<At
     ensures same { IsTrue (P.tells packs.new) → P.held packs.new ≡ P.held packs.old }
     ensures later { P.faults packs.old ≤ P.faults packs.new }
     ensures store { IsErrOf result AttachFault.Store → Rose (P.faults packs.old) (P.faults packs.new) }
+    ensures at { IsErrOf result AttachFault.Store → IsAttaching drive.old.kind unit (P.failed_at packs.new) }
 {
     let kind = kind_of_drive(drive);
     drive.attach();

@@ -1,6 +1,7 @@
 ghost use Rattle.std.specs.Prelude.{◌≡◌, ◌<◌, ◌*◌, ◌==◌, ◌⊎◌, IsTrue, true, false, not, if◌then◌else◌, length, IfOk, OnOk, OnErr};
 ghost use Rattle.pack_geometry.specs.Pack.{window, block_at, is_marked, with_written, with_mark};
 ghost use Rattle.outside_traits.specs.Causes.{HasCause, Counts};
+ghost use Rattle.outside_traits.specs.declared.traits.PackCall.TheVariants.{Length, Block};
 ghost use Rattle.outside_files.specs.Folder.{with_put, IsTorn, tells_whole};
 ghost use Rattle.outside_files.specs.declared.folder.Part.TheVariants.{Image};
 
@@ -9,7 +10,7 @@ use crate::folder::{PackFolder, Part};
 use crate::os_folder::OsFolder;
 use crate::streams::counted;
 use crate::transfers::{length_of, read_window, write_front};
-use outside_traits::traits::{Packs, StoreFailed};
+use outside_traits::traits::{PackCall, Packs, StoreFailed};
 use outside_traits::wide_packs::WidePacks;
 use std::io;
 use std::os::unix::fs::FileExt;
@@ -60,6 +61,7 @@ pub struct FilePacks<F> {
     folder: F,
     torn: bool,
     faults: u64,
+    called: PackCall,
     notes: PackNotes,
 }
 
@@ -88,6 +90,7 @@ impl<F: PackFolder> FilePacks<F> {
             folder,
             torn: false,
             faults: 0,
+            called: PackCall::Length { unit: 0 },
             notes: PackNotes::new(),
         }
     }
@@ -142,14 +145,17 @@ impl<F: PackFolder> Packs for FilePacks<F> {
 
     ghost faults = { λ p. p.faults };
 
-    // A call counts a failure exactly if it answers one. Only a write can tear a block: one that fails after it has written some of
-    // its bytes.
+    ghost failed_at = { λ p. p.called };
+
+    // A call keeps what it is about. It counts a failure exactly if it answers one. Only a write can tear a block: one that fails after it
+    // has written some of its bytes.
     fn length(&mut self, unit: u8) -> Result<u64, StoreFailed>
         requires { unit < 32 }
         ensures never_again { IsTrue (tells_whole (F.tells self.new.folder) self.new.torn) → IsTrue (tells_whole (F.tells self.old.folder) self.old.torn) }
         ensures length { IfOk result (λ n. IsTrue (tells_whole (F.tells self.new.folder) self.new.torn) → n ≡ length (F.held self.old.folder unit).image) }
         ensures same { IsTrue (tells_whole (F.tells self.new.folder) self.new.torn) → F.held self.new.folder ≡ F.held self.old.folder }
         ensures cause { HasCause self.old.faults self.new.faults result }
+        ensures at { OnErr result (self.new.called ≡ Length unit) }
         ensures counted { Counts result self.old.faults self.new.faults }
         ensures torn { self.new.torn ≡ self.old.torn }
     {
@@ -162,6 +168,7 @@ impl<F: PackFolder> Packs for FilePacks<F> {
             unit,
             Part::Image,
         );
+        self.called = PackCall::Length { unit };
         counted(length, StoreFailed, &mut self.faults)
     }
 
@@ -172,6 +179,7 @@ impl<F: PackFolder> Packs for FilePacks<F> {
         ensures block { OnOk result (IsTrue (tells_whole (F.tells self.new.folder) self.new.torn) → into.new ≡ block_at (F.held self.old.folder unit).image block) }
         ensures same { IsTrue (tells_whole (F.tells self.new.folder) self.new.torn) → F.held self.new.folder ≡ F.held self.old.folder }
         ensures cause { HasCause self.old.faults self.new.faults result }
+        ensures at { OnErr result (self.new.called ≡ Block unit block) }
         ensures counted { Counts result self.old.faults self.new.faults }
         ensures torn { self.new.torn ≡ self.old.torn }
     {
@@ -185,6 +193,7 @@ impl<F: PackFolder> Packs for FilePacks<F> {
             unit,
             Part::Image,
         );
+        self.called = PackCall::Block { unit, block };
         counted(read, StoreFailed, &mut self.faults)
     }
 
@@ -195,6 +204,7 @@ impl<F: PackFolder> Packs for FilePacks<F> {
         ensures err { OnErr result (IsTrue (tells_whole (F.tells self.new.folder) self.new.torn) → (F.held self.new.folder ≡ F.held self.old.folder)
             ⊎ (F.held self.new.folder ≡ with_written (F.held self.old.folder) unit block from.now)) }
         ensures cause { HasCause self.old.faults self.new.faults result }
+        ensures at { OnErr result (self.new.called ≡ Block unit block) }
         ensures counted { Counts result self.old.faults self.new.faults }
         ensures torn { self.old.torn ≡ false → self.new.torn ≡ true
             → IsTorn (F.tells self.new.folder) (F.held self.old.folder) (F.held self.new.folder) unit Image (512 * block) from.now }
@@ -209,6 +219,7 @@ impl<F: PackFolder> Packs for FilePacks<F> {
             Part::Image,
         );
         self.notes.count(&written, block);
+        self.called = PackCall::Block { unit, block };
         counted(written, StoreFailed, &mut self.faults)
     }
 
@@ -218,6 +229,7 @@ impl<F: PackFolder> Packs for FilePacks<F> {
         ensures mark { IfOk result (λ on. IsTrue (tells_whole (F.tells self.new.folder) self.new.torn) → on ≡ is_marked (F.held self.old.folder unit) block) }
         ensures same { IsTrue (tells_whole (F.tells self.new.folder) self.new.torn) → F.held self.new.folder ≡ F.held self.old.folder }
         ensures cause { HasCause self.old.faults self.new.faults result }
+        ensures at { OnErr result (self.new.called ≡ Block unit block) }
         ensures counted { Counts result self.old.faults self.new.faults }
         ensures torn { self.new.torn ≡ self.old.torn }
     {
@@ -230,6 +242,7 @@ impl<F: PackFolder> Packs for FilePacks<F> {
             unit,
             Part::Marks,
         );
+        self.called = PackCall::Block { unit, block };
         counted(mark, StoreFailed, &mut self.faults)
     }
 
@@ -240,6 +253,7 @@ impl<F: PackFolder> Packs for FilePacks<F> {
         ensures err { OnErr result (IsTrue (tells_whole (F.tells self.new.folder) self.new.torn) → (F.held self.new.folder ≡ F.held self.old.folder)
             ⊎ (F.held self.new.folder ≡ with_mark (F.held self.old.folder) unit block on)) }
         ensures cause { HasCause self.old.faults self.new.faults result }
+        ensures at { OnErr result (self.new.called ≡ Block unit block) }
         ensures counted { Counts result self.old.faults self.new.faults }
         ensures torn { self.new.torn ≡ self.old.torn }
     {
@@ -252,6 +266,7 @@ impl<F: PackFolder> Packs for FilePacks<F> {
             unit,
             Part::Marks,
         );
+        self.called = PackCall::Block { unit, block };
         counted(written, StoreFailed, &mut self.faults)
     }
 }

@@ -1,6 +1,8 @@
 ghost use Rattle.std.specs.Prelude.{◌≡◌, ℕ, ◌<◌, ◌≤◌, ◌⊎◌, Bool, IsTrue, List, [], ◌++◌, length, take, IfOk, OnOk, OnErr};
 ghost use Rattle.pack_geometry.specs.Pack.{Pack, block_at, with_written, with_mark, is_marked};
 ghost use Rattle.outside_traits.specs.Causes.{HasCause};
+ghost use Rattle.outside_traits.specs.declared.traits.PackCall.{PackCall};
+ghost use Rattle.outside_traits.specs.declared.traits.PackCall.TheVariants.{Length, Block};
 
 pub use no_memory::NoMemory;
 use thiserror::Error;
@@ -19,6 +21,15 @@ pub struct SinkFailed;
 #[derive(Clone, Copy, Debug, Error)]
 #[error("the packs failed")]
 pub struct StoreFailed;
+
+/// What a call of the packs is about.
+#[derive(Clone, Copy, Debug)]
+pub enum PackCall {
+    /// The length of a unit's image.
+    Length { unit: u8 },
+    /// A block of a unit, or its mark.
+    Block { unit: u8, block: u32 },
+}
 
 /// Bytes to read, one after another.
 ///
@@ -70,7 +81,8 @@ pub trait Sink {
 /// The packs of units 0 to 31. The pack of each unit is a list of image bytes and a list of mark bytes.
 ///
 /// A block has 512 bytes; image bytes that are missing read as zeros. A mark byte that is 0 or missing means that the
-/// block is good, and any other means that it is marked. A call fails only if the count of faults rose in that call or stands at its last value.
+/// block is good, and any other means that it is marked. A call fails only if the count of faults rose in that call or stands at its last value. After
+/// a failure `failed_at` names the unit and the block of that call.
 pub trait Packs {
     /// Whether the object tells what the packs hold.
     ghost tells: { Self → Bool };
@@ -81,13 +93,17 @@ pub trait Packs {
     /// How often the packs have failed: a count that never falls.
     ghost faults: { Self → ℕ };
 
+    /// What the call was about that failed last.
+    ghost failed_at: { Self → PackCall };
+
     /// Returns the length of a unit's image, in bytes.
     fn length(&mut self, unit: u8) -> Result<u64, StoreFailed>
         requires { unit < 32 }
         ensures never_again { IsTrue (tells self.new) → IsTrue (tells self.old) }
         ensures length { IfOk result (λ n. IsTrue (tells self.new) → n ≡ length (held self.old unit).image) }
         ensures same { IsTrue (tells self.new) → held self.new ≡ held self.old }
-        ensures cause { HasCause (faults self.old) (faults self.new) result };
+        ensures cause { HasCause (faults self.old) (faults self.new) result }
+        ensures at { OnErr result (failed_at self.new ≡ Length unit) };
 
     /// Reads a block.
     fn read(&mut self, unit: u8, block: u32, into: &mut [u8; 512]) -> Result<(), StoreFailed>
@@ -95,7 +111,8 @@ pub trait Packs {
         ensures never_again { IsTrue (tells self.new) → IsTrue (tells self.old) }
         ensures block { OnOk result (IsTrue (tells self.new) → into.new ≡ block_at (held self.old unit).image block) }
         ensures same { IsTrue (tells self.new) → held self.new ≡ held self.old }
-        ensures cause { HasCause (faults self.old) (faults self.new) result };
+        ensures cause { HasCause (faults self.old) (faults self.new) result }
+        ensures at { OnErr result (failed_at self.new ≡ Block unit block) };
 
     /// Replaces a block, and extends an image that is too short by zeros. A failure leaves that block old or new, and all else as it was.
     fn write(&mut self, unit: u8, block: u32, from: &[u8; 512]) -> Result<(), StoreFailed>
@@ -104,7 +121,8 @@ pub trait Packs {
         ensures ok { OnOk result (IsTrue (tells self.new) → held self.new ≡ with_written (held self.old) unit block from.now) }
         ensures err { OnErr result (IsTrue (tells self.new) → (held self.new ≡ held self.old)
             ⊎ (held self.new ≡ with_written (held self.old) unit block from.now)) }
-        ensures cause { HasCause (faults self.old) (faults self.new) result };
+        ensures cause { HasCause (faults self.old) (faults self.new) result }
+        ensures at { OnErr result (failed_at self.new ≡ Block unit block) };
 
     /// Says whether a block is marked.
     fn marked(&mut self, unit: u8, block: u32) -> Result<bool, StoreFailed>
@@ -112,7 +130,8 @@ pub trait Packs {
         ensures never_again { IsTrue (tells self.new) → IsTrue (tells self.old) }
         ensures mark { IfOk result (λ on. IsTrue (tells self.new) → on ≡ is_marked (held self.old unit) block) }
         ensures same { IsTrue (tells self.new) → held self.new ≡ held self.old }
-        ensures cause { HasCause (faults self.old) (faults self.new) result };
+        ensures cause { HasCause (faults self.old) (faults self.new) result }
+        ensures at { OnErr result (failed_at self.new ≡ Block unit block) };
 
     /// Writes the mark byte of a block, 1 or 0. A failure leaves that mark old or new, and all else as it was.
     fn set_mark(&mut self, unit: u8, block: u32, on: bool) -> Result<(), StoreFailed>
@@ -121,5 +140,6 @@ pub trait Packs {
         ensures ok { OnOk result (IsTrue (tells self.new) → held self.new ≡ with_mark (held self.old) unit block on) }
         ensures err { OnErr result (IsTrue (tells self.new) → (held self.new ≡ held self.old)
             ⊎ (held self.new ≡ with_mark (held self.old) unit block on)) }
-        ensures cause { HasCause (faults self.old) (faults self.new) result };
+        ensures cause { HasCause (faults self.old) (faults self.new) result }
+        ensures at { OnErr result (failed_at self.new ≡ Block unit block) };
 }

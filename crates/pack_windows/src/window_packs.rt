@@ -79,6 +79,8 @@ impl<W: WidePacks> Packs for WindowPacks<W> {
 
     ghost faults = { W.faults };
 
+    ghost failed_at = { W.failed_at };
+
     fn length(&mut self, unit: u8) -> Result<u64, StoreFailed> {
         self.packs.length(unit)
     }

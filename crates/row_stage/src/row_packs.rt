@@ -1,6 +1,9 @@
 // The packs of a row.
+ghost use Rattle.std.specs.Prelude.{◌≡◌, OnErr};
+ghost use Rattle.outside_traits.specs.declared.traits.PackCall.TheVariants as asked;
+
 use crate::scenes::{Operation, is_last};
-use outside_traits::traits::{Packs, StoreFailed};
+use outside_traits::traits::{PackCall, Packs, StoreFailed};
 use std::alloc::Global;
 
 /// A block, and whether it is marked.
@@ -39,6 +42,8 @@ pub struct RowPacks {
     pub(crate) units: [Unit; 32],
     /// Which of the calls to come of each operation fails, from 1.
     fails: [u64; 8],
+    /// What the call was about that was made last.
+    called: PackCall,
     pub(crate) has_set_marks: bool,
     pub(crate) is_short: bool,
 }
@@ -56,6 +61,7 @@ impl RowPacks {
             tracks: Vec::new(alloc),
             units: [Unit { room: 0, length: 0 }; 32],
             fails: [0; 8],
+            called: PackCall::Length { unit: 0 },
             has_set_marks: false,
             is_short: false,
         }
@@ -152,7 +158,10 @@ impl RowPacks {
     }
 
     /// Makes a call, which fails if it is one that is to fail.
-    fn called(&mut self, operation: Operation) -> Result<(), StoreFailed> {
+    fn called(&mut self, operation: Operation, call: PackCall) -> Result<(), StoreFailed>
+        ensures { OnErr result (self.new.called ≡ call) }
+    {
+        self.called = call;
         if is_last(&mut self.fails[operation as usize]) {
             return Err(StoreFailed);
         }
@@ -160,10 +169,13 @@ impl RowPacks {
     }
 
     /// The same for a call that changes a block. There may be no room for that block.
-    fn called_at(&mut self, operation: Operation, unit: u8, block: u32) -> Result<(), StoreFailed> {
+    fn called_at(&mut self, operation: Operation, unit: u8, block: u32) -> Result<(), StoreFailed>
+        ensures { OnErr result (self.new.called ≡ asked.Block unit block) }
+    {
         if u64::from(block) < self.units[unit as usize % 32].room {
-            return self.called(operation);
+            return self.called(operation, PackCall::Block { unit, block });
         }
+        self.called = PackCall::Block { unit, block };
         Err(StoreFailed)
     }
 }
@@ -179,13 +191,15 @@ impl Packs for RowPacks {
     // The count stands at its last value: each call may fail.
     ghost faults = { λ _. 18446744073709551615 };
 
+    ghost failed_at = { λ p. p.called };
+
     fn length(&mut self, unit: u8) -> Result<u64, StoreFailed> {
-        self.called(Operation::Length)?;
+        self.called(Operation::Length, PackCall::Length { unit })?;
         Ok(self.units[unit as usize % 32].length)
     }
 
     fn read(&mut self, unit: u8, block: u32, into: &mut [u8; 512]) -> Result<(), StoreFailed> {
-        self.called(Operation::Read)?;
+        self.called(Operation::Read, PackCall::Block { unit, block })?;
         let bytes = self.block(unit, block).bytes;
         *into = bytes;
         Ok(())
@@ -198,7 +212,7 @@ impl Packs for RowPacks {
     }
 
     fn marked(&mut self, unit: u8, block: u32) -> Result<bool, StoreFailed> {
-        self.called(Operation::Marked)?;
+        self.called(Operation::Marked, PackCall::Block { unit, block })?;
         Ok(self.block(unit, block).is_marked)
     }
 

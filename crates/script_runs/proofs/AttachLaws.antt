@@ -8,6 +8,7 @@ use Rattle.std.proofs.lemmas.Bool.{eqb-true}
 use Rattle.std.proofs.lemmas.Option.{none-some}
 use Rattle.std.proofs.Math.Seq.{drop-cons}
 use Rattle.outside_traits.specs.Causes.{Rose}
+use Rattle.outside_traits.specs.declared.traits.PackCall.{PackCall}
 use Rattle.pack_geometry.specs.declared.DriveKind.{DriveKind}
 use Rattle.pack_geometry.specs.Geometry.{block_count}
 use Rattle.pack_geometry.specs.Pack.{Pack}
@@ -18,7 +19,7 @@ use Rattle.script_lines.specs.declared.statement.Statement.TheVariants as says
 use Rattle.script_reader.specs.Stored.{Kept, Stored, seen, digits_at}
 use Rattle.script_lines.specs.Renamed.{renamed}
 use Rattle.script_reader.specs.Meaning.{statement_of, line_of, meaning_of}
-use Rattle.trace_replay.specs.Script.{Script, Statement, Declares, Plays, Line, declared_by, drives_in, IsPlayed, AreUnitsFirst}
+use Rattle.trace_replay.specs.Script.{Script, Statement, Declares, Plays, Line, declared_by, drives_in, drives_of, IsPlayed, AreUnitsFirst}
 use Rattle.driver_machine.specs.World.{Setup}
 use Rattle.script_runs.specs.Steps.{tables_in, AreSetFor}
 use Rattle.script_runs.proofs.Attached as one
@@ -27,7 +28,7 @@ use Rattle.script_runs.specs.declared.fault.PlayFault.{PlayFault}
 use Rattle.script_runs.specs.declared.fault.PlayFault.TheVariants as faults
 use Rattle.script_runs.specs.Lengths.{IsTooLong, NamesTooLong}
 use Rattle.script_runs.specs.Faults.{IsLongFor}
-use Rattle.script_runs.specs.Attaching.{IsSet, IsFoundLong, HasRoom, Adds, RefusesLine}
+use Rattle.script_runs.specs.Attaching.{IsSet, IsFoundLong, HasRoom, Adds, RefusesLine, FailsLine, AttachesOne}
 use Rattle.script_runs.proofs.LineLaws.{lines_before, lines_more, lines_all, lines_parted}
 
 -- LINES AND SETUPS that go together, over packs that tell: each image fits, and each table is that of its pack
@@ -128,6 +129,11 @@ module _ (s : Stored) (i : ℕ) (line : Kept) (lt : i < length s.lines) (is : li
       (subst AreUnitsFirst (lines_split s i line lt is) units) e in
       record { small = first.0; none = first.1 }
 
+  declared_at : AreUnitsFirst (meaning_of s).lines → (u : ℕ) (kind : DriveKind) → meant s.text line.statement ≡ Declares u kind → drives_of (meaning_of s) u ≡ Some kind
+  declared_at units u kind e =
+      ap (λ (lines : List Line). drives_in lines u) (lines_split s i line lt is)
+      ∙ drive_there (lines_before s i) (map line_of (map (seen s.text) (drop (suc i) s.lines))) (line_of (seen s.text line)) u kind e (first_at units u kind e).none
+
   pub room_at : AreUnitsFirst (meaning_of s).lines → HasRoom line.statement
   room_at units = room_by s.text line.statement (λ u kind e. (first_at units u kind e).small)
 
@@ -161,8 +167,7 @@ module _ (s : Stored) (i : ℕ) (line : Kept) (lt : i < length s.lines) (is : li
         after = behind;
         lines = lines_split s i line lt is;
         declares = e;
-        declared = ap (λ (lines : List Line). drives_in lines u) (lines_split s i line lt is)
-            ∙ drive_there (lines_before s i) behind (line_of (seen s.text line)) u kind e (first_at units u kind e).none;
+        declared = declared_at units u kind e;
         more = more;
         is = λ t. size t ∙ ap (λ (p : ℕ → Pack). length (p u).image) (same t);
         first = λ t other its there. (told t).fits other its there;
@@ -175,6 +180,14 @@ module _ (s : Stored) (i : ℕ) (line : Kept) (lt : i < length s.lines) (is : li
       at (Declares u kind) e faults.Store long = tt
       at (Declares u kind) e faults.Sink long = tt
       at (Plays input) e stop none = absurd none
+
+  -- a unit at which the packs failed is declared
+  pub attaches_at : (call : PackCall) → AreUnitsFirst (meaning_of s).lines → FailsLine line.statement call → AttachesOne (meaning_of s) call
+  attaches_at call units fails = at line.statement refl fails
+    where
+      at : (st : StoredStatement) → line.statement ≡ st → FailsLine st call → AttachesOne (meaning_of s) call
+      at (says.Unit u kind) e fails = record { unit = u; kind = kind; declared = declared_at units u kind (ap (meant s.text) e); attaching = fails }
+      at other e none = absurd none
 
 -- what holds of the fault that a call gave holds of the one that is handed on
 pub at_fault : {T : Type 0} (result : Result T PlayFault) {fault : PlayFault} (P : PlayFault → Type 0) → IsErrAnd result (λ x. x ≡ fault) → P fault → IfErr result P

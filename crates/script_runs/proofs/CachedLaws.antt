@@ -1,10 +1,10 @@
 -- Laws of attaching: behind some lines of a script its units are set up, their images fit, and their tables are those of their packs.
-use Rattle.std.proofs.Common.{◌≡◌, ℕ, suc, ◌+◌, ◌*◌, ◌<◌, ◌≤◌, Bool, IsTrue, List, [], ◌∷◌, ◌++◌, length, map, drop, refl, sym, ap, subst, ◌∙◌}
+use Rattle.std.proofs.Common.{◌≡◌, ℕ, suc, ◌+◌, ◌*◌, ◌<◌, ◌≤◌, Bool, IsTrue, List, [], ◌∷◌, ◌++◌, length, map, drop, refl, sym, ap, subst, ◌∙◌, Some}
 use Rattle.std.specs.Prelude.{slice_index_or}
 use Rattle.pack_geometry.specs.declared.DriveKind.{DriveKind}
 use Rattle.pack_geometry.specs.Geometry.{block_count}
 use Rattle.pack_geometry.specs.Pack.{Pack}
-use Rattle.trace_replay.specs.Script.{Statement, Declares, Plays, Line, drives_in, IsPlayed}
+use Rattle.trace_replay.specs.Script.{Statement, Declares, Plays, Line, drives_in, drives_of, IsPlayed}
 use Rattle.driver_machine.specs.World.{Setup}
 use Rattle.script_runs.specs.Steps.{tables_in, AreSetFor}
 use Rattle.script_runs.proofs.Attached.{AreAttached, HasDrive, attached_more, attached_still, drive_there, set_for_script}
@@ -15,7 +15,9 @@ use Rattle.script_reader.specs.cached.Scripts as cached
 use Rattle.script_reader.specs.cached.Formed.{IsScript}
 use Rattle.script_runs.specs.declared.fault.PlayFault.{PlayFault}
 use Rattle.script_runs.specs.declared.fault.PlayFault.TheVariants as faults
-use Rattle.script_runs.specs.Cached.{HasRoom, Adds, RefusesLine}
+use Rattle.outside_traits.specs.declared.traits.PackCall.{PackCall}
+use Rattle.script_runs.specs.Attaching.{AttachesOne}
+use Rattle.script_runs.specs.Cached.{HasRoom, Adds, RefusesLine, FailsLine}
 use Rattle.script_runs.specs.Faults.{IsLongFor}
 use Rattle.script_reader.specs.cached.Meaning.{lines_before}
 use Rattle.script_reader.specs.cached.Meaning.{statement_of, line_of, meaning_of}
@@ -43,6 +45,11 @@ room_by (Plays input) room = tt
 
 -- AT A LINE of a script
 module _ (s : cached.Script) (i : ℕ) (line : Said) (script : IsScript s) (lt : i < length s.lines) (is : line ≡ slice_index_or s.lines i line) where
+  declared_at : (u : ℕ) (kind : DriveKind) → statement_of line.statement ≡ Declares u kind → drives_of (meaning_of s) u ≡ Some kind
+  declared_at u kind e =
+      ap (λ (lines : List Line). drives_in lines u) (lines_split s i line script lt is)
+      ∙ drive_there (lines_before s i) (map line_of (drop (suc i) s.lines)) (line_of line) u kind e (first_at s i line script lt is u kind e).none
+
   pub room_at : HasRoom (statement_of line.statement)
   room_at = room_by (statement_of line.statement) (λ u kind e. (first_at s i line script lt is u kind e).small)
 
@@ -72,8 +79,7 @@ module _ (s : cached.Script) (i : ℕ) (line : Said) (script : IsScript s) (lt :
         after = map line_of (drop (suc i) s.lines);
         lines = lines_split s i line script lt is;
         declares = e;
-        declared = ap (λ (lines : List Line). drives_in lines u) (lines_split s i line script lt is)
-            ∙ drive_there (lines_before s i) (map line_of (drop (suc i) s.lines)) (line_of line) u kind e (first_at s i line script lt is u kind e).none;
+        declared = declared_at u kind e;
         more = more;
         is = λ t. size t ∙ ap (λ (p : ℕ → Pack). length (p u).image) (same t);
         first = λ t other its there. (told t).fits other its there;
@@ -86,6 +92,14 @@ module _ (s : cached.Script) (i : ℕ) (line : Said) (script : IsScript s) (lt :
       at (Declares u kind) e faults.Store long = tt
       at (Declares u kind) e faults.Sink long = tt
       at (Plays input) e stop none = absurd none
+
+  -- a unit at which the packs failed is declared
+  pub attaches_at : (call : PackCall) → FailsLine (statement_of line.statement) call → AttachesOne (meaning_of s) call
+  attaches_at call fails = at (statement_of line.statement) refl fails
+    where
+      at : (st : Statement) → statement_of line.statement ≡ st → FailsLine st call → AttachesOne (meaning_of s) call
+      at (Declares u kind) e fails = record { unit = u; kind = kind; declared = declared_at u kind e; attaching = fails }
+      at (Plays input) e none = absurd none
 
 -- BEHIND THE LAST LINE
 pub attached_all : (s : cached.Script) (i : ℕ) (setups : List Setup) → length s.lines ≤ i → AreAttached (lines_before s i) setups → AreSetFor (meaning_of s) (tables_in setups) setups

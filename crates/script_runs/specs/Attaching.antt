@@ -9,6 +9,9 @@ use Rattle.script_lines.specs.declared.statement.Statement.{Statement}
 use Rattle.script_lines.specs.declared.statement.Statement.TheVariants as says
 use Rattle.driver_machine.specs.World.{Setup}
 use Rattle.driver_machine.specs.Sound.{IsTableFor}
+use Rattle.trace_replay.specs.Script.{Script, drives_of}
+use Rattle.outside_traits.specs.declared.traits.PackCall.{PackCall}
+use Rattle.mba_autoconf.specs.Attach.{IsAttaching}
 use Rattle.script_runs.specs.declared.fault.PlayFault.{PlayFault}
 use Rattle.script_runs.specs.declared.fault.PlayFault.TheVariants as faults
 
@@ -39,3 +42,16 @@ Adds tells packs statement old new = new ≡ old
 abbrev pub RefusesLine : {D N : Type 0} → Bool → (ℕ → Pack) → Statement D N → PlayFault → Type 0
 RefusesLine tells packs (says.Unit unit kind) fault = IsFoundLong tells (packs unit) unit kind fault
 RefusesLine tells packs statement fault = ⊥
+
+-- A LINE at which the packs failed declares the unit that was attached.
+abbrev pub FailsLine : {D N : Type 0} → Statement D N → PackCall → Type 0
+FailsLine (says.Unit unit kind) call = IsAttaching kind unit call
+FailsLine statement call = ⊥
+
+-- A CALL OF THE PACKS that attaches a unit which the script declares: for the length of its image, or about a copy of its table, which lies where
+-- neither data nor replacements are
+pub record AttachesOne (script : Script) (call : PackCall) : Type 0 where
+  pub unit : ℕ
+  pub kind : DriveKind
+  pub declared : drives_of script unit ≡ Some kind
+  pub attaching : IsAttaching kind unit call

@@ -4,6 +4,8 @@ use Rattle.pack_geometry.specs.Pack.{Pack}
 use Rattle.trace_replay.specs.Script.{Statement, Declares, Plays}
 use Rattle.driver_machine.specs.World.{Setup}
 use Rattle.script_runs.specs.Attaching.{IsSet, IsFoundLong}
+use Rattle.outside_traits.specs.declared.traits.PackCall.{PackCall}
+use Rattle.mba_autoconf.specs.Attach.{IsAttaching}
 use Rattle.script_runs.specs.declared.fault.PlayFault.{PlayFault}
 
 -- ONE LINE. A unit that it declares is one of the 32;
@@ -20,3 +22,8 @@ Adds tells packs (Plays input) old new = new ≡ old
 abbrev pub RefusesLine : Bool → (ℕ → Pack) → Statement → PlayFault → Type 0
 RefusesLine tells packs (Declares unit kind) fault = IsFoundLong tells (packs unit) unit kind fault
 RefusesLine tells packs (Plays input) fault = ⊥
+
+-- A LINE at which the packs failed declares the unit that was attached.
+abbrev pub FailsLine : Statement → PackCall → Type 0
+FailsLine (Declares unit kind) call = IsAttaching kind unit call
+FailsLine (Plays input) call = ⊥

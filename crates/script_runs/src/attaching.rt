@@ -9,7 +9,8 @@ ghost use Rattle.script_reader.specs.Meaning.{meaning_of};
 ghost use Rattle.trace_replay.specs.Script.{drives_of};
 ghost use Rattle.hp_units.specs.Setups.{setup_of, setups_of};
 ghost use Rattle.script_runs.specs.Steps.{tables_in, AreSetFor};
-ghost use Rattle.script_runs.specs.Attaching.{IsSet, IsFoundLong, HasRoom, Adds, RefusesLine};
+ghost use Rattle.script_runs.specs.Attaching.{IsSet, IsFoundLong, HasRoom, Adds, RefusesLine, FailsLine, AttachesOne};
+ghost use Rattle.mba_autoconf.specs.Attach.{IsAttaching};
 ghost use Rattle.script_runs.specs.Faults.{IsLongFor};
 ghost use Rattle.script_runs.specs.Lengths.{IsTooLong};
 
@@ -38,6 +39,7 @@ pub(crate) fn attach_unit<P: Packs>(
     ensures never_again { IsTrue (P.tells packs.new) → IsTrue (P.tells packs.old) }
     ensures later { P.faults packs.old ≤ P.faults packs.new }
     ensures store { IsErrOf result PlayFault.Store → Rose (P.faults packs.old) (P.faults packs.new) }
+    ensures at { IsErrOf result PlayFault.Store → IsAttaching kind unit (P.failed_at packs.new) }
     ensures no_sink { ¬ (IsErrOf result PlayFault.Sink) }
 {
     let mut drive = Drive::new(kind, u16::from(unit));
@@ -65,6 +67,7 @@ fn attach_line<P: Packs>(
     ensures never_again { IsTrue (P.tells packs.new) → IsTrue (P.tells packs.old) }
     ensures later { P.faults packs.old ≤ P.faults packs.new }
     ensures store { IsErrOf result PlayFault.Store → Rose (P.faults packs.old) (P.faults packs.new) }
+    ensures at { IsErrOf result PlayFault.Store → FailsLine line.now.statement (P.failed_at packs.new) }
     ensures no_sink { ¬ (IsErrOf result PlayFault.Sink) }
 {
     match &line.statement {
@@ -95,6 +98,7 @@ pub fn attach_units<P: Packs>(
     ensures never_again { IsTrue (P.tells packs.new) → IsTrue (P.tells packs.old) }
     ensures later { P.faults packs.old ≤ P.faults packs.new }
     ensures store { IsErrOf result PlayFault.Store → Rose (P.faults packs.old) (P.faults packs.new) }
+    ensures at { IsErrOf result PlayFault.Store → AttachesOne (meaning_of script.now) (P.failed_at packs.new) }
     ensures no_sink { ¬ (IsErrOf result PlayFault.Sink) }
 {
     meaning_law();

@@ -7,7 +7,8 @@ ghost use Rattle.hp_units.specs.Setups.{setups_of};
 ghost use Rattle.script_runs.specs.Steps.{tables_in, AreSetFor};
 ghost use Rattle.script_runs.specs.Lengths.{IsTooLong};
 ghost use Rattle.script_runs.specs.Faults.{IsLongFor};
-ghost use Rattle.script_runs.specs.Cached.{HasRoom, Adds, RefusesLine};
+ghost use Rattle.script_runs.specs.Cached.{HasRoom, Adds, RefusesLine, FailsLine};
+ghost use Rattle.script_runs.specs.Attaching.{AttachesOne};
 ghost use Rattle.script_reader.specs.cached.Meaning.{meaning_of, statement_of};
 
 use crate::PlayFault;
@@ -30,6 +31,7 @@ fn attach_declared<P: Packs>(
     ensures never_again { IsTrue (P.tells packs.new) → IsTrue (P.tells packs.old) }
     ensures later { P.faults packs.old ≤ P.faults packs.new }
     ensures store { IsErrOf result PlayFault.Store → Rose (P.faults packs.old) (P.faults packs.new) }
+    ensures at { IsErrOf result PlayFault.Store → FailsLine (statement_of line.now.statement) (P.failed_at packs.new) }
     ensures no_sink { ¬ (IsErrOf result PlayFault.Sink) }
 {
     match line.statement {
@@ -60,6 +62,7 @@ pub fn attach_cached<P: Packs>(
     ensures never_again { IsTrue (P.tells packs.new) → IsTrue (P.tells packs.old) }
     ensures later { P.faults packs.old ≤ P.faults packs.new }
     ensures store { IsErrOf result PlayFault.Store → Rose (P.faults packs.old) (P.faults packs.new) }
+    ensures at { IsErrOf result PlayFault.Store → AttachesOne (meaning_of script.now) (P.failed_at packs.new) }
     ensures no_sink { ¬ (IsErrOf result PlayFault.Sink) }
 {
     script.law();

@@ -2,7 +2,7 @@ use Rattle.std.proofs.Common.{◌≡◌, ◌<◌, ◌≤◌, length, subst, ◌�
 use Rattle.hp_units.specs.Setups.{setups_of}
 use Rattle.script_reader.specs.declared.cached.statement.Line.{Line as Said}
 use Rattle.script_runs.specs.declared.fault.PlayFault.TheVariants as faults
-use Rattle.script_runs.proofs.CachedLaws.{room_at, attached_at, told_at_line, long_at, attached_all, told_all}
+use Rattle.script_runs.proofs.CachedLaws.{room_at, attached_at, told_at_line, long_at, attaches_at, attached_all, told_all}
 use Rattle.script_runs.proofs.AttachLaws.{at_fault, not_given, not_ok, fault_from, later_from, rose_from}
 use Rattle.script_runs.proofs.CachedLines.{blank, item_is}
 use Rattle.script_runs.proofs.cached.attach_cached.Goals as goal
@@ -61,6 +61,7 @@ returns-in_err-attach_declared g c =
       never_again = λ t. before.never_again (step.never_again t);
       later = later_from _ _ _ before.later step.later;
       store = λ e. rose_from _ _ _ before.later (step.store (fault_from _ faults.Store c.from_residual.ensures.1 e));
+      at = λ e. attaches_at s i line c.law.ensures lt is (g.P.Packs.failed_at c.attach_declared.new.packs) (step.at (fault_from _ faults.Store c.from_residual.ensures.1 e));
       no_sink = λ e. step.no_sink (fault_from _ faults.Sink c.from_residual.ensures.1 e);
     }
 

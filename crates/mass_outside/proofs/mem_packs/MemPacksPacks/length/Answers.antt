@@ -1,6 +1,7 @@
 use Rattle.std.proofs.Common.{ℕ, false, ap, ◌∙◌, length}
 use Rattle.mass_outside.specs.Memory.{MemView}
 use Rattle.outside_traits.specs.Causes.{next}
+use Rattle.outside_traits.specs.declared.traits.PackCall.TheVariants as call
 use Rattle.pack_geometry.specs.Pack.{Pack}
 use Rattle.mass_outside.specs.declared.mem_packs.PackOp.TheVariants.{Length}
 use Rattle.mass_outside.proofs.MemoryLaws.{slot_at, held_at, listed_of}
@@ -17,12 +18,12 @@ returns-clause-exact c = listed_of c.as_slice.result.now c.args.self.now.fail Le
 
 pub returns-then-is_listed-clause-err : goal.returns-then-is_listed-clause-err
 returns-then-is_listed-clause-err c =
-    let seen : MemView = record { slots = c.self.inside.slots.items; fail = c.self.inside.fail.items; lengths = c.self.inside.lengths; reads = c.self.inside.reads; writes = c.self.inside.writes; markeds = c.self.inside.markeds; set_marks = c.self.inside.set_marks; faults = c.self.inside.faults } in
+    let seen : MemView = record { slots = c.self.inside.slots.items; fail = c.self.inside.fail.items; lengths = c.self.inside.lengths; reads = c.self.inside.reads; writes = c.self.inside.writes; markeds = c.self.inside.markeds; set_marks = c.self.inside.set_marks; faults = c.self.inside.faults; failed_at = c.self.inside.failed_at } in
     c.failed.ensures
-    ∙ ap (λ (n : ℕ). record seen { lengths = n; faults = next c.self.inside.faults }) c.saturating_add-self-inside.ensures
-    ∙ ap (λ (m : MemView). record m { lengths = next m.lengths; faults = next m.faults }) c.self.view_is
+    ∙ ap (λ (n : ℕ). record seen { lengths = n; faults = next c.self.inside.faults; failed_at = call.Length c.args.unit }) c.saturating_add-self-inside.ensures
+    ∙ ap (λ (m : MemView). record m { lengths = next m.lengths; faults = next m.faults; failed_at = call.Length c.args.unit }) c.self.view_is
 
 pub returns-clause-ok : goal.returns-clause-ok
 returns-clause-ok c =
-    let seen : MemView = record { slots = c.self.inside.slots.items; fail = c.self.inside.fail.items; lengths = c.self.inside.lengths; reads = c.self.inside.reads; writes = c.self.inside.writes; markeds = c.self.inside.markeds; set_marks = c.self.inside.set_marks; faults = c.self.inside.faults } in
+    let seen : MemView = record { slots = c.self.inside.slots.items; fail = c.self.inside.fail.items; lengths = c.self.inside.lengths; reads = c.self.inside.reads; writes = c.self.inside.writes; markeds = c.self.inside.markeds; set_marks = c.self.inside.set_marks; faults = c.self.inside.faults; failed_at = c.self.inside.failed_at } in
     ap (λ (n : ℕ). record seen { lengths = n }) c.saturating_add-self-inside.ensures ∙ ap (λ (m : MemView). record m { lengths = next m.lengths }) c.self.view_is

@@ -3,6 +3,7 @@ use Rattle.std.specs.Prelude.{slice_get}
 use Rattle.mass_outside.specs.Slots.{SlotView, slot_written}
 use Rattle.mass_outside.specs.Memory.{MemView, AfterWrite}
 use Rattle.outside_traits.specs.Causes.{next}
+use Rattle.outside_traits.specs.declared.traits.PackCall.TheVariants as call
 use Rattle.mass_outside.specs.declared.mem_packs.PackOp.TheVariants.{Write}
 use Rattle.mass_outside.proofs.MemoryLaws.{slot_at, room_at, held_written, listed_of, none_of}
 use Rattle.mass_outside.proofs.mem_packs.MemPacksPacks.write.Goals as goal
@@ -21,7 +22,7 @@ returns-clause-exact c =
 pub returns-clause-done : goal.returns-clause-done
 returns-clause-done c =
     let slots = c.self.inside.slots.items in
-    let seen : MemView = record { slots = c.self.inside.slots.items; fail = c.self.inside.fail.items; lengths = c.self.inside.lengths; reads = c.self.inside.reads; writes = c.self.inside.writes; markeds = c.self.inside.markeds; set_marks = c.self.inside.set_marks; faults = c.self.inside.faults } in
+    let seen : MemView = record { slots = c.self.inside.slots.items; fail = c.self.inside.fail.items; lengths = c.self.inside.lengths; reads = c.self.inside.reads; writes = c.self.inside.writes; markeds = c.self.inside.markeds; set_marks = c.self.inside.set_marks; faults = c.self.inside.faults; failed_at = c.self.inside.failed_at } in
     let there : slice_get slots c.args.unit ≡ Some c.index_mut.result.now = slot_at slots slots c.args.unit c.index_mut.result.now refl c.self.invariant c.requires c.index_mut.ensures.value in
     subst (λ (old : MemView). AfterWrite old c.args.unit c.args.block c.args.from.now (record seen { slots = set slots c.args.unit c.write.new.self; writes = c.saturating_add-self-inside.result })) c.self.view_is (
       c.index_mut.result.now,
@@ -32,14 +33,14 @@ returns-clause-done c =
 
 pub returns-then-is_listed-clause-failed : goal.returns-then-is_listed-clause-failed
 returns-then-is_listed-clause-failed c =
-    let seen : MemView = record { slots = c.self.inside.slots.items; fail = c.self.inside.fail.items; lengths = c.self.inside.lengths; reads = c.self.inside.reads; writes = c.self.inside.writes; markeds = c.self.inside.markeds; set_marks = c.self.inside.set_marks; faults = c.self.inside.faults } in
+    let seen : MemView = record { slots = c.self.inside.slots.items; fail = c.self.inside.fail.items; lengths = c.self.inside.lengths; reads = c.self.inside.reads; writes = c.self.inside.writes; markeds = c.self.inside.markeds; set_marks = c.self.inside.set_marks; faults = c.self.inside.faults; failed_at = c.self.inside.failed_at } in
     c.failed.ensures
-    ∙ ap (λ (n : ℕ). record seen { writes = n; faults = next c.self.inside.faults }) c.saturating_add-self-inside.ensures
-    ∙ ap (λ (m : MemView). record m { writes = next m.writes; faults = next m.faults }) c.self.view_is
+    ∙ ap (λ (n : ℕ). record seen { writes = n; faults = next c.self.inside.faults; failed_at = call.Block c.args.unit c.args.block }) c.saturating_add-self-inside.ensures
+    ∙ ap (λ (m : MemView). record m { writes = next m.writes; faults = next m.faults; failed_at = call.Block c.args.unit c.args.block }) c.self.view_is
 
 pub returns-then-not-has-clause-failed : goal.returns-then-not-has-clause-failed
 returns-then-not-has-clause-failed c =
-    let seen : MemView = record { slots = c.self.inside.slots.items; fail = c.self.inside.fail.items; lengths = c.self.inside.lengths; reads = c.self.inside.reads; writes = c.self.inside.writes; markeds = c.self.inside.markeds; set_marks = c.self.inside.set_marks; faults = c.self.inside.faults } in
+    let seen : MemView = record { slots = c.self.inside.slots.items; fail = c.self.inside.fail.items; lengths = c.self.inside.lengths; reads = c.self.inside.reads; writes = c.self.inside.writes; markeds = c.self.inside.markeds; set_marks = c.self.inside.set_marks; faults = c.self.inside.faults; failed_at = c.self.inside.failed_at } in
     c.failed-then-not-has.ensures
-    ∙ ap (λ (n : ℕ). record seen { writes = n; faults = next c.self.inside.faults }) c.saturating_add-self-inside.ensures
-    ∙ ap (λ (m : MemView). record m { writes = next m.writes; faults = next m.faults }) c.self.view_is
+    ∙ ap (λ (n : ℕ). record seen { writes = n; faults = next c.self.inside.faults; failed_at = call.Block c.args.unit c.args.block }) c.saturating_add-self-inside.ensures
+    ∙ ap (λ (m : MemView). record m { writes = next m.writes; faults = next m.faults; failed_at = call.Block c.args.unit c.args.block }) c.self.view_is

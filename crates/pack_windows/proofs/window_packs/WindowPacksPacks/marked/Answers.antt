@@ -14,4 +14,5 @@ returns g c =
       mark = if_ok_by c.marked.result (λ on told t. told t ∙ ap (λ (held : ℕ → Pack). is_marked (held c.args.unit) c.args.block) (before t)) c.marked.ensures.mark;
       same = λ t. c.marked.ensures.same t ∙ before t;
       cause = cause_after _ _ _ c.marked.result later c.marked.ensures.cause;
+      at = c.marked.ensures.at;
     }

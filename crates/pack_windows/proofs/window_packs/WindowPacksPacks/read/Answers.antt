@@ -14,4 +14,5 @@ returns g c =
       block = on_ok_by c.read.result (λ told t. told t ∙ ap (λ (held : ℕ → Pack). block_at (held c.args.unit).image c.args.block) (before t)) c.read.ensures.block;
       same = λ t. c.read.ensures.same t ∙ before t;
       cause = cause_after _ _ _ c.read.result later c.read.ensures.cause;
+      at = c.read.ensures.at;
     }
