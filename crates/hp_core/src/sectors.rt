@@ -72,7 +72,7 @@ impl Core {
         requires small { next_block (adapter_at self.now.world (adapter_of u)).state < 2 ^ 32 }
         ensures { result ≡ next_block (adapter_at self.now.world (adapter_of u)).state }
     {
-        let block = self.segment(u).block;
+        let block = self.unit(u).segment().block;
         let moved = self.channels[usize::from(u / 8)].adapter.moved();
         block + moved
     }

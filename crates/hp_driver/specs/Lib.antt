@@ -6,6 +6,7 @@ pub mod Done
 pub mod Free
 pub mod Hand
 pub mod Before
+pub mod Commands
 pub mod Moves
 pub mod Submissions
 pub mod Inputs

@@ -35,7 +35,7 @@ fn admitted(core: &Core, request: Request) -> Result<u32, AnswerKind>
     ensures refused { IfErr result (λ kind. refusal_of (asked request []) core.now.world ≡ Some kind) }
 {
     match admit(
-        core.kind(request.unit),
+        core.unit(request.unit).kind(),
         request.part,
         request.block,
         request.count,

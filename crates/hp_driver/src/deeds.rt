@@ -12,23 +12,12 @@ ghost use Rattle.hp_driver.specs.Done.{DoesActs};
 ghost use Rattle.hp_driver.specs.Free.{IsFree};
 ghost use Rattle.hp_driver.specs.Hand.{hand_at};
 
+use crate::hand::asked_in_hand;
 use crate::starts::{command, go_steps, start};
 use crate::verdicts::judge;
 use driver_machine::{AnswerKind, Cause, Phase, Task};
 use hp_core::{Asked, Core, Stop};
 use outside_traits::traits::Sink;
-
-/// What the request in hand of a unit asks. None if its queue is empty.
-fn asked_in_hand(core: &Core, u: u8) -> Option<Asked>
-    requires sound { Sound core.now.world }
-    requires unit { u < 32 }
-    ensures some { IfSome result (λ asked. 0 < length (unit_at core.now.world u).queue) }
-    ensures asked { IfSome result (λ asked. asked ≡ asked_of (hand_at core.now.world u)) }
-    ensures none { IfNone result ((unit_at core.now.world u).queue ≡ []) }
-{
-    let slot = core.head(u)?;
-    Some(core.asked(slot))
-}
 
 /// Whether a unit that is here with the head of its queue waits for an event, so that nothing is due at it.
 fn is_between(phase: Phase) -> bool
@@ -87,13 +76,14 @@ pub(crate) fn next_deed<T: Sink>(
     ensures sound { IfOk result (λ more. Sound core.new.world) }
     ensures free { IfOk result (λ more. IsFree core.new.world u) }
 {
-    if is_between(core.phase(u)) {
+    let phase = core.unit(u).phase();
+    if is_between(phase) {
         return Ok(false);
     }
     let Some(asked) = asked_in_hand(core, u) else {
         return Ok(false);
     };
-    match core.phase(u) {
+    match phase {
         Phase::Waiting => {
             start(core, line, u, asked, trace)?;
             Ok(true)

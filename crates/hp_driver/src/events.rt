@@ -7,7 +7,7 @@ ghost use Rattle.driver_machine.specs.Sound.{Sound};
 ghost use Rattle.hp_driver.specs.Done.{DoesActs};
 ghost use Rattle.hp_driver.specs.Moves.{DoesMove, writes_next};
 
-use crate::hand::id_in_hand;
+use crate::hand::{asked_in_hand, id_in_hand};
 use crate::turns::{due, start_adapter};
 use driver_machine::Phase;
 use hp_core::{Core, Stop};
@@ -19,14 +19,13 @@ pub fn arrive<T: Sink>(core: &mut Core, line: u64, u: u8, trace: &mut T) -> Resu
     requires unit { u < 32 }
     ensures { DoesActs T.tells T.taken T.faults trace.old trace.new core.old core.new result (events.arrive_acts line u core.old.world) }
 {
-    if !core.is_positioning(u) {
+    if !core.unit(u).is_positioning() {
         return core.nothing(line, trace);
     }
-    let Some(slot) = core.head(u) else {
+    let Some(asked) = asked_in_hand(core, u) else {
         return Ok(());
     };
-    let id = core.asked(slot).id;
-    core.arrive(line, u, id, trace)
+    core.arrive(line, u, asked.id, trace)
 }
 
 /// Whether an adapter can move a sector.
@@ -114,11 +113,12 @@ fn attention<T: Sink>(
     ensures { DoesActs T.tells T.taken T.faults trace.old trace.new core.old core.new result (events.attention line a drive core.old.world) }
 {
     let u = 8 * a + drive;
-    if !core.is_raised(u) {
+    let unit = core.unit(u);
+    if !unit.is_raised() {
         return Ok(());
     }
+    let taken = steps_taken(unit.phase());
     let id = id_in_hand(core, u);
-    let taken = steps_taken(core.phase(u));
     core.attend(line, u, id, taken, trace)?;
     due(core, line, u, trace)
 }

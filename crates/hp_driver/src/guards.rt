@@ -25,7 +25,8 @@ pub(crate) fn due_before(core: &Core, u: u8, writes: bool) -> Before
     requires { u < length core.now.world.units }
     ensures { (command : Deed) → sensed writes (unit_at core.now.world u) command ≡ deed_before result command (unit_at core.now.world u) }
 {
-    match core.sensed(u, writes) {
+    let unit = core.unit(u);
+    match unit.sensed(writes) {
         Sensed::Offline => Before::End {
             cause: Cause::Offline,
         },
@@ -33,7 +34,7 @@ pub(crate) fn due_before(core: &Core, u: u8, writes: bool) -> Before
             cause: Cause::Locked,
         },
         Sensed::Go => {
-            if core.needs_pack(u) {
+            if unit.needs_pack() {
                 Before::Pack
             } else {
                 Before::Command

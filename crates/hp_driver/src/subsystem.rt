@@ -100,7 +100,7 @@ impl Subsystem {
         requires unit { IsSetUp self.now.world unit }
         ensures { result ≡ (unit_at self.now.world unit).drive.kind }
     {
-        self.core.kind(unit)
+        self.core.unit(unit).kind()
     }
 
     /// Submits a request at a line of the script, with the bytes if it is a write. The request is refused at once, or joins its unit's

@@ -23,7 +23,7 @@ pub fn due<T: Sink>(core: &mut Core, line: u64, u: u8, trace: &mut T) -> Result<
     requires free { IsFree core.old.world u }
     ensures { DoesActs T.tells T.taken T.faults trace.old trace.new core.old core.new result (due_acts line u core.old.world) }
 {
-    for _ in 0..DEEDS_OF_INTERRUPT + DEEDS_OF_REQUEST * u64::from(core.queue_len(u)) {
+    for _ in 0..DEEDS_OF_INTERRUPT + DEEDS_OF_REQUEST * u64::from(core.unit(u).queue_len()) {
         let more = next_deed(core, line, u, trace)?;
         if !more {
             return Ok(());

@@ -73,7 +73,7 @@ fn replace<T: Sink>(
     requires may { Allowed core.old.world (Of line u id (forward_of moved (unit_at core.old.world u))) }
     ensures { DoesActs T.tells T.taken T.faults trace.old trace.new core.old core.new result (Of line u id (forward_of moved (unit_at core.old.world u)) ∷ []) }
 {
-    match core.entry(u, moved) {
+    match core.unit(u).entry(moved) {
         Some(index) => {
             core.forward(line, u, id, moved, index);
             Ok(())
@@ -104,7 +104,7 @@ fn follow<T: Sink>(
     requires may { Allowed core.old.world (Of line u asked.id (judged moved verdict (unit_at core.old.world u) (hand_at core.old.world u))) }
     ensures { DoesActs T.tells T.taken T.faults trace.old trace.new core.old core.new result (Of line u asked.id (judged moved verdict (unit_at core.old.world u) (hand_at core.old.world u)) ∷ []) }
 {
-    let done = core.done(u) + moved;
+    let done = core.unit(u).done() + moved;
     match verdict {
         Moved::Clean => finish(core, line, u, asked, moved, done, trace),
         Moved::Burst { at, pattern } => {
@@ -140,7 +140,7 @@ pub(crate) fn judge<T: Sink>(
     requires may { Allowed core.old.world (Of line u asked.id (deed_for (Judge moved verdict) (unit_at core.old.world u) (hand_at core.old.world u))) }
     ensures { DoesActs T.tells T.taken T.faults trace.old trace.new core.old core.new result (Of line u asked.id (deed_for (Judge moved verdict) (unit_at core.old.world u) (hand_at core.old.world u)) ∷ []) }
 {
-    if core.is_centred(u) {
+    if core.unit(u).is_centred() {
         follow(core, line, u, asked, moved, verdict, trace)
     } else {
         core.centre(line, u, asked.id, trace)

@@ -2,7 +2,7 @@ use Rattle.std.proofs.Common.{rules, ◌≡◌, [], true, false, refl, sym, ap, 
 use Rattle.std.specs.Prelude.{◌≢◌}
 use Rattle.std.proofs.lemmas.Bool.{false≢true}
 use Rattle.driver_machine.specs.declared.Phase.{Phase}
-use Rattle.driver_machine.specs.World.{World, unit_at}
+use Rattle.driver_machine.specs.World.{World, UnitView, unit_at}
 use Rattle.driver_machine.specs.Acts.{Act}
 use Rattle.driver_machine.specs.Due.{next_of, next_by, start_of, deed_for}
 use Rattle.driver_machine.specs.Events.{next_acts}
@@ -19,7 +19,7 @@ use Rattle.hp_driver.proofs.deeds.next_deed.Goals as goal
 pub start-requires : goal.start-requires
 start-requires g c =
     let w : World = c.args.core.now.world in
-    let is : IsDueHere w c.args.u c.in-Some.asked.id (start_of (unit_at w c.args.u) (hand_at w c.args.u)) = start_here w c.args.u c.in-Some.asked c.requires.sound c.requires.unit c.requires.free c.in-Some.ensures.some c.in-Some.ensures.asked c.in-Waiting.ensures in
+    let is : IsDueHere w c.args.u c.in-Some.asked.id (start_of (unit_at w c.args.u) (hand_at w c.args.u)) = start_here w c.args.u c.in-Some.asked c.requires.sound c.requires.unit c.requires.free c.in-Some.ensures.some c.in-Some.ensures.asked (sym (sym (ap (λ (v : UnitView). v.phase) c.unit.ensures) ∙ sym c.phase-phase.ensures ∙ c.in-Waiting.is)) in
     record {
       sound = c.requires.sound;
       asked = c.in-Some.ensures.asked;
@@ -29,18 +29,18 @@ start-requires g c =
 pub work-requires : goal.work-requires
 work-requires g c =
     let w : World = c.args.core.now.world in
-    let is : IsDueHere w c.args.u c.in-Some.asked.id (deed_for c.in-Due.task (unit_at w c.args.u) (hand_at w c.args.u)) = task_here w c.args.u c.in-Some.asked c.in-Due.task c.requires.sound c.requires.unit c.requires.free c.in-Some.ensures.some c.in-Some.ensures.asked c.in-Due.ensures in
+    let is : IsDueHere w c.args.u c.in-Some.asked.id (deed_for c.in-Due.task (unit_at w c.args.u) (hand_at w c.args.u)) = task_here w c.args.u c.in-Some.asked c.in-Due.task c.requires.sound c.requires.unit c.requires.free c.in-Some.ensures.some c.in-Some.ensures.asked (sym (sym (ap (λ (v : UnitView). v.phase) c.unit.ensures) ∙ sym c.phase-phase.ensures ∙ c.in-Due.is)) in
     record {
       sound = c.requires.sound;
       asked = c.in-Some.ensures.asked;
-      phase = sym c.in-Due.ensures;
+      phase = sym (ap (λ (v : UnitView). v.phase) c.unit.ensures) ∙ sym c.phase-phase.ensures ∙ c.in-Due.is;
       may = may_here w c.args.line c.args.u c.in-Some.asked.id (deed_for c.in-Due.task (unit_at w c.args.u) (hand_at w c.args.u)) is;
     }
 
 pub returns-in_ok-start-in-Waiting : goal.returns-in_ok-start-in-Waiting
 returns-in_ok-start-in-Waiting g c =
     let w : World = c.args.core.now.world in
-    let is : IsDueHere w c.args.u c.in-Some.asked.id (start_of (unit_at w c.args.u) (hand_at w c.args.u)) = start_here w c.args.u c.in-Some.asked c.requires.sound c.requires.unit c.requires.free c.in-Some.ensures.some c.in-Some.ensures.asked c.in-Waiting.ensures in
+    let is : IsDueHere w c.args.u c.in-Some.asked.id (start_of (unit_at w c.args.u) (hand_at w c.args.u)) = start_here w c.args.u c.in-Some.asked c.requires.sound c.requires.unit c.requires.free c.in-Some.ensures.some c.in-Some.ensures.asked (sym (sym (ap (λ (v : UnitView). v.phase) c.unit.ensures) ∙ sym c.phase-phase.ensures ∙ c.in-Waiting.is)) in
     record {
       does = done_here g.T.Sink.tells g.T.Sink.taken g.T.Sink.faults c.args.trace.now c.start.new.trace c.args.core.now c.start.new.core c.args.line c.args.u c.in-Some.asked.id (start_of (unit_at w c.args.u) (hand_at w c.args.u)) tt true is c.in_ok-start-in-Waiting.ensures;
       some = λ e. some_here g.T.Sink.tells g.T.Sink.taken g.T.Sink.faults c.args.trace.now c.start.new.trace c.args.core.now c.start.new.core c.args.line c.args.u c.in-Some.asked.id (start_of (unit_at w c.args.u) (hand_at w c.args.u)) is;
@@ -52,7 +52,7 @@ returns-in_ok-start-in-Waiting g c =
 pub returns-in_err-start-in-Waiting : goal.returns-in_err-start-in-Waiting
 returns-in_err-start-in-Waiting g c =
     let w : World = c.args.core.now.world in
-    let is : IsDueHere w c.args.u c.in-Some.asked.id (start_of (unit_at w c.args.u) (hand_at w c.args.u)) = start_here w c.args.u c.in-Some.asked c.requires.sound c.requires.unit c.requires.free c.in-Some.ensures.some c.in-Some.ensures.asked c.in-Waiting.ensures in
+    let is : IsDueHere w c.args.u c.in-Some.asked.id (start_of (unit_at w c.args.u) (hand_at w c.args.u)) = start_here w c.args.u c.in-Some.asked c.requires.sound c.requires.unit c.requires.free c.in-Some.ensures.some c.in-Some.ensures.asked (sym (sym (ap (λ (v : UnitView). v.phase) c.unit.ensures) ∙ sym c.phase-phase.ensures ∙ c.in-Waiting.is)) in
     record {
       does = handed g.T.Sink.tells g.T.Sink.taken g.T.Sink.faults c.args.trace.now c.start.new.trace c.args.core.now c.start.new.core c.from_residual.result (next_acts c.args.line c.args.u w) c.from_residual.ensures.1
           (stopped_here g.T.Sink.tells g.T.Sink.taken g.T.Sink.faults c.args.trace.now c.start.new.trace c.args.core.now c.start.new.core c.args.line c.args.u c.in-Some.asked.id (start_of (unit_at w c.args.u) (hand_at w c.args.u)) c.in_err-start-in-Waiting.field-0.0 is c.in_err-start-in-Waiting.ensures);
@@ -65,7 +65,7 @@ returns-in_err-start-in-Waiting g c =
 pub returns-in_ok-work-in-Due : goal.returns-in_ok-work-in-Due
 returns-in_ok-work-in-Due g c =
     let w : World = c.args.core.now.world in
-    let is : IsDueHere w c.args.u c.in-Some.asked.id (deed_for c.in-Due.task (unit_at w c.args.u) (hand_at w c.args.u)) = task_here w c.args.u c.in-Some.asked c.in-Due.task c.requires.sound c.requires.unit c.requires.free c.in-Some.ensures.some c.in-Some.ensures.asked c.in-Due.ensures in
+    let is : IsDueHere w c.args.u c.in-Some.asked.id (deed_for c.in-Due.task (unit_at w c.args.u) (hand_at w c.args.u)) = task_here w c.args.u c.in-Some.asked c.in-Due.task c.requires.sound c.requires.unit c.requires.free c.in-Some.ensures.some c.in-Some.ensures.asked (sym (sym (ap (λ (v : UnitView). v.phase) c.unit.ensures) ∙ sym c.phase-phase.ensures ∙ c.in-Due.is)) in
     record {
       does = done_here g.T.Sink.tells g.T.Sink.taken g.T.Sink.faults c.args.trace.now c.work.new.trace c.args.core.now c.work.new.core c.args.line c.args.u c.in-Some.asked.id (deed_for c.in-Due.task (unit_at w c.args.u) (hand_at w c.args.u)) tt true is c.in_ok-work-in-Due.ensures;
       some = λ e. some_here g.T.Sink.tells g.T.Sink.taken g.T.Sink.faults c.args.trace.now c.work.new.trace c.args.core.now c.work.new.core c.args.line c.args.u c.in-Some.asked.id (deed_for c.in-Due.task (unit_at w c.args.u) (hand_at w c.args.u)) is;
@@ -77,7 +77,7 @@ returns-in_ok-work-in-Due g c =
 pub returns-in_err-work-in-Due : goal.returns-in_err-work-in-Due
 returns-in_err-work-in-Due g c =
     let w : World = c.args.core.now.world in
-    let is : IsDueHere w c.args.u c.in-Some.asked.id (deed_for c.in-Due.task (unit_at w c.args.u) (hand_at w c.args.u)) = task_here w c.args.u c.in-Some.asked c.in-Due.task c.requires.sound c.requires.unit c.requires.free c.in-Some.ensures.some c.in-Some.ensures.asked c.in-Due.ensures in
+    let is : IsDueHere w c.args.u c.in-Some.asked.id (deed_for c.in-Due.task (unit_at w c.args.u) (hand_at w c.args.u)) = task_here w c.args.u c.in-Some.asked c.in-Due.task c.requires.sound c.requires.unit c.requires.free c.in-Some.ensures.some c.in-Some.ensures.asked (sym (sym (ap (λ (v : UnitView). v.phase) c.unit.ensures) ∙ sym c.phase-phase.ensures ∙ c.in-Due.is)) in
     record {
       does = handed g.T.Sink.tells g.T.Sink.taken g.T.Sink.faults c.args.trace.now c.work.new.trace c.args.core.now c.work.new.core c.from_residual-in_err-work-in-Due.result (next_acts c.args.line c.args.u w) c.from_residual-in_err-work-in-Due.ensures.1
           (stopped_here g.T.Sink.tells g.T.Sink.taken g.T.Sink.faults c.args.trace.now c.work.new.trace c.args.core.now c.work.new.core c.args.line c.args.u c.in-Some.asked.id (deed_for c.in-Due.task (unit_at w c.args.u) (hand_at w c.args.u)) c.in_err-work-in-Due.field-0.0 is c.in_err-work-in-Due.ensures);
@@ -91,7 +91,7 @@ pub returns-then-is_between : goal.returns-then-is_between
 returns-then-is_between g c =
     let w : World = c.args.core.now.world in
     let nothing : next_acts c.args.line c.args.u w ≡ [] = none_next w c.args.line c.args.u
-    (ap (λ (p : Phase). next_by p (unit_at w c.args.u) (hand_at w c.args.u)) (sym c.phase.ensures) ∙ c.if-is_between.ensures refl (unit_at w c.args.u) (hand_at w c.args.u)) in
+    (ap (λ (p : Phase). next_by p (unit_at w c.args.u) (hand_at w c.args.u)) (sym (c.phase-phase.ensures ∙ ap (λ (v : UnitView). v.phase) c.unit.ensures)) ∙ c.if-is_between.ensures refl (unit_at w c.args.u) (hand_at w c.args.u)) in
     record {
       does = subst (λ (acts : List Act). DoesActs {A = Bool} g.T.Sink.tells g.T.Sink.taken g.T.Sink.faults c.args.trace.now c.args.trace.now c.args.core.now c.args.core.now (Ok false) acts) (sym nothing)
           (done_nothing g.T.Sink.tells g.T.Sink.taken g.T.Sink.faults c.args.trace.now c.args.core.now false);

@@ -1,5 +1,5 @@
 use Rattle.std.proofs.Common.{ap, sym, subst, ◌∙◌, ℕ}
-use Rattle.driver_machine.specs.World.{World, unit_on}
+use Rattle.driver_machine.specs.World.{World, UnitView, unit_on}
 use Rattle.driver_machine.specs.Acts as deed
 use Rattle.driver_machine.specs.Acts.{Of}
 use Rattle.driver_machine.specs.Events.{begun, steps_taken}
@@ -13,53 +13,50 @@ use Rattle.hp_driver.proofs.events.attention.Goals as goal
 
 pub returns-in_err-attend : goal.returns-in_err-attend
 returns-in_err-attend g c =
-    let up = sym c.if-not-is_raised.ensures in
+    let up = sym (c.if-not-is_raised.ensures ∙ ap (λ (v : UnitView). v.drive.attention) c.unit-unit.ensures) in
     let less = unit_less c.args.a c.args.drive c.requires.adapter c.requires.drive in
     handed _ _ _ _ _ _ _ _ _ c.from_residual.ensures.1
     (as_acts _ _ _ _ _ _ _ _ _ _
-    (ap (λ (n : ℕ). begun c.args.line (unit_on c.args.a c.args.drive) (deed.Attn n) c.args.core.now.world) (c.steps_taken-taken.ensures ∙ ap steps_taken c.phase.ensures)
+    (ap (λ (n : ℕ). begun c.args.line (unit_on c.args.a c.args.drive) (deed.Attn n) c.args.core.now.world) (c.steps_taken-taken.ensures ∙ ap steps_taken (c.phase.ensures ∙ ap (λ (v : UnitView). v.phase) c.unit-unit.ensures))
     ∙ attends c.args.core.now.world c.args.line c.args.a c.args.drive up)
     (deed_stopped _ _ _ c.args.line _ _ _ _ _ _ _ _ (raised_some _ _ c.requires.sound less up) c.id_in_hand-id.ensures c.in_err-attend.ensures))
 
 pub due-requires-clause-sound : goal.due-requires-clause-sound
 due-requires-clause-sound g c =
-    let up = sym c.if-not-is_raised.ensures in
+    let up = sym (c.if-not-is_raised.ensures ∙ ap (λ (v : UnitView). v.drive.attention) c.unit-unit.ensures) in
     let less = unit_less c.args.a c.args.drive c.requires.adapter c.requires.drive in
     sound_then _ _ _ _ _ _ _ _ _ c.requires.sound
     (subst (λ (n : ℕ). Allowed c.args.core.now.world (Of c.args.line (unit_on c.args.a c.args.drive) c.id_in_hand-id.result (deed.Attn n)))
-    (sym (c.steps_taken-taken.ensures ∙ ap steps_taken c.phase.ensures))
+    (sym (c.steps_taken-taken.ensures ∙ ap steps_taken (c.phase.ensures ∙ ap (λ (v : UnitView). v.phase) c.unit-unit.ensures)))
     (attention_may _ _ c.requires.sound less up c.args.line c.id_in_hand-id.result c.id_in_hand-id.ensures))
     c.in_ok-attend.ensures
 
 pub returns : goal.returns
 returns g c =
-    let up = sym c.if-not-is_raised.ensures in
+    let up = sym (c.if-not-is_raised.ensures ∙ ap (λ (v : UnitView). v.drive.attention) c.unit-unit.ensures) in
     let less = unit_less c.args.a c.args.drive c.requires.adapter c.requires.drive in
     as_acts _ _ _ _ _ _ _ _ _ _
-    (ap (λ (n : ℕ). begun c.args.line (unit_on c.args.a c.args.drive) (deed.Attn n) c.args.core.now.world) (c.steps_taken-taken.ensures ∙ ap steps_taken c.phase.ensures)
+    (ap (λ (n : ℕ). begun c.args.line (unit_on c.args.a c.args.drive) (deed.Attn n) c.args.core.now.world) (c.steps_taken-taken.ensures ∙ ap steps_taken (c.phase.ensures ∙ ap (λ (v : UnitView). v.phase) c.unit-unit.ensures))
     ∙ attends c.args.core.now.world c.args.line c.args.a c.args.drive up)
     (deed_then _ _ _ c.args.line _ _ _ _ _ _ _ _ _ _ (raised_some _ _ c.requires.sound less up) c.id_in_hand-id.ensures c.in_ok-attend.ensures c.due.ensures)
 
-pub is_raised-requires : goal.is_raised-requires
-is_raised-requires g c = unit_there c.args.core.now.world (unit_on c.args.a c.args.drive) c.requires.sound (unit_less c.args.a c.args.drive c.requires.adapter c.requires.drive)
-
-pub phase-requires : goal.phase-requires
-phase-requires g c = unit_there c.args.core.now.world (unit_on c.args.a c.args.drive) c.requires.sound (unit_less c.args.a c.args.drive c.requires.adapter c.requires.drive)
+pub unit-unit-requires : goal.unit-unit-requires
+unit-unit-requires g c = unit_there c.args.core.now.world (unit_on c.args.a c.args.drive) c.requires.sound (unit_less c.args.a c.args.drive c.requires.adapter c.requires.drive)
 
 pub id_in_hand-id-requires : goal.id_in_hand-id-requires
 id_in_hand-id-requires g c =
-    let up = sym c.if-not-is_raised.ensures in
+    let up = sym (c.if-not-is_raised.ensures ∙ ap (λ (v : UnitView). v.drive.attention) c.unit-unit.ensures) in
     let less = unit_less c.args.a c.args.drive c.requires.adapter c.requires.drive in
     record { sound = c.requires.sound; unit = less; some = raised_some c.args.core.now.world (unit_on c.args.a c.args.drive) c.requires.sound less up }
 
 pub attend-requires : goal.attend-requires
 attend-requires g c =
-    let up = sym c.if-not-is_raised.ensures in
+    let up = sym (c.if-not-is_raised.ensures ∙ ap (λ (v : UnitView). v.drive.attention) c.unit-unit.ensures) in
     let less = unit_less c.args.a c.args.drive c.requires.adapter c.requires.drive in
     record {
       sound = c.requires.sound;
       may = subst (λ (n : ℕ). Allowed c.args.core.now.world (Of c.args.line (unit_on c.args.a c.args.drive) c.id_in_hand-id.result (deed.Attn n)))
-          (sym (c.steps_taken-taken.ensures ∙ ap steps_taken c.phase.ensures))
+          (sym (c.steps_taken-taken.ensures ∙ ap steps_taken (c.phase.ensures ∙ ap (λ (v : UnitView). v.phase) c.unit-unit.ensures)))
           (attention_may c.args.core.now.world (unit_on c.args.a c.args.drive) c.requires.sound less up c.args.line c.id_in_hand-id.result c.id_in_hand-id.ensures);
     }
 

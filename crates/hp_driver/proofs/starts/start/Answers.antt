@@ -35,8 +35,8 @@ begin-requires g c = record {
   may = became c.args.core.now.world c.args.line c.args.u c.args.asked.id _ _ (ready_as (unit_at c.args.core.now.world c.args.u) (hand_at c.args.core.now.world c.args.u) c.target-target.result c.position.result c.target-target.ensures.place c.position.ensures c.in-Ready.is) c.requires.may;
 }
 
-pub search-requires : goal.search-requires
-search-requires g c = record {
+pub issue-requires : goal.issue-requires
+issue-requires g c = record {
   sound = c.requires.sound;
   may = became c.args.core.now.world c.args.line c.args.u c.args.asked.id _ _ (start_as (unit_at c.args.core.now.world c.args.u) (hand_at c.args.core.now.world c.args.u) c.target-target.result c.position.result c.target-target.ensures.place c.position.ensures
       ∙ ap (λ (p : Position). start_by p (unit_at c.args.core.now.world c.args.u) (hand_at c.args.core.now.world c.args.u)) c.in-Search.is ∙ ap (λ (t : Place). sensed false (unit_at c.args.core.now.world c.args.u) (Search t c.in-Search.sector)) (sym c.target-target.ensures.place)) c.requires.may;
@@ -47,4 +47,4 @@ returns-in-Search g c =
     as_well _ _ _ _ _ _ _ _ _ _ _ _ _
     (start_as (unit_at c.args.core.now.world c.args.u) (hand_at c.args.core.now.world c.args.u) c.target-target.result c.position.result c.target-target.ensures.place c.position.ensures
     ∙ ap (λ (p : Position). start_by p (unit_at c.args.core.now.world c.args.u) (hand_at c.args.core.now.world c.args.u)) c.in-Search.is ∙ ap (λ (t : Place). sensed false (unit_at c.args.core.now.world c.args.u) (Search t c.in-Search.sector)) (sym c.target-target.ensures.place))
-    c.search.ensures
+    c.issue.ensures

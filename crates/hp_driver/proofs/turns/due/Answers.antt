@@ -1,5 +1,5 @@
-use Rattle.std.proofs.Common.{◌+◌, ◌*◌, length, arith}
-use Rattle.driver_machine.specs.World.{unit_at}
+use Rattle.std.proofs.Common.{◌+◌, ◌*◌, length, ap, arith}
+use Rattle.driver_machine.specs.World.{UnitView, unit_at}
 use Rattle.driver_machine.specs.Events.{next_acts}
 use Rattle.hp_driver.proofs.Going.{at_first, at_last, turned, turn_stopped, turn_empty}
 use Rattle.hp_driver.proofs.Exits.{handed}
@@ -12,7 +12,7 @@ pub returns-in_err-more : goal.returns-in_err-more
 returns-in_err-more g c =
     handed _ _ _ _ _ _ _ _ _ c.from_residual.ensures.1
     (turn_stopped _ _ _ _ _ _ _ _ _ _ (next_acts c.args.line c.args.u) (8 + 3 * length (unit_at c.args.core.now.world c.args.u).queue) c.loop.counter _
-    (omega arith) c.loop.invariant.going c.in_err-more.ensures.does)
+    (omega (arith, ap (λ (v : UnitView). length v.queue) c.unit.ensures)) c.loop.invariant.going c.in_err-more.ensures.does)
 
 pub returns-then-not-more : goal.returns-then-not-more
 returns-then-not-more g c =
@@ -22,9 +22,9 @@ returns-then-not-more g c =
 pub loop-preserved : goal.loop-preserved
 loop-preserved g c = record {
   going = turned _ _ _ _ _ _ _ _ _ _ (next_acts c.args.line c.args.u) (8 + 3 * length (unit_at c.args.core.now.world c.args.u).queue) c.loop.counter _
-      (omega arith) c.loop.invariant.going c.in_ok-more.ensures.does;
+      (omega (arith, ap (λ (v : UnitView). length v.queue) c.unit.ensures)) c.loop.invariant.going c.in_ok-more.ensures.does;
   free = c.in_ok-more.ensures.free;
 }
 
 pub returns : goal.returns
-returns g c = at_last _ _ _ _ _ _ _ _ _ (next_acts c.args.line c.args.u) (8 + 3 * length (unit_at c.args.core.now.world c.args.u).queue) c.loop.counter (omega arith) c.loop.invariant.going
+returns g c = at_last _ _ _ _ _ _ _ _ _ (next_acts c.args.line c.args.u) (8 + 3 * length (unit_at c.args.core.now.world c.args.u).queue) c.loop.counter (omega (arith, ap (λ (v : UnitView). length v.queue) c.unit.ensures)) c.loop.invariant.going

@@ -3,7 +3,7 @@ use Rattle.hardware_table.specs.declared.Moved.{Moved}
 use Rattle.trace_replay.specs.declared.requests.answers.Cause.TheVariants.{Offline}
 use Rattle.driver_machine.specs.declared.Phase.TheVariants.{Due}
 use Rattle.driver_machine.specs.declared.Task.TheVariants.{Judge}
-use Rattle.driver_machine.specs.World.{unit_at}
+use Rattle.driver_machine.specs.World.{UnitView, unit_at, transfer_of}
 use Rattle.driver_machine.specs.Due.{judged}
 use Rattle.hp_driver.specs.Hand.{hand_at}
 use Rattle.hp_driver.proofs.Facts.{unit_there}
@@ -20,7 +20,7 @@ pub returns-in-Offline : goal.returns-in-Offline
 returns-in-Offline g c =
     told _ _ _ _ _ _ _ _ _ _ _ _ _
     (ap (λ (m : Moved). judged c.args.moved m (unit_at c.args.core.now.world c.args.u) (hand_at c.args.core.now.world c.args.u)) c.in-Offline.is
-    ∙ some_moved Offline c.args.moved (unit_at c.args.core.now.world c.args.u) _ (ap (λ n. n + c.args.moved) c.done.ensures))
+    ∙ some_moved Offline c.args.moved (unit_at c.args.core.now.world c.args.u) _ (ap (λ n. n + c.args.moved) (c.done.ensures ∙ ap (λ (v : UnitView). (transfer_of v).done) c.unit.ensures)))
     c.end.ensures
 
 pub returns-in-Faulted : goal.returns-in-Faulted
@@ -35,14 +35,14 @@ returns-in-Hard g c =
     (ap (λ (m : Moved). judged c.args.moved m (unit_at c.args.core.now.world c.args.u) (hand_at c.args.core.now.world c.args.u)) c.in-Hard.is)
     c.try_failed-in-Hard.ensures
 
-pub done-requires : goal.done-requires
-done-requires g c = unit_there c.args.core.now.world c.args.u c.requires.sound c.requires.may.0.unit
+pub unit-requires : goal.unit-requires
+unit-requires g c = unit_there c.args.core.now.world c.args.u c.requires.sound c.requires.may.0.unit
 
 pub finish-requires : goal.finish-requires
 finish-requires g c = record {
   sound = c.requires.sound;
   asked = c.requires.asked;
-  done = ap (λ n. n + c.args.moved) c.done.ensures;
+  done = ap (λ n. n + c.args.moved) (c.done.ensures ∙ ap (λ (v : UnitView). (transfer_of v).done) c.unit.ensures);
   may = became c.args.core.now.world c.args.line c.args.u c.args.asked.id _ _
       (ap (λ (m : Moved). judged c.args.moved m (unit_at c.args.core.now.world c.args.u) (hand_at c.args.core.now.world c.args.u)) c.in-Clean.is)
       c.requires.may;
@@ -61,7 +61,7 @@ end-requires g c = record {
   sound = c.requires.sound;
   may = became c.args.core.now.world c.args.line c.args.u c.args.asked.id _ _
       (ap (λ (m : Moved). judged c.args.moved m (unit_at c.args.core.now.world c.args.u) (hand_at c.args.core.now.world c.args.u)) c.in-Offline.is
-      ∙ some_moved Offline c.args.moved (unit_at c.args.core.now.world c.args.u) (c.done.result + c.args.moved) (ap (λ n. n + c.args.moved) c.done.ensures))
+      ∙ some_moved Offline c.args.moved (unit_at c.args.core.now.world c.args.u) (c.done.result + c.args.moved) (ap (λ n. n + c.args.moved) (c.done.ensures ∙ ap (λ (v : UnitView). (transfer_of v).done) c.unit.ensures)))
       c.requires.may;
 }
 
@@ -69,7 +69,7 @@ pub replace-requires : goal.replace-requires
 replace-requires g c = record {
   sound = c.requires.sound;
   phase = c.requires.phase ∙ ap (λ (m : Moved). Due (Judge c.args.moved m)) c.in-Marked.is;
-  done = ap (λ n. n + c.args.moved) c.done.ensures;
+  done = ap (λ n. n + c.args.moved) (c.done.ensures ∙ ap (λ (v : UnitView). (transfer_of v).done) c.unit.ensures);
   may = became c.args.core.now.world c.args.line c.args.u c.args.asked.id _ _
       (ap (λ (m : Moved). judged c.args.moved m (unit_at c.args.core.now.world c.args.u) (hand_at c.args.core.now.world c.args.u)) c.in-Marked.is)
       c.requires.may;

@@ -1,14 +1,17 @@
-use Rattle.std.proofs.Common.{sym, subst, ◌<◌}
+use Rattle.std.proofs.Common.{◌<◌, ◌/◌, sym, subst}
+use Rattle.pack_geometry.specs.Geometry.{cylinders_of, sectors_of}
+use Rattle.driver_machine.specs.World.{UnitView}
 use Rattle.hp_core.proofs.Deeds.{look_below}
 use Rattle.hp_core.proofs.driver.Core.position.Goals as goal
 
-pub position_from_here-requires-clause-here : goal.position_from_here-requires-clause-here
-position_from_here-requires-clause-here c = (c.requires.sound.each_unit c.args.u c.requires.unit).drive.cylinder
+pub unit-requires : goal.unit-requires
+unit-requires c = subst (λ n. c.args.u < n) (sym c.requires.sound.units) c.requires.unit
 
-pub position_from_here-requires-clause-look : goal.position_from_here-requires-clause-look
-position_from_here-requires-clause-look c =
+pub position-requires-clause-here : goal.position-requires-clause-here
+position-requires-clause-here c =
+    subst (λ (v : UnitView). v.drive.cc < cylinders_of v.drive.kind) (sym c.unit.ensures) (c.requires.sound.each_unit c.args.u c.requires.unit).drive.cylinder
+
+pub position-requires-clause-look : goal.position-requires-clause-look
+position-requires-clause-look c =
     let is = (c.requires.sound.each_unit c.args.u c.requires.unit).drive in
-    look_below _ is.look _ is.look_ahead is.sector
-
-pub position_from_here-requires-clause-unit : goal.position_from_here-requires-clause-unit
-position_from_here-requires-clause-unit c = subst (λ n. c.args.u < n) (sym c.requires.sound.units) c.requires.unit
+    subst (λ (v : UnitView). v.drive.la / 64 < sectors_of v.drive.kind) (sym c.unit.ensures) (look_below _ is.look _ is.look_ahead is.sector)
