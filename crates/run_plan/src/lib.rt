@@ -21,4 +21,4 @@ pub use events::events_text;
 pub use figures::Figures;
 pub use lanes::{Lane, Point, letter_at};
 pub use plan::{Plan, plan_of, requests_text, summary_text};
-pub use words::letter_word;
+pub use words::{legend_letters, letter_word};
