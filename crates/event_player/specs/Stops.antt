@@ -18,6 +18,7 @@ use Rattle.driver_machine.specs.Sound.{Sound}
 use Rattle.driver_machine.specs.Runs.{Run, MaySubmit}
 use Rattle.driver_laws.specs.answers.Outcome.{IsFront, IsNextBlock}
 use Rattle.driver_laws.specs.answers.Packs.{ReadAll, packs_after_all}
+use Rattle.outside_traits.specs.declared.traits.PackCall.{PackCall}
 use Rattle.script_runs.specs.StopsPasses.{AreDeclared}
 use Rattle.script_runs.specs.StopsPasses.{AllFlip}
 use Rattle.script_runs.specs.StopsPasses.{ShowsAll}
@@ -150,7 +151,7 @@ pub record StopsPlaying (fault : PlayFault) (script : Script) (first left : ℕ 
   pub read : AreTablesOf (drives_of script) first tables
   pub stopped : Stopped fault script tables first left out trace
 
-abbrev pub Leaves : PlayFault → Script → (first left : ℕ → Pack) → (out trace : Took) → Type 0
-Leaves faults.Store script first left out trace = IsUnplayed first left out trace ⊎ StopsPlaying faults.Store script first left out trace
-Leaves faults.Sink script first left out trace = StopsPlaying faults.Sink script first left out trace
-Leaves fault script first left out trace = Unit {0}
+abbrev pub Leaves : PlayFault → Script → (first left : ℕ → Pack) → PackCall → (out trace : Took) → Type 0
+Leaves faults.Store script first left call out trace = IsUnplayed script first left call out trace ⊎ StopsPlaying faults.Store script first left out trace
+Leaves faults.Sink script first left call out trace = StopsPlaying faults.Sink script first left out trace
+Leaves fault script first left call out trace = Unit {0}

@@ -47,7 +47,7 @@ untouched : {unit : ℕ} {kind : DriveKind} {old new : Outside} → Faulted unit
 untouched is = record { packs = is.same tt; trace = is.untraced tt; out = is.silent tt }
 
 pub read_fault : (t : Target) (size : ℕ) {old new : Outside} (f : TransferFault) → ((done : ℕ) → f ≡ fault.Unusable done → ⊥) → ¬ (IsOutside t.kind t.part t.at size)
-    → Faulted t.unit t.kind f old new → (IsTrue new.packs_tell → LeftRead f t old.held new.held new.trace_tells old.taken new.taken) → ReadEnds t size (Err f) old new
+    → Faulted t.unit t.kind f old new → (IsTrue new.packs_tell → LeftRead f t new.failed_at old.held new.held new.trace_tells old.taken new.taken) → ReadEnds t size (Err f) old new
 read_fault t size fault.Memory usable inside is left = (inside, untouched is)
 read_fault t size (fault.TooLong n) usable inside is left = (inside, too_long is)
 read_fault t size (fault.Unusable done) usable inside is left = absurd (usable done refl)
@@ -57,7 +57,7 @@ read_fault t size other usable inside is left = absurd is.only
 
 pub write_fault : {w : Writing} {from : List ℕ} {old new : Outside} (f : TransferFault) → Took w from old new → Faulted (unit_of w) (kind_of w) f old new
     → ((done : ℕ) → f ≡ fault.Unusable done → WriteEnds w (Err (fault.Unusable done)) old new)
-    → (IsTrue new.packs_tell → LeftWritten f (target_for w from) (bytes_for w from) old.held new.held new.trace_tells old.taken new.taken) → WriteEnds w (Err f) old new
+    → (IsTrue new.packs_tell → LeftWritten f (target_for w from) new.failed_at (bytes_for w from) old.held new.held new.trace_tells old.taken new.taken) → WriteEnds w (Err f) old new
 write_fault fault.Memory took is front left = untouched is
 write_fault {from = from} (fault.TooLong n) took is front left = record { from = from; took = took; long = too_long is }
 write_fault (fault.Unusable done) took is front left = front done refl

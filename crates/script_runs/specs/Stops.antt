@@ -18,6 +18,8 @@ use Rattle.driver_laws.specs.shown.Reach.{AskBelow, TablesBelow, StayFrom}
 use Rattle.driver_laws.specs.shown.Within.{ShowsAll}
 use Rattle.trace_lines.specs.answers.AnswerText.{out_text}
 use Rattle.driver_machine.specs.Writes.{writes_next}
+use Rattle.outside_traits.specs.declared.traits.PackCall.{PackCall}
+use Rattle.script_runs.specs.Attaching.{AttachesOne}
 use Rattle.script_runs.specs.Ahead.{IsBetween, WritesAhead, TellsAhead}
 
 -- AN EVENT IS OVER where no line of it is still to come, or a drain stands before its next one.
@@ -110,7 +112,8 @@ pub record StopsAtStore (script : Script) (tables : ℕ → Option Table) (first
   pub answers : TakesRest out (out_text sent) (out_text done)
 
 -- nothing was played, as the packs failed when a unit was attached
-pub record IsUnplayed (first left : ℕ → Pack) (out trace : Took) : Type 0 where
+pub record IsUnplayed (script : Script) (first left : ℕ → Pack) (call : PackCall) (out trace : Took) : Type 0 where
+  pub attaches : AttachesOne script call
   pub packs : left ≡ first
   pub unsaid : out.after ≡ out.before
   pub untold : trace.after ≡ trace.before
