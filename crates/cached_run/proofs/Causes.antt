@@ -9,6 +9,7 @@ use Rattle.trace_replay.specs.Script.{Script}
 use Rattle.driver_laws.specs.declared.answers.outcome.Stop.{Stop}
 use Rattle.driver_laws.specs.declared.answers.outcome.Stop.TheVariants as stop
 use Rattle.buffer_cache.specs.Passes.{HasCauses}
+use Rattle.outside_traits.specs.declared.traits.PackCall.{PackCall}
 use Rattle.script_runs.specs.declared.fault.PlayFault.{PlayFault}
 use Rattle.script_runs.specs.declared.fault.PlayFault.TheVariants as fault
 use Rattle.script_runs.specs.Stops.{Took}
@@ -135,10 +136,10 @@ never_long (Err (fault.TooLong unit length_is)) c script tells packs = absurd (c
 never_long (Err fault.Store) c script tells packs = tt
 never_long (Err fault.Sink) c script tells packs = tt
 
-pub leaves_as : {T : Type 0} (Q : Type 0) (result : Result T PlayFault) (capacity : ℕ) (script : Script) (first left : ℕ → Pack) (out trace : Took) → OnErr result (Q → CachedStops capacity script first left out trace)
-    → IfErr result (λ why. Q → CachedLeaves capacity why script first left out trace)
-leaves_as Q (Ok value) capacity script first left out trace stops = tt
-leaves_as Q (Err fault.Memory) capacity script first left out trace stops = λ q. tt
-leaves_as Q (Err (fault.TooLong unit length_is)) capacity script first left out trace stops = λ q. tt
-leaves_as Q (Err fault.Store) capacity script first left out trace stops = λ q. inr (stops q)
-leaves_as Q (Err fault.Sink) capacity script first left out trace stops = stops
+pub leaves_as : {T : Type 0} (Q : Type 0) (result : Result T PlayFault) (capacity : ℕ) (script : Script) (first left : ℕ → Pack) (call : PackCall) (out trace : Took) → OnErr result (Q → CachedStops capacity script first left out trace)
+    → IfErr result (λ why. Q → CachedLeaves capacity why script first left call out trace)
+leaves_as Q (Ok value) capacity script first left call out trace stops = tt
+leaves_as Q (Err fault.Memory) capacity script first left call out trace stops = λ q. tt
+leaves_as Q (Err (fault.TooLong unit length_is)) capacity script first left call out trace stops = λ q. tt
+leaves_as Q (Err fault.Store) capacity script first left call out trace stops = λ q. inr (stops q)
+leaves_as Q (Err fault.Sink) capacity script first left call out trace stops = stops

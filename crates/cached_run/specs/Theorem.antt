@@ -14,6 +14,7 @@ use Rattle.driver_laws.specs.rules.LegalAnswers.{AreLegal, all_claimed}
 use Rattle.driver_laws.specs.rules.Laws.{HoldMap, RestStays}
 use Rattle.driver_laws.specs.shown.RunsRuns.{Stay}
 use Rattle.script_runs.specs.Stops.{Took}
+use Rattle.outside_traits.specs.declared.traits.PackCall.{PackCall}
 use Rattle.script_runs.specs.Stops.{IsUnplayed}
 use Rattle.script_runs.specs.declared.fault.PlayFault.{PlayFault}
 use Rattle.script_runs.specs.declared.fault.PlayFault.TheVariants as faults
@@ -115,7 +116,7 @@ pub record CachedStops (capacity : ℕ) (script : Script) (old new : ℕ → Pac
   pub asked : HasAsked capacity script tables old new trace (before ++ at ∷ []) ⊎ HasAskedTill capacity script tables old new trace before at
 
 -- WHAT PLAYING LEAVES where it stopped: nothing was played, as the packs failed when a unit was attached; or it stopped in playing.
-abbrev pub CachedLeaves : (capacity : ℕ) → PlayFault → Script → (first left : ℕ → Pack) → (out trace : Took) → Type 0
-CachedLeaves capacity faults.Store script first left out trace = IsUnplayed first left out trace ⊎ CachedStops capacity script first left out trace
-CachedLeaves capacity faults.Sink script first left out trace = CachedStops capacity script first left out trace
-CachedLeaves capacity fault script first left out trace = Unit {0}
+abbrev pub CachedLeaves : (capacity : ℕ) → PlayFault → Script → (first left : ℕ → Pack) → PackCall → (out trace : Took) → Type 0
+CachedLeaves capacity faults.Store script first left call out trace = IsUnplayed script first left call out trace ⊎ CachedStops capacity script first left out trace
+CachedLeaves capacity faults.Sink script first left call out trace = CachedStops capacity script first left out trace
+CachedLeaves capacity fault script first left call out trace = Unit {0}

@@ -85,7 +85,7 @@ pub fn play_cached<P: Packs, O: Sink, T: Sink>(
     requires most { capacity ≤ 4096 }
     ensures plays { OnOk result (IsTrue (P.tells packs.new) → CachedPlays capacity (meaning_of script.now) (P.held packs.old) (P.held packs.new)
         (took O.tells O.taken O.faults out.old out.new) (took T.tells T.taken T.faults trace.old trace.new)) }
-    ensures stopped { IfErr result (λ fault. IsTrue (P.tells packs.new) → CachedLeaves capacity fault (meaning_of script.now) (P.held packs.old) (P.held packs.new)
+    ensures stopped { IfErr result (λ fault. IsTrue (P.tells packs.new) → CachedLeaves capacity fault (meaning_of script.now) (P.held packs.old) (P.held packs.new) (P.failed_at packs.new)
         (took O.tells O.taken O.faults out.old out.new) (took T.tells T.taken T.faults trace.old trace.new)) }
     ensures fits { IsPlaying result → IsTrue (P.tells packs.new) → (unit n : ℕ) → ¬ (IsTooLong (meaning_of script.now) (P.held packs.old) unit n) }
     ensures too_long { IfErr result (IsLongFor (meaning_of script.now) (P.tells packs.new) (P.held packs.old)) }

@@ -1,6 +1,8 @@
--- What a command meets outside: of the source, the packs and the two sinks, whether each tells, what it holds, and its count of faults.
+-- What a command meets outside: of the source, the packs and the two sinks, whether each tells, what it holds, and its count of faults;
+-- of the packs also what the call was about that failed last.
 use Rattle.std.specs.Prelude.{◌≡◌, ◌⊎◌, ℕ, Bool, List}
 use Rattle.outside_traits.specs.Causes.{Rose}
+use Rattle.outside_traits.specs.declared.traits.PackCall.{PackCall}
 use Rattle.pack_geometry.specs.Pack.{Pack}
 
 pub record Outside : Type 0 where
@@ -10,6 +12,7 @@ pub record Outside : Type 0 where
   pub packs_tell : Bool
   pub held : ℕ → Pack
   pub packs_faults : ℕ
+  pub failed_at : PackCall
   pub out_tells : Bool
   pub said : List ℕ
   pub out_faults : ℕ
@@ -18,15 +21,16 @@ pub record Outside : Type 0 where
   pub trace_faults : ℕ
 
 -- as the objects tell it
-abbrev pub outside : {S P O T : Type 0} → (S → Bool) → (S → List ℕ) → (S → ℕ) → (P → Bool) → (P → ℕ → Pack) → (P → ℕ)
+abbrev pub outside : {S P O T : Type 0} → (S → Bool) → (S → List ℕ) → (S → ℕ) → (P → Bool) → (P → ℕ → Pack) → (P → ℕ) → (P → PackCall)
     → (O → Bool) → (O → List ℕ) → (O → ℕ) → (T → Bool) → (T → List ℕ) → (T → ℕ) → S → P → O → T → Outside
-outside source_tells left source_faults packs_tell held packs_faults out_tells said out_faults trace_tells taken trace_faults source packs out trace = record {
+outside source_tells left source_faults packs_tell held packs_faults failed_at out_tells said out_faults trace_tells taken trace_faults source packs out trace = record {
   source_tells = source_tells source;
   left = left source;
   source_faults = source_faults source;
   packs_tell = packs_tell packs;
   held = held packs;
   packs_faults = packs_faults packs;
+  failed_at = failed_at packs;
   out_tells = out_tells out;
   said = said out;
   out_faults = out_faults out;

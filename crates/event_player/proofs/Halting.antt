@@ -24,6 +24,7 @@ use Rattle.driver_machine.specs.Guards.{IsSetUp}
 use Rattle.driver_laws.specs.answers.Outcome.{IsFront}
 use Rattle.driver_laws.specs.answers.Packs.{packs_after_all}
 use Rattle.driver_laws.proofs.answers.Joined.{front_same, front_more, front_of_front}
+use Rattle.outside_traits.specs.declared.traits.PackCall.{PackCall}
 use Rattle.script_runs.specs.StopsPasses.{AskBelow}
 use Rattle.script_runs.specs.StopsPasses.{with_call}
 use Rattle.trace_lines.specs.answers.AnswerText.{said_text, out_text}
@@ -314,14 +315,14 @@ module _ {P O T : Type 0} (holds : P → Bool) (held : P → ℕ → Pack) (out_
       subst (λ (o : O). StopsAtSink s tables first (held packs) (out_tells o) (out_took start_out) (out_took o) (trace_tells new_trace) (trace_took start_trace) (trace_took new_trace)) (sym same)
       (subst (λ (x : T). StopsAtSink s tables first (held packs) (out_tells old_out) (out_took start_out) (out_took old_out) (trace_tells x) (trace_took start_trace) (trace_took x)) (sym same_trace) e)
 
-  pub stopped_leaves : (fault : PlayFault) (s : Script) (tables : ℕ → Option Table) (first : ℕ → Pack) → AreTablesOf (drives_of s) first tables
+  pub stopped_leaves : (fault : PlayFault) (s : Script) (tables : ℕ → Option Table) (first : ℕ → Pack) (call : PackCall) → AreTablesOf (drives_of s) first tables
       → StopsAt fault s tables first (out_took start_out) (trace_took start_trace) at_stop
       → (fault ≡ faults.Store → TakesRest (took out_tells out_took out_faults old_out new_out) [] gathered)
       → (fault ≡ faults.Store → TakesRest (took trace_tells trace_took trace_faults old_trace new_trace) [] state.kept)
       → ((fault ≡ faults.Store → ⊥) → (new_out ≡ old_out) × (new_trace ≡ old_trace))
-      → Leaves fault s first (held packs) (took out_tells out_took out_faults start_out new_out) (took trace_tells trace_took trace_faults start_trace new_trace)
-  stopped_leaves faults.Store s tables first read is rest rest_lines same = inr (record { tables = tables; read = read; stopped = store_stops s tables first is (rest refl) (rest_lines refl) })
-  stopped_leaves faults.Sink s tables first read is rest rest_lines same =
+      → Leaves fault s first (held packs) call (took out_tells out_took out_faults start_out new_out) (took trace_tells trace_took trace_faults start_trace new_trace)
+  stopped_leaves faults.Store s tables first call read is rest rest_lines same = inr (record { tables = tables; read = read; stopped = store_stops s tables first is (rest refl) (rest_lines refl) })
+  stopped_leaves faults.Sink s tables first call read is rest rest_lines same =
       let other : (new_out ≡ old_out) × (new_trace ≡ old_trace) = same (λ e. cc e) in
       record { tables = tables; read = read; stopped = sink_stops s tables first is other.0 other.1 }
-  stopped_leaves it s tables first read is rest rest_lines same = tt
+  stopped_leaves it s tables first call read is rest rest_lines same = tt

@@ -17,6 +17,7 @@ use Rattle.driver_machine.specs.Guards.{IsHeldFor}
 use Rattle.driver_machine.specs.Runs.{Run, MaySubmit}
 use Rattle.driver_laws.specs.answers.Outcome.{IsFront, IsNextBlock}
 use Rattle.driver_laws.specs.answers.Packs.{ReadAll, packs_after_all}
+use Rattle.outside_traits.specs.declared.traits.PackCall.{PackCall}
 use Rattle.script_runs.specs.StopsPasses.{AllFlip}
 use Rattle.trace_lines.specs.answers.AnswerText.{out_text}
 use Rattle.hp_driver.specs.Subsystem.{is_move, writes_by}
@@ -139,7 +140,7 @@ pub record StopsPlaying (fault : PlayFault) (script : Script) (first left : ℕ 
   pub read : AreTablesOf (drives_of script) first tables
   pub stopped : Stopped fault script tables first left out trace
 
-abbrev pub Leaves : PlayFault → Script → (first left : ℕ → Pack) → (out trace : Took) → Type 0
-Leaves faults.Store script first left out trace = IsUnplayed first left out trace ⊎ StopsPlaying faults.Store script first left out trace
-Leaves faults.Sink script first left out trace = StopsPlaying faults.Sink script first left out trace
-Leaves fault script first left out trace = Unit {0}
+abbrev pub Leaves : PlayFault → Script → (first left : ℕ → Pack) → PackCall → (out trace : Took) → Type 0
+Leaves faults.Store script first left call out trace = IsUnplayed script first left call out trace ⊎ StopsPlaying faults.Store script first left out trace
+Leaves faults.Sink script first left call out trace = StopsPlaying faults.Sink script first left out trace
+Leaves fault script first left call out trace = Unit {0}

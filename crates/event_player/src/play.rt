@@ -140,7 +140,7 @@ fn play_units<P: Packs, O: Sink, T: Sink>(
     ensures tallied { IfOk result (λ tally. IsTrue (P.tells packs.new) → Tallied (meaning_of script.now) (P.held packs.old) (P.held packs.new)
         (O.tells out.new) (O.taken out.old) (O.taken out.new) (T.tells trace.new) (T.taken trace.old) (T.taken trace.new) tally) }
     ensures requests { IfOk result (λ tally. tally.requests ≡ counted one_request (meaning_of script.now).lines) }
-    ensures stopped { IfErr result (λ fault. IsTrue (P.tells packs.new) → Leaves fault (meaning_of script.now) (P.held packs.old) (P.held packs.new)
+    ensures stopped { IfErr result (λ fault. IsTrue (P.tells packs.new) → Leaves fault (meaning_of script.now) (P.held packs.old) (P.held packs.new) (P.failed_at packs.new)
         (took O.tells O.taken O.faults out.old out.new) (took T.tells T.taken T.faults trace.old trace.new)) }
     ensures too_long { (unit n : ℕ) → ¬ (IsErrOf result (TooLong unit n)) }
     ensures told { HaveTold (P.tells packs.old) (P.tells packs.new) (O.tells out.old) (O.tells out.new) (T.tells trace.old) (T.tells trace.new) }
@@ -188,7 +188,7 @@ pub fn play<P: Packs, O: Sink, T: Sink>(
     ensures tallied { IfOk result (λ tally. IsTrue (P.tells packs.new) → Tallied (meaning_of script.now) (P.held packs.old) (P.held packs.new)
         (O.tells out.new) (O.taken out.old) (O.taken out.new) (T.tells trace.new) (T.taken trace.old) (T.taken trace.new) tally) }
     ensures requests { IfOk result (λ tally. tally.requests ≡ counted one_request (meaning_of script.now).lines) }
-    ensures stopped { IfErr result (λ fault. IsTrue (P.tells packs.new) → Leaves fault (meaning_of script.now) (P.held packs.old) (P.held packs.new)
+    ensures stopped { IfErr result (λ fault. IsTrue (P.tells packs.new) → Leaves fault (meaning_of script.now) (P.held packs.old) (P.held packs.new) (P.failed_at packs.new)
         (took O.tells O.taken O.faults out.old out.new) (took T.tells T.taken T.faults trace.old trace.new)) }
     ensures fits { IsPlaying result → IsTrue (P.tells packs.new) → (unit n : ℕ) → ¬ (IsTooLong (meaning_of script.now) (P.held packs.old) unit n) }
     ensures too_long { IfErr result (IsLongFor (meaning_of script.now) (P.tells packs.new) (P.held packs.old)) }

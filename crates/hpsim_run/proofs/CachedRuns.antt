@@ -1,5 +1,6 @@
 -- A run of `cached`, by its status.
 use Rattle.std.proofs.Common.{◌≡◌, ◌⊎◌, ℕ, Bool, IsTrue, List, Err, refl, sym, ap, subst, arith, ◌∙◌}
+use Rattle.outside_traits.specs.declared.traits.PackCall.{PackCall}
 use Rattle.pack_geometry.specs.Pack.{Pack}
 use Rattle.outside_traits.specs.Causes.{Rose}
 use Rattle.trace_replay.specs.Script.{Script}
@@ -37,7 +38,7 @@ module _ (capacity : ℕ) (old new : Outside) (read : IsRead old new) where
   }
 
   abbrev Stop : PlayFault → Type 0
-  Stop fault = HasStoppedCached capacity fault new.source_tells old.left new.left new.packs_tell old.held new.held (out_took old new) (trace_took old new)
+  Stop fault = HasStoppedCached capacity fault new.source_tells old.left new.left new.packs_tell old.held new.held new.failed_at (out_took old new) (trace_took old new)
 
   pub cached_sink : (s : Stop faults.Sink) → (IsTrue new.packs_tell → (unit n : ℕ) → ¬ (IsTooLong (meaning_of s.lines) old.held unit n))
       → Rose old.out_faults new.out_faults ⊎ Rose old.trace_faults new.trace_faults → RunsCached capacity 5 old new
@@ -76,6 +77,6 @@ cached_plays T fault e = subst (λ (f : PlayFault). IsPlaying {T = T} (Err f)) (
 pub cached_before : (T : Type 0) (fault : PlayFault) (unit length_is : ℕ) → fault ≡ faults.TooLong unit length_is → IsBefore {T = T} (Err fault)
 cached_before T fault unit length_is e = subst (λ (f : PlayFault). IsBefore {T = T} (Err f)) (sym e) tt
 
-pub cached_leaves : (capacity : ℕ) (fault other : PlayFault) (script : Script) (first left : ℕ → Pack) (out trace : Took) → fault ≡ other → CachedLeaves capacity fault script first left out trace
-    → CachedLeaves capacity other script first left out trace
-cached_leaves capacity fault other script first left out trace e is = subst (λ (f : PlayFault). CachedLeaves capacity f script first left out trace) e is
+pub cached_leaves : (capacity : ℕ) (fault other : PlayFault) (script : Script) (first left : ℕ → Pack) (call : PackCall) (out trace : Took) → fault ≡ other
+    → CachedLeaves capacity fault script first left call out trace → CachedLeaves capacity other script first left call out trace
+cached_leaves capacity fault other script first left call out trace e is = subst (λ (f : PlayFault). CachedLeaves capacity f script first left call out trace) e is

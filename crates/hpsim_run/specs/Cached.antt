@@ -1,5 +1,6 @@
 -- What a run of `cached` comes to, by the status that it ends with.
 use Rattle.std.specs.Prelude.{◌≡◌, ℕ, Bool, IsTrue, List, []}
+use Rattle.outside_traits.specs.declared.traits.PackCall.{PackCall}
 use Rattle.pack_geometry.specs.Pack.{Pack}
 use Rattle.script_reader.specs.cached.Scripts.{Script as Lines, Spells, IsRefused}
 use Rattle.script_reader.specs.cached.Meaning.{meaning_of}
@@ -25,20 +26,20 @@ pub record HasCached (capacity : ℕ) (source_tells : Bool) (left left_after : L
   pub plays : IsTrue tells → CachedPlays capacity (meaning_of lines) old new out trace
   pub fits : IsTrue tells → (unit n : ℕ) → ¬ (IsTooLong (meaning_of lines) old unit n)
 
--- WHERE IT STOPPED as a sink or the packs failed. Where the source tells, it was read to its end, and its bytes spell these lines; where the
--- packs tell, each block holds what some of the writes up to the line of the stop left, those before the last sync that ended among them;
--- and the trace has the requests that a cache of so many blocks asks for, up to there.
-pub record HasStoppedCached (capacity : ℕ) (fault : PlayFault) (source_tells : Bool) (left left_after : List ℕ) (tells : Bool) (old new : ℕ → Pack) (out trace : Took) : Type 0 where
+-- WHERE IT STOPPED as a sink or the packs failed, these at `call` if at all. Where the source tells, it was read to its end, and its bytes spell
+-- these lines; where the packs tell, each block holds what some of the writes up to the line of the stop left, those before the last sync that
+-- ended among them; and the trace has the requests that a cache of so many blocks asks for, up to there.
+pub record HasStoppedCached (capacity : ℕ) (fault : PlayFault) (source_tells : Bool) (left left_after : List ℕ) (tells : Bool) (old new : ℕ → Pack) (call : PackCall) (out trace : Took) : Type 0 where
   pub lines : Lines
   pub read : IsTrue source_tells → left_after ≡ []
   pub spelled : IsTrue source_tells → Spells left lines.lines lines.count
-  pub leaves : IsTrue tells → CachedLeaves capacity fault (meaning_of lines) old new out trace
+  pub leaves : IsTrue tells → CachedLeaves capacity fault (meaning_of lines) old new call out trace
 
 pub record RunsCached (capacity code : ℕ) (old new : Outside) : Type 0 where
   -- what does not tell how it was played
   pub script : RunsScript MeansCached IsRefused code old new
   pub done : code ≡ status_code Done → HasCached capacity new.source_tells old.left new.left new.packs_tell old.held new.held (out_took old new) (trace_took old new)
   pub stopped : code ≡ status_code SinkFailed
-      → HasStoppedCached capacity faults.Sink new.source_tells old.left new.left new.packs_tell old.held new.held (out_took old new) (trace_took old new)
+      → HasStoppedCached capacity faults.Sink new.source_tells old.left new.left new.packs_tell old.held new.held new.failed_at (out_took old new) (trace_took old new)
   pub stopped_packs : code ≡ status_code PacksFailed
-      → HasStoppedCached capacity faults.Store new.source_tells old.left new.left new.packs_tell old.held new.held (out_took old new) (trace_took old new)
+      → HasStoppedCached capacity faults.Store new.source_tells old.left new.left new.packs_tell old.held new.held new.failed_at (out_took old new) (trace_took old new)

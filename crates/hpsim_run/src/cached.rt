@@ -26,11 +26,11 @@ pub(crate) fn run_cached<S: Source, P: Packs, O: Sink, T: Sink>(
     requires some { 1 ≤ capacity }
     requires few { capacity ≤ 4096 }
     ensures runs { RunsCached capacity (status_code result)
-        (outside S.tells S.left S.faults P.tells P.held P.faults O.tells O.taken O.faults T.tells T.taken T.faults script.old packs.old out.old trace.old)
-        (outside S.tells S.left S.faults P.tells P.held P.faults O.tells O.taken O.faults T.tells T.taken T.faults script.new packs.new out.new trace.new) }
+        (outside S.tells S.left S.faults P.tells P.held P.faults P.failed_at O.tells O.taken O.faults T.tells T.taken T.faults script.old packs.old out.old trace.old)
+        (outside S.tells S.left S.faults P.tells P.held P.faults P.failed_at O.tells O.taken O.faults T.tells T.taken T.faults script.new packs.new out.new trace.new) }
     ensures causes { HasItsCause (status_code result)
-        (outside S.tells S.left S.faults P.tells P.held P.faults O.tells O.taken O.faults T.tells T.taken T.faults script.old packs.old out.old trace.old)
-        (outside S.tells S.left S.faults P.tells P.held P.faults O.tells O.taken O.faults T.tells T.taken T.faults script.new packs.new out.new trace.new) }
+        (outside S.tells S.left S.faults P.tells P.held P.faults P.failed_at O.tells O.taken O.faults T.tells T.taken T.faults script.old packs.old out.old trace.old)
+        (outside S.tells S.left S.faults P.tells P.held P.faults P.failed_at O.tells O.taken O.faults T.tells T.taken T.faults script.new packs.new out.new trace.new) }
     ensures leaves { LeavesAlone (Some (Cached capacity)) (status_code result) script.old script.new packs.old packs.new out.old out.new trace.old trace.new }
 {
     let script = match load_cached(alloc, script) {

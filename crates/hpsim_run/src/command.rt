@@ -60,13 +60,13 @@ pub fn run<S: Source, P: Packs, O: Sink, T: Sink>(
 ) -> u8
     // `play`: the headline, what is left after a stop, and each other status.
     ensures play { the_command words.now ≡ Some Play → RunsPlay result
-        (outside S.tells S.left S.faults P.tells P.held P.faults O.tells O.taken O.faults T.tells T.taken T.faults script.old packs.old out.old trace.old)
-        (outside S.tells S.left S.faults P.tells P.held P.faults O.tells O.taken O.faults T.tells T.taken T.faults script.new packs.new out.new trace.new) }
+        (outside S.tells S.left S.faults P.tells P.held P.faults P.failed_at O.tells O.taken O.faults T.tells T.taken T.faults script.old packs.old out.old trace.old)
+        (outside S.tells S.left S.faults P.tells P.held P.faults P.failed_at O.tells O.taken O.faults T.tells T.taken T.faults script.new packs.new out.new trace.new) }
 
     // `cached N`, whose N is the capacity of its cache: each request answered at its own line, what is left after a stop, and each other status.
     ensures cached { (capacity : ℕ) → the_command words.now ≡ Some (Cached capacity) → RunsCached capacity result
-        (outside S.tells S.left S.faults P.tells P.held P.faults O.tells O.taken O.faults T.tells T.taken T.faults script.old packs.old out.old trace.old)
-        (outside S.tells S.left S.faults P.tells P.held P.faults O.tells O.taken O.faults T.tells T.taken T.faults script.new packs.new out.new trace.new) }
+        (outside S.tells S.left S.faults P.tells P.held P.faults P.failed_at O.tells O.taken O.faults T.tells T.taken T.faults script.old packs.old out.old trace.old)
+        (outside S.tells S.left S.faults P.tells P.held P.faults P.failed_at O.tells O.taken O.faults T.tells T.taken T.faults script.new packs.new out.new trace.new) }
 
     // The tools: those for bad-sector tables, and the formatter.
     ensures tool { RunsTool (the_command words.now) result (P.tells packs.new) (P.held packs.old) (P.held packs.new)
@@ -79,15 +79,15 @@ pub fn run<S: Source, P: Packs, O: Sink, T: Sink>(
 
     // `raw read`, `raw write` and `dump`: bytes of a partition.
     ensures transfer { (transfer : Transfer) → the_command words.now ≡ Some (TransferBytes transfer) → RunsTransfer transfer result
-        (outside S.tells S.left S.faults P.tells P.held P.faults O.tells O.taken O.faults T.tells T.taken T.faults script.old packs.old out.old trace.old)
-        (outside S.tells S.left S.faults P.tells P.held P.faults O.tells O.taken O.faults T.tells T.taken T.faults script.new packs.new out.new trace.new) }
+        (outside S.tells S.left S.faults P.tells P.held P.faults P.failed_at O.tells O.taken O.faults T.tells T.taken T.faults script.old packs.old out.old trace.old)
+        (outside S.tells S.left S.faults P.tells P.held P.faults P.failed_at O.tells O.taken O.faults T.tells T.taken T.faults script.new packs.new out.new trace.new) }
 
     // Each status of each command has its cause. Objects that a command does not use stay as they were.
     ensures statuses { IsStatusOf (the_command words.now) result }
     ensures usage { TellsUsage (the_command words.now) result (O.tells out.new) (O.taken out.old) (O.taken out.new) (O.faults out.old) (O.faults out.new) }
     ensures causes { HasItsCause result
-        (outside S.tells S.left S.faults P.tells P.held P.faults O.tells O.taken O.faults T.tells T.taken T.faults script.old packs.old out.old trace.old)
-        (outside S.tells S.left S.faults P.tells P.held P.faults O.tells O.taken O.faults T.tells T.taken T.faults script.new packs.new out.new trace.new) }
+        (outside S.tells S.left S.faults P.tells P.held P.faults P.failed_at O.tells O.taken O.faults T.tells T.taken T.faults script.old packs.old out.old trace.old)
+        (outside S.tells S.left S.faults P.tells P.held P.faults P.failed_at O.tells O.taken O.faults T.tells T.taken T.faults script.new packs.new out.new trace.new) }
     ensures leaves { LeavesAlone (the_command words.now) result script.old script.new packs.old packs.new out.old out.new trace.old trace.new }
 {
     match command_of(words) {

@@ -21,8 +21,8 @@ pub fn end_status<S: Source, P: Packs, O: Sink, T: Sink>(
     trace: &mut T,
 ) -> u8
     ensures runs { IfSome words.entry (λ list. Runs (the_command list.now) result
-        (outside S.tells S.left S.faults P.tells P.held P.faults O.tells O.taken O.faults T.tells T.taken T.faults script.old packs.old out.old trace.old)
-        (outside S.tells S.left S.faults P.tells P.held P.faults O.tells O.taken O.faults T.tells T.taken T.faults script.new packs.new out.new trace.new)) }
+        (outside S.tells S.left S.faults P.tells P.held P.faults P.failed_at O.tells O.taken O.faults T.tells T.taken T.faults script.old packs.old out.old trace.old)
+        (outside S.tells S.left S.faults P.tells P.held P.faults P.failed_at O.tells O.taken O.faults T.tells T.taken T.faults script.new packs.new out.new trace.new)) }
     ensures leaves { IfSome words.entry (λ list. LeavesAlone (the_command list.now) result script.old script.new packs.old packs.new out.old out.new trace.old trace.new) }
     // Without words nothing is done.
     ensures no_words { words.entry ≡ None → result ≡ status_code OutOfMemory }

@@ -12,9 +12,12 @@ use Rattle.driver_laws.specs.rules.Machine.{Blocks}
 use Rattle.driver_laws.specs.rules.Laid.{laid, laid_at}
 use Rattle.driver_laws.specs.rules.Bytes.{blocks_for, dump_place, dumped, with_bytes, with_range}
 use Rattle.driver_laws.proofs.rules.Ranges.{laid_over_none}
+use Rattle.driver_laws.specs.rules.Sessions.{told_in}
+use Rattle.trace_replay.specs.Text.{trace_text}
 use Rattle.raw_io.specs.Passes.{kind_at, map_at}
 use Rattle.raw_io.specs.Pieces.{start_of}
-use Rattle.promise_rows.specs.Raw.{DrainEndsEarly, ReadComesFromThePack, DriveIsOffline, WriteBeforeItsLines, DoneInBlocks, DumpAtTheFront, OutsideByOne, EdgeWithoutItsBytes, AnyTraceAtAStoppedTransfer, TransferLengthensTheImage, StoppedWriteLengthensTheImage, ReadBlowsAnEmptyImageUp, RawLengthensTheImage}
+use Rattle.promise_rows.proofs.Stopping.{no_copy, nothing_more}
+use Rattle.promise_rows.specs.Raw.{DrainEndsEarly, ReadComesFromThePack, DriveIsOffline, WriteBeforeItsLines, DoneInBlocks, DumpAtTheFront, OutsideByOne, EdgeWithoutItsBytes, AnyTraceAtAStoppedTransfer, LinesDroppedAtARead, TransferLengthensTheImage, StoppedWriteLengthensTheImage, ReadBlowsAnEmptyImageUp, RawLengthensTheImage}
 
 pub drain_ends_early : DrainEndsEarly
 drain_ends_early s slot h at not_ended ready = false≢true (sym not_ended ∙ ready.quiet.none slot h at)
@@ -100,14 +103,20 @@ edge_without_its_bytes unit done first other part from bytes bytes' old new tell
 pub any_trace_at_a_stopped_transfer : AnyTraceAtAStoppedTransfer
 any_trace_at_a_stopped_transfer t w size old new tells traced differs = (
   λ none stops. elim (stops.left tells) [
-    | inl unbegun ↦ differs (unbegun.1 traced)
+    | inl unbegun ↦ differs (unbegun.trace traced)
     | inr left ↦ none left.table left.broke.parts left.broke.begun left.broke.session (left.broke.trace traced)
   ],
   λ stops none. elim (stops.left tells) [
-    | inl unbegun ↦ differs (unbegun.1 traced)
+    | inl unbegun ↦ differs (unbegun.trace traced)
     | inr left ↦ none left.table left.broke.parts left.broke.begun left.broke.session (left.broke.trace traced)
   ],
 )
+
+pub lines_dropped_at_a_read : LinesDroppedAtARead
+lines_dropped_at_a_read t size block old new tells traced none before is some stops = elim (stops.left tells) [
+  | inl unbegun ↦ no_copy t.unit block t.unit t.kind new.failed_at before is unbegun.attaching
+  | inr left ↦ some left (nothing_more old.taken (trace_text (told_in left.broke.parts)) (sym none ∙ left.broke.trace traced))
+]
 
 transfer_lengthens_the_image : TransferLengthensTheImage
 transfer_lengthens_the_image reads t held held' trace_tells taken taken' moved unit other = other (moved.long unit)
@@ -119,7 +128,7 @@ read_blows_an_empty_image_up : ReadBlowsAnEmptyImageUp
 read_blows_an_empty_image_up t size done unit bytes old new tells empty some = (
   λ gives. grown (gives.read tells).same,
   λ stops. elim (stops.left tells) [
-    | inl unbegun ↦ grown unbegun.0
+    | inl unbegun ↦ grown unbegun.packs
     | inr left ↦ grown left.same
   ],
   λ stops. grown (stops.left tells).same,

@@ -78,7 +78,7 @@ of_taken {lines} {count} {tables} {old} {new} {sent} spelled taken = record {
 }
 
 behind_store : {lines : List Numbered} {count : ℕ} {old new : Outside} → Spells all_verbs old.left lines count
-    → Leaves faults.Store (meaning lines count) old.held new.held (out_took old new) (trace_took old new)
+    → Leaves faults.Store (meaning lines count) old.held new.held new.failed_at (out_took old new) (trace_took old new)
     → Keeps faults.Store (meaning lines count) old.held new.held (out_took old new) (trace_took old new)
     → (new.held ≡ old.held) ⊎ KeepsWhatWasAnswered old new
 behind_store spelled (inl unplayed) keeps = inl unplayed.packs

@@ -1,6 +1,16 @@
 -- What is promised of a stop refuses these outcomes.
-use Rattle.std.proofs.Common.{◌≡◌, ℕ, ◌+◌, ◌≤◌, Bool, true, false, List, [], ◌∷◌, ◌++◌, refl, sym, ap, subst, arith, ◌∙◌}
+use Rattle.std.proofs.Common.{◌≡◌, inl, inr, ℕ, ◌+◌, ◌-◌, ◌*◌, ◌<◌, ◌≤◌, Bool, true, false, List, [], ◌∷◌, ◌++◌, Option, Some, refl, sym, ap, subst, arith, ◌∙◌}
 use Rattle.std.proofs.lemmas.List.{append_assoc, append_cancel_left, append-nil}
+use Rattle.outside_traits.specs.declared.traits.PackCall.{PackCall}
+use Rattle.outside_traits.specs.declared.traits.PackCall.TheVariants.{Length, Block}
+use Rattle.pack_geometry.specs.declared.DriveKind.{DriveKind}
+use Rattle.pack_geometry.specs.Geometry.{block_count, copy_at, sectors_of}
+use Rattle.bad144_table.specs.Copies.{IsAtCopy}
+use Rattle.mba_autoconf.specs.Attach.{IsAttaching}
+use Rattle.trace_replay.specs.Script.{Script, drives_of}
+use Rattle.script_runs.specs.Attaching.{AttachesOne}
+use Rattle.cached_run.specs.Answers.{answers_of, text_of}
+use Rattle.cached_run.specs.Theorem.{contents}
 use Rattle.trace_replay.specs.requests.Requests.{Answer}
 use Rattle.trace_replay.specs.Moments.{Moment, Deed, Told, Sector, End}
 use Rattle.trace_replay.specs.Replay.{Replay, after_moments}
@@ -11,7 +21,7 @@ use Rattle.driver_laws.specs.answers.Outcome.{IsFront}
 use Rattle.driver_laws.proofs.answers.Joined.{text_append}
 use Rattle.script_runs.specs.Ahead.{IsBetween, lines_told}
 use Rattle.script_runs.specs.Writing.{WriteNothing, was_written_at}
-use Rattle.promise_rows.specs.Stopping.{AnswerBeforeItsLine, TwoBlocksAhead, TextDropped, TextSentTwice}
+use Rattle.promise_rows.specs.Stopping.{AnswerBeforeItsLine, TwoBlocksAhead, TextDropped, TextSentTwice, IsBeforeTheTable, PlayedAnswersDropped, CachedAnswersDropped, AnswersDroppedAtARead}
 
 pub nothing_more : (said text : List ℕ) → said ≡ said ++ text → text ≡ []
 nothing_more said text is = append_cancel_left said text [] (sym is ∙ sym (append-nil said))
@@ -90,3 +100,51 @@ pub text_sent_twice : TextSentTwice
 text_sent_twice script tables first left out trace stops calm tells some twice =
     let text : List ℕ = trace_text (stops.reached.sent ++ stops.reached.late) in
     some (nothing_more text text (append_cancel_left trace.before text (text ++ text) (sym (stops.lines.whole calm tells) ∙ twice)))
+
+-- A BLOCK BEFORE THE TABLE'S TRACK is none of the copies, so no call at it attaches a unit.
+pub no_copy : (unit block other : ℕ) (kind : DriveKind) (call : PackCall) → block < block_count kind - sectors_of kind → call ≡ Block unit block → IsAttaching kind other call → ⊥
+no_copy unit block other kind call before is (inl asked) = apart (sym is ∙ asked)
+  where
+    apart : Block unit block ≡ Length other → ⊥
+    apart e = cc
+no_copy unit block other kind call before is (inr copy) = behind block (block_count kind) (sectors_of kind) copy.copy before (same (sym is ∙ copy.at))
+  where
+    same : Block unit block ≡ Block other (copy_at kind copy.copy) → block ≡ copy_at kind copy.copy
+    same e = cc
+
+    behind : (b c s k : ℕ) → b < c - s → b ≡ c - s + 2 * k → ⊥
+    behind b c s k less e = omega (arith, less, e)
+
+none_attached : (script : Script) (call : PackCall) → IsBeforeTheTable script call → AttachesOne script call → ⊥
+none_attached script call at one =
+    no_copy at.unit at.block one.unit at.kind call at.before at.is (subst (λ (k : DriveKind). IsAttaching k one.unit call) (same_kind (unit_is one.attaching)) one.attaching)
+  where
+    -- the two units are one, so their drives are
+    named : (unit other block copy : ℕ) → Block unit block ≡ Block other copy → unit ≡ other
+    named unit other block copy e = cc
+
+    apart : (unit other block : ℕ) → Block unit block ≡ Length other → ⊥
+    apart unit other block e = cc
+
+    unit_is : IsAttaching one.kind one.unit call → at.unit ≡ one.unit
+    unit_is (inl asked) = absurd (apart at.unit one.unit at.block (sym at.is ∙ asked))
+    unit_is (inr copy) = named at.unit one.unit at.block (copy_at one.kind copy.copy) (sym at.is ∙ copy.at)
+
+    some_same : (a b : DriveKind) → ◌≡◌ {A = Option DriveKind} (Some a) (Some b) → a ≡ b
+    some_same a b e = cc
+
+    same_kind : at.unit ≡ one.unit → one.kind ≡ at.kind
+    same_kind e = some_same one.kind at.kind (sym one.declared ∙ ap (drives_of script) (sym e) ∙ at.declared)
+
+played_answers_dropped : PlayedAnswersDropped
+played_answers_dropped script first left call out trace at took some (inl unplayed) = none_attached script call at unplayed.attaches
+played_answers_dropped script first left call out trace at took some (inr stops) =
+    some stops (nothing_more out.before (out_text (stops.stopped.reached.sent ++ stops.stopped.reached.late)) (sym took.none ∙ stops.stopped.answers.whole took.calm took.tells))
+
+cached_answers_dropped : CachedAnswersDropped
+cached_answers_dropped capacity script first left call out trace at took some (inl unplayed) = none_attached script call at unplayed.attaches
+cached_answers_dropped capacity script first left call out trace at took some (inr stops) =
+    some stops (nothing_more out.before (text_of (answers_of (drives_of script) (contents script stops.tables first) stops.before)) (sym took.none ∙ stops.whole took.calm took.tells))
+
+pub answers_dropped_at_a_read : AnswersDroppedAtARead
+answers_dropped_at_a_read = (played_answers_dropped, cached_answers_dropped)

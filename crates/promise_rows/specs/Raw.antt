@@ -1,6 +1,8 @@
 -- Wrong outcomes of requests that are waited for, and of raw transfers.
-use Rattle.std.specs.Prelude.{◌≡◌, ◌≢◌, ◌↔◌, ℕ, ◌+◌, ◌*◌, ◌<◌, ◌≤◌, Bool, true, false, IsTrue, List, [], ◌∷◌, ◌++◌, length, Option, Result, Err, Some}
+use Rattle.std.specs.Prelude.{◌≡◌, ◌≢◌, ◌↔◌, ℕ, ◌+◌, ◌-◌, ◌*◌, ◌<◌, ◌≤◌, Bool, true, false, IsTrue, List, [], ◌∷◌, ◌++◌, length, Option, Result, Err, Some}
+use Rattle.outside_traits.specs.declared.traits.PackCall.TheVariants.{Block}
 use Rattle.pack_geometry.specs.declared.DriveKind.{DriveKind}
+use Rattle.pack_geometry.specs.Geometry.{block_count, sectors_of}
 use Rattle.partitions.specs.declared.Part.{Part}
 use Rattle.partitions.specs.declared.Part.TheVariants.{B}
 use Rattle.partitions.specs.Partitions.{size_of}
@@ -21,6 +23,8 @@ use Rattle.trace_replay.specs.Text.{trace_text}
 use Rattle.pack_geometry.specs.TableSpelling.{Table}
 use Rattle.pack_geometry.specs.Pack.{Pack}
 use Rattle.driver_laws.specs.shown.Lengths.{length_behind}
+use Rattle.driver_laws.specs.declared.answers.outcome.Stop.TheVariants as stopped
+use Rattle.raw_command.specs.Transfers.{LeavesAll}
 use Rattle.command_parts.specs.Outside.{Outside as Between}
 use Rattle.command_parts.specs.declared.words.Target.{Target}
 use Rattle.command_parts.specs.declared.words.Writing.{Writing}
@@ -76,6 +80,13 @@ abbrev pub AnyTraceAtAStoppedTransfer : Type 0
 AnyTraceAtAStoppedTransfer = (t : Target) (w : Writing) (size : ℕ) (old new : Between) → IsTrue new.packs_tell → IsTrue new.trace_tells → new.taken ≢ old.taken
     → (IsNoSession true t old new → ¬ ReadStops Store t size old new)
     × ((stops : WriteStops Store w old new) → ¬ IsNoSession false (target_for w stops.from) old new)
+
+-- LINES DROPPED AT A READ: the packs failed at a block of the unit that lies before the table's track. Whatever was read until then has a line,
+-- and the trace took nothing.
+abbrev pub LinesDroppedAtARead : Type 0
+LinesDroppedAtARead = (t : Target) (size block : ℕ) (old new : Between) → IsTrue new.packs_tell → IsTrue new.trace_tells → new.taken ≡ old.taken
+    → block < block_count t.kind - sectors_of t.kind → new.failed_at ≡ Block t.unit block
+    → ((left : LeavesAll t stopped.Store old.held new.held new.trace_tells old.taken new.taken) → trace_text (told_in left.broke.parts) ≢ []) → ¬ ReadStops Store t size old new
 
 -- A RAW TRANSFER LENGTHENS THE IMAGE, or shortens it: it is not as long as the blocks that its lines wrote make it, be it where the trace failed;
 -- or a read blows an empty image up, be it where it stopped.

@@ -9,7 +9,7 @@ pub mod transfers;
 
 ghost use Rattle.promise_rows.specs.Playing.{AlwaysAFault, AnswersKeptBack, BlockBeforeItsEvent, BlockBehindAStop, BlockOfNoUnit, NoiseLineUncounted, ShortLastBlockWhole};
 ghost use Rattle.promise_rows.specs.Naming.{LaterUnitNamed, FittingLengthNamed, FirstEventUntold, OtherRunByOtherTables, ReadsLengthen, NotAsLongAsWritten, MarkGoneBehindAFailure};
-ghost use Rattle.promise_rows.specs.Stopping.{AnswerBeforeItsLine, TextDropped, TextSentTwice, TwoBlocksAhead};
+ghost use Rattle.promise_rows.specs.Stopping.{AnswerBeforeItsLine, AnswersDroppedAtARead, TextDropped, TextSentTwice, TwoBlocksAhead};
 ghost use Rattle.promise_rows.specs.Strikes.{FailedByFewStrikes};
 ghost use Rattle.promise_rows.specs.Headers.{HeadersAreAsTheDriveHasThem};
 ghost use Rattle.promise_rows.specs.Others.{DoneWhereTheTextWasNotTaken, FaultThatPrints, HandedInPacksPlayed, ListOfAnotherTable, PlayedAsRefusedByTheTool};
@@ -61,12 +61,13 @@ pub fn header_rows()
 {}
 
 /// What holds at a stop: no answer comes before its line; of the blocks that were written, at most one has no line that was sent; and
-/// if the packs failed and the trace did not, all lines were sent, once.
+/// if the packs failed and the trace did not, all lines were sent, once. If they failed at a read, no answer is dropped.
 pub fn stop_rows()
     ensures answer_before_its_line { AnswerBeforeItsLine }
     ensures write_before_its_lines { TwoBlocksAhead }
     ensures text_dropped_at_a_stop { TextDropped }
     ensures text_sent_twice { TextSentTwice }
+    ensures answers_dropped_at_a_read { AnswersDroppedAtARead }
 {}
 
 /// What holds of the words of the command line, which name a command before its number; of statuses, each of which belongs to one end;

@@ -1,7 +1,7 @@
 //! Wrong outcomes of blocking requests, of raw transfers and of the cache. What is promised of them rules these outcomes out. The
 //! functions here do nothing: each stands for a law.
 
-ghost use Rattle.promise_rows.specs.Raw.{DrainEndsEarly, ReadComesFromThePack, DriveIsOffline, WriteBeforeItsLines, DoneInBlocks, DumpAtTheFront, OutsideByOne, EdgeWithoutItsBytes, AnyTraceAtAStoppedTransfer, RawLengthensTheImage};
+ghost use Rattle.promise_rows.specs.Raw.{DrainEndsEarly, ReadComesFromThePack, DriveIsOffline, WriteBeforeItsLines, DoneInBlocks, DumpAtTheFront, OutsideByOne, EdgeWithoutItsBytes, AnyTraceAtAStoppedTransfer, LinesDroppedAtARead, RawLengthensTheImage};
 ghost use Rattle.promise_rows.specs.Waited.{AnswerLeftUntaken, UnforwardedCountsTheBadBlock};
 ghost use Rattle.promise_rows.specs.Cache.{ChangedEntryDropped, AnotherBlockWrittenBack, RefusedInsertionNotCounted, RefusedRisesAtAStop, SyncStopsEarly, RefusedInsertionPromotes, AnotherBlockWritten, BlockAlwaysFound};
 ghost use Rattle.promise_rows.specs.Cached.{LastSyncForgotten, BlockOlderThanTheLastSync, CachedBytesBeyondTheDrive, CachedNotAsLongAsWritten, LaterLinesPlayedBehindASinkThatFailed, CacheOfAnotherSize, SyncThatWritesNothing, LastUnusableBlockOk, FaultCalledThatOfASink, WriteAnsweredBeforeItIsDone, UnitBehindASync};
@@ -20,13 +20,15 @@ pub fn asked_rows()
 
 /// What holds of a raw transfer: bytes are counted, a dump ends its partition, the last byte of a partition is inside, a block that is
 /// written in part keeps its other bytes, and an image is as long as what was written makes it, also if the trace failed. A read leaves
-/// every image as it was, whether it ended or stopped. If the packs failed, the trace has the lines of a legal session.
+/// every image as it was, whether it ended or stopped. If the packs failed, the trace has the lines of a legal session,
+/// and if they failed at a read, all of them.
 pub fn raw_rows()
     ensures done_in_blocks { DoneInBlocks }
     ensures dump_at_the_front { DumpAtTheFront }
     ensures outside_by_one { OutsideByOne }
     ensures edge_without_its_bytes { EdgeWithoutItsBytes }
     ensures any_trace_at_a_stopped_transfer { AnyTraceAtAStoppedTransfer }
+    ensures lines_dropped_at_a_read { LinesDroppedAtARead }
     ensures raw_lengthens_the_image { RawLengthensTheImage }
 {}
 

@@ -48,7 +48,7 @@ untouched is = record { packs = is.same tt; trace = is.untraced tt; out = is.sil
 
 pub write_fault : {w : Writing} {from : List ℕ} {old new : Outside} (f : TransferFault) → Took w from old new → Faulted (unit_of w) (kind_of w) f old new
     → ((done : ℕ) → f ≡ fault.Unusable done → WriteEnds w (Err (fault.Unusable done)) old new)
-    → (IsTrue new.packs_tell → LeftWritten f (target_for w from) (bytes_for w from) old.held new.held new.trace_tells old.taken new.taken) → WriteEnds w (Err f) old new
+    → (IsTrue new.packs_tell → LeftWritten f (target_for w from) new.failed_at (bytes_for w from) old.held new.held new.trace_tells old.taken new.taken) → WriteEnds w (Err f) old new
 write_fault fault.Memory took is front left = untouched is
 write_fault {from = from} (fault.TooLong n) took is front left = record { from = from; took = took; long = too_long is }
 write_fault (fault.Unusable done) took is front left = front done refl

@@ -19,7 +19,8 @@ use Rattle.raw_io.specs.Pieces.{GivesRange, PutsRange, start_of}
 use Rattle.raw_io.specs.Transfers.{Breaks}
 use Rattle.raw_io.specs.declared.fault.RawFault.{RawFault}
 use Rattle.raw_io.specs.declared.fault.RawFault.TheVariants as raw
-use Rattle.mba_autoconf.specs.Attach.{Fits}
+use Rattle.mba_autoconf.specs.Attach.{Fits, IsAttaching}
+use Rattle.outside_traits.specs.declared.traits.PackCall.{PackCall}
 use Rattle.raw_command.specs.Faults.{IsBefore, IsOfAttaching, IsOfUnit, done_by, fault_in, raw_fault, stop_of}
 use Rattle.raw_command.specs.Transfers.{HasRead, HasWritten, LeavesAll, LeavesFront, LeftRead, LeftWritten, ReadsUnit, WritesUnit}
 use Rattle.raw_command.specs.Units.{IsAttached, IsFoundLong, KeepsUnit}
@@ -60,7 +61,7 @@ not_unusable done f is e = subst IsOfAttaching (same_Some f (fault.Unusable done
 pub kind_made : {tells : Bool} {pack : Pack} {unit : ℕ} {kind : DriveKind} {s : State} → unit < 32 → IsAttached tells pack unit kind s → kind_at s.world unit ≡ kind
 kind_made {unit = unit} {kind = kind} small a = ap (λ (x : State). kind_at x.world unit) a.made ∙ kind_is unit kind a.table small a.good
 
-module _ (Q O : Type 0) (holds : Q → Bool) (held : Q → ℕ → Pack) (packs_faults : Q → ℕ) (tells : O → Bool) (taken : O → List ℕ) (faults : O → ℕ) (t : Target) (packs mid : Q) (trace : O)
+module _ (Q O : Type 0) (holds : Q → Bool) (held : Q → ℕ → Pack) (packs_faults : Q → ℕ) (failed_at : Q → PackCall) (tells : O → Bool) (taken : O → List ℕ) (faults : O → ℕ) (t : Target) (packs mid : Q) (trace : O)
     (later : packs_faults packs ≤ packs_faults mid) (never : IsTrue (holds mid) → IsTrue (holds packs)) (same : IsTrue (holds mid) → held mid ≡ held packs) where
   -- ---- ATTACHING leaves the trace, and what the packs hold.
   keeps_none : (f : TransferFault) → IsOfAttaching f → (f ≡ fault.Store → Rose (packs_faults packs) (packs_faults mid)) → IsFoundLong (holds mid) (held packs t.unit) t.kind f
@@ -94,38 +95,40 @@ module _ (Q O : Type 0) (holds : Q → Bool) (held : Q → ℕ → Pack) (packs_
   }
   keeps_none other is rose long = absurd is
 
-  left_read : (f : TransferFault) → IsOfAttaching f → IsTrue (holds mid) → LeftRead f t (held packs) (held mid) (tells trace) (taken trace) (taken trace)
-  left_read fault.Store is told = inl (same told, λ traced. refl)
-  left_read fault.Memory is told = tt
-  left_read (fault.TooLong n) is told = tt
-  left_read other is told = absurd is
+  left_read : (f : TransferFault) → IsOfAttaching f → (f ≡ fault.Store → IsAttaching t.kind t.unit (failed_at mid)) → IsTrue (holds mid)
+      → LeftRead f t (failed_at mid) (held packs) (held mid) (tells trace) (taken trace) (taken trace)
+  left_read fault.Store is at told = inl (record { attaching = at refl; packs = same told; trace = λ traced. refl })
+  left_read fault.Memory is at told = tt
+  left_read (fault.TooLong n) is at told = tt
+  left_read other is at told = absurd is
 
-  left_written : (from : List ℕ) (f : TransferFault) → IsOfAttaching f → IsTrue (holds mid) → LeftWritten f t from (held packs) (held mid) (tells trace) (taken trace) (taken trace)
-  left_written from fault.Store is told = inl (same told, λ traced. refl)
-  left_written from fault.Memory is told = tt
-  left_written from (fault.TooLong n) is told = tt
-  left_written from other is told = absurd is
+  left_written : (from : List ℕ) (f : TransferFault) → IsOfAttaching f → (f ≡ fault.Store → IsAttaching t.kind t.unit (failed_at mid)) → IsTrue (holds mid)
+      → LeftWritten f t (failed_at mid) from (held packs) (held mid) (tells trace) (taken trace) (taken trace)
+  left_written from fault.Store is at told = inl (record { attaching = at refl; packs = same told; trace = λ traced. refl })
+  left_written from fault.Memory is at told = tt
+  left_written from (fault.TooLong n) is at told = tt
+  left_written from other is at told = absurd is
 
   pub reads_none : {A : Type 0} (into : List ℕ) (r : Result A TransferFault) (f : TransferFault) → IsErrAnd r (λ e. e ≡ f) → IsOfAttaching f
-      → (f ≡ fault.Store → Rose (packs_faults packs) (packs_faults mid)) → IsFoundLong (holds mid) (held packs t.unit) t.kind f
-      → ReadsUnit holds held packs_faults tells taken faults t into into packs mid trace trace (fault_in r)
-  reads_none into (Ok value) f e is rose long = absurd e
-  reads_none into (Err g) f e is rose long = subst (λ (h : TransferFault). ReadsUnit holds held packs_faults tells taken faults t into into packs mid trace trace (Some h)) (sym e) (record {
+      → (f ≡ fault.Store → Rose (packs_faults packs) (packs_faults mid)) → (f ≡ fault.Store → IsAttaching t.kind t.unit (failed_at mid))
+      → IsFoundLong (holds mid) (held packs t.unit) t.kind f → ReadsUnit holds held packs_faults failed_at tells taken faults t into into packs mid trace trace (fault_in r)
+  reads_none into (Ok value) f e is rose at long = absurd e
+  reads_none into (Err g) f e is rose at long = subst (λ (h : TransferFault). ReadsUnit holds held packs_faults failed_at tells taken faults t into into packs mid trace trace (Some h)) (sym e) (record {
     few = λ done d. absurd (none_done (length into) done f is d);
     unusable = λ done d. absurd (not_unusable done f is d);
     reads = λ done d. absurd (none_done (length into) done f is d);
-    stops = left_read f is;
+    stops = left_read f is at;
     keeps = keeps_none f is rose long;
   })
 
   pub writes_none : {A : Type 0} (from : List ℕ) (r : Result A TransferFault) (f : TransferFault) → IsErrAnd r (λ e. e ≡ f) → IsOfAttaching f
-      → (f ≡ fault.Store → Rose (packs_faults packs) (packs_faults mid)) → IsFoundLong (holds mid) (held packs t.unit) t.kind f
-      → WritesUnit holds held packs_faults tells taken faults t from packs mid trace trace (fault_in r)
-  writes_none from (Ok value) f e is rose long = absurd e
-  writes_none from (Err g) f e is rose long = subst (λ (h : TransferFault). WritesUnit holds held packs_faults tells taken faults t from packs mid trace trace (Some h)) (sym e) (record {
+      → (f ≡ fault.Store → Rose (packs_faults packs) (packs_faults mid)) → (f ≡ fault.Store → IsAttaching t.kind t.unit (failed_at mid))
+      → IsFoundLong (holds mid) (held packs t.unit) t.kind f → WritesUnit holds held packs_faults failed_at tells taken faults t from packs mid trace trace (fault_in r)
+  writes_none from (Ok value) f e is rose at long = absurd e
+  writes_none from (Err g) f e is rose at long = subst (λ (h : TransferFault). WritesUnit holds held packs_faults failed_at tells taken faults t from packs mid trace trace (Some h)) (sym e) (record {
     unusable = λ done d. absurd (not_unusable done f is d);
     writes = λ done d. absurd (none_done (length from) done f is d);
-    stops = left_written from f is;
+    stops = left_written from f is at;
     keeps = keeps_none f is rose long;
   })
 
@@ -199,7 +202,7 @@ module _ (Q O : Type 0) (holds : Q → Bool) (held : Q → ℕ → Pack) (packs_
         → ((stop : Stop) → raw_stop r ≡ Some stop → IsTrue (holds packs') → HasTables (setup_at old) → IsUntouched old new)
         → ((stop : Stop) → raw_stop r ≡ Some stop → Breaks true t.unit t.part stop old new)
         → Keeps holds packs_faults tells faults s s' mid packs' trace trace' (raw_stop r)
-        → ReadsUnit holds held packs_faults tells taken faults t into into' packs packs' trace trace' (raw_fault r)
+        → ReadsUnit holds held packs_faults failed_at tells taken faults t into into' packs packs' trace trace' (raw_fault r)
     reads_after (Ok value) inside into into' gives some stops breaks k = record {
       few = λ done e. (gives done e).few;
       unusable = λ done e. absurd (none-some (fault.Unusable done) e);
@@ -236,7 +239,7 @@ module _ (Q O : Type 0) (holds : Q → Bool) (held : Q → ℕ → Pack) (packs_
         → ((stop : Stop) → raw_stop r ≡ Some stop → IsTrue (holds packs') → HasTables (setup_at old) → StopsAt t.unit (start_of old t.unit t.part) t.at from old new)
         → ((stop : Stop) → raw_stop r ≡ Some stop → Breaks false t.unit t.part stop old new)
         → Keeps holds packs_faults tells faults s s' mid packs' trace trace' (raw_stop r)
-        → WritesUnit holds held packs_faults tells taken faults t from packs packs' trace trace' (raw_fault r)
+        → WritesUnit holds held packs_faults failed_at tells taken faults t from packs packs' trace trace' (raw_fault r)
     writes_after (Ok value) inside from puts some stops breaks k = record {
       unusable = λ done e. absurd (none-some (fault.Unusable done) e);
       writes = λ done e told. written_so done from (k.never_again told) told (puts done e);
@@ -269,9 +272,9 @@ module _ (Q O : Type 0) (holds : Q → Bool) (held : Q → ℕ → Pack) (packs_
         → ((stop : Stop) → raw_stop r ≡ Some stop → IsTrue (holds packs') → HasTables (setup_at old) → IsUntouched old new)
         → ((stop : Stop) → raw_stop r ≡ Some stop → Breaks true t.unit t.part stop old new)
         → Keeps holds packs_faults tells faults s s' mid packs' trace trace' (raw_stop r)
-        → ReadsUnit holds held packs_faults tells taken faults t into into' packs packs' trace trace' why
+        → ReadsUnit holds held packs_faults failed_at tells taken faults t into into' packs packs' trace trace' why
     reads_by r why e inside into into' gives some stops breaks k =
-        subst (λ (w : Option TransferFault). ReadsUnit holds held packs_faults tells taken faults t into into' packs packs' trace trace' w) (sym e)
+        subst (λ (w : Option TransferFault). ReadsUnit holds held packs_faults failed_at tells taken faults t into into' packs packs' trace trace' w) (sym e)
         (reads_after r inside into into' gives some stops breaks k)
 
     pub writes_by : {A : Type 0} (r : Result A RawFault) (why : Option TransferFault) → why ≡ raw_fault r → (r ≡ Err raw.Outside → ⊥) → (from : List ℕ)
@@ -280,9 +283,9 @@ module _ (Q O : Type 0) (holds : Q → Bool) (held : Q → ℕ → Pack) (packs_
         → ((stop : Stop) → raw_stop r ≡ Some stop → IsTrue (holds packs') → HasTables (setup_at old) → StopsAt t.unit (start_of old t.unit t.part) t.at from old new)
         → ((stop : Stop) → raw_stop r ≡ Some stop → Breaks false t.unit t.part stop old new)
         → Keeps holds packs_faults tells faults s s' mid packs' trace trace' (raw_stop r)
-        → WritesUnit holds held packs_faults tells taken faults t from packs packs' trace trace' why
+        → WritesUnit holds held packs_faults failed_at tells taken faults t from packs packs' trace trace' why
     writes_by r why e inside from puts some stops breaks k =
-        subst (λ (w : Option TransferFault). WritesUnit holds held packs_faults tells taken faults t from packs packs' trace trace' w) (sym e)
+        subst (λ (w : Option TransferFault). WritesUnit holds held packs_faults failed_at tells taken faults t from packs packs' trace trace' w) (sym e)
         (writes_after r inside from puts some stops breaks k)
 
 -- a range that is inside

@@ -75,7 +75,7 @@ pub record GivesFront (t : Target) (size done : ℕ) (old new : Outside) : Type 
 pub record ReadStops (why : TransferFault) (t : Target) (size : ℕ) (old new : Outside) : Type 0 where
   pub inside : ¬ (IsOutside t.kind t.part t.at size)
   pub out : new.said ≡ old.said
-  pub left : IsTrue new.packs_tell → LeftRead why t old.held new.held new.trace_tells old.taken new.taken
+  pub left : IsTrue new.packs_tell → LeftRead why t new.failed_at old.held new.held new.trace_tells old.taken new.taken
 
 abbrev pub ReadEnds : Target → (size : ℕ) → Answer → (old new : Outside) → Type 0
 ReadEnds t size (Ok all) old new = GivesAll t size old new
@@ -161,7 +161,7 @@ pub record WriteStops (why : TransferFault) (w : Writing) (old new : Outside) : 
   pub from : List ℕ
   pub took : Took w from old new
   pub out : new.said ≡ old.said
-  pub left : IsTrue new.packs_tell → LeftWritten why (target_for w from) (bytes_for w from) old.held new.held new.trace_tells old.taken new.taken
+  pub left : IsTrue new.packs_tell → LeftWritten why (target_for w from) new.failed_at (bytes_for w from) old.held new.held new.trace_tells old.taken new.taken
 
 abbrev pub WriteEnds : Writing → Answer → (old new : Outside) → Type 0
 WriteEnds w (Ok all) old new = WritesAll w old new

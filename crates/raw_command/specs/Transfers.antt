@@ -19,7 +19,8 @@ use Rattle.driver_laws.specs.rules.Cleans.{MovedClean}
 use Rattle.driver_laws.specs.rules.Bytes.{range, Touches, ComesTo, with_range}
 use Rattle.driver_laws.specs.rules.Pieces.{EndsBlock}
 use Rattle.raw_io.specs.Transfers.{AreBegun, AreWaited}
-use Rattle.mba_autoconf.specs.Attach.{Fits}
+use Rattle.outside_traits.specs.declared.traits.PackCall.{PackCall}
+use Rattle.mba_autoconf.specs.Attach.{Fits, IsAttaching}
 use Rattle.raw_command.specs.Faults.{done_by}
 use Rattle.raw_command.specs.Units.{at_unit, unit_setup, KeepsUnit}
 use Rattle.raw_command.specs.declared.fault.TransferFault.{TransferFault}
@@ -103,36 +104,40 @@ pub record LeavesFront (t : Target) (stop : Stop) (from : List ℕ) (held held' 
   pub whole : EndsBlock t.at (length from) done
   pub written : (block : ℕ) → blocks_in t table held' block ≡ with_range (blocks_in t table held) (first_in t) t.at (take done from) block
 
--- WHAT IS LEFT where the packs or the trace failed; the packs may fail before anything is transferred, and then no line is told.
-abbrev pub IsUnbegun : (held held' : ℕ → Pack) → (trace_tells : Bool) → (taken taken' : List ℕ) → Type 0
-IsUnbegun held held' trace_tells taken taken' = (held' ≡ held) × (IsTrue trace_tells → taken' ≡ taken)
+-- WHAT IS LEFT where the packs or the trace failed; the packs may fail as the unit is attached, before anything is transferred, and then no line
+-- is told.
+pub record IsUnbegun (t : Target) (call : PackCall) (held held' : ℕ → Pack) (trace_tells : Bool) (taken taken' : List ℕ) : Type 0 where
+  pub attaching : IsAttaching t.kind t.unit call
+  pub packs : held' ≡ held
+  pub trace : IsTrue trace_tells → taken' ≡ taken
 
-abbrev pub LeftRead : TransferFault → Target → (held held' : ℕ → Pack) → (trace_tells : Bool) → (taken taken' : List ℕ) → Type 0
-LeftRead fault.Store t held held' trace_tells taken taken' = IsUnbegun held held' trace_tells taken taken' ⊎ LeavesAll t stopped.Store held held' trace_tells taken taken'
-LeftRead fault.Sink t held held' trace_tells taken taken' = LeavesAll t stopped.Sink held held' trace_tells taken taken'
-LeftRead why t held held' trace_tells taken taken' = Unit {0}
+abbrev pub LeftRead : TransferFault → Target → PackCall → (held held' : ℕ → Pack) → (trace_tells : Bool) → (taken taken' : List ℕ) → Type 0
+LeftRead fault.Store t call held held' trace_tells taken taken' =
+    IsUnbegun t call held held' trace_tells taken taken' ⊎ LeavesAll t stopped.Store held held' trace_tells taken taken'
+LeftRead fault.Sink t call held held' trace_tells taken taken' = LeavesAll t stopped.Sink held held' trace_tells taken taken'
+LeftRead why t call held held' trace_tells taken taken' = Unit {0}
 
-abbrev pub LeftWritten : TransferFault → Target → (from : List ℕ) → (held held' : ℕ → Pack) → (trace_tells : Bool) → (taken taken' : List ℕ) → Type 0
-LeftWritten fault.Store t from held held' trace_tells taken taken' =
-    IsUnbegun held held' trace_tells taken taken' ⊎ LeavesFront t stopped.Store from held held' trace_tells taken taken'
-LeftWritten fault.Sink t from held held' trace_tells taken taken' = LeavesFront t stopped.Sink from held held' trace_tells taken taken'
-LeftWritten why t from held held' trace_tells taken taken' = Unit {0}
+abbrev pub LeftWritten : TransferFault → Target → PackCall → (from : List ℕ) → (held held' : ℕ → Pack) → (trace_tells : Bool) → (taken taken' : List ℕ) → Type 0
+LeftWritten fault.Store t call from held held' trace_tells taken taken' =
+    IsUnbegun t call held held' trace_tells taken taken' ⊎ LeavesFront t stopped.Store from held held' trace_tells taken taken'
+LeftWritten fault.Sink t call from held held' trace_tells taken taken' = LeavesFront t stopped.Sink from held held' trace_tells taken taken'
+LeftWritten why t call from held held' trace_tells taken taken' = Unit {0}
 
 -- WHAT A CALL OVER ONE UNIT has done, by the fault that it answered, if it did: a read into a buffer,
-pub record ReadsUnit {Q O : Type 0} (holds : Q → Bool) (held : Q → ℕ → Pack) (packs_faults : Q → ℕ) (tells : O → Bool) (taken : O → List ℕ) (faults : O → ℕ)
-    (t : Target) (into into' : List ℕ) (packs packs' : Q) (trace trace' : O) (why : Option TransferFault) : Type 0 where
+pub record ReadsUnit {Q O : Type 0} (holds : Q → Bool) (held : Q → ℕ → Pack) (packs_faults : Q → ℕ) (failed_at : Q → PackCall) (tells : O → Bool)
+    (taken : O → List ℕ) (faults : O → ℕ) (t : Target) (into into' : List ℕ) (packs packs' : Q) (trace trace' : O) (why : Option TransferFault) : Type 0 where
   pub few : (done : ℕ) → done_by (length into) why ≡ Some done → done ≤ length into
   pub unusable : (done : ℕ) → why ≡ Some (fault.Unusable done) → done < length into
   pub reads : (done : ℕ) → done_by (length into) why ≡ Some done → IsTrue (holds packs')
       → HasRead t (length into) done (take done into') (held packs) (held packs') (tells trace') (taken trace) (taken trace')
-  pub stops : IfSome why (λ f. IsTrue (holds packs') → LeftRead f t (held packs) (held packs') (tells trace') (taken trace) (taken trace'))
+  pub stops : IfSome why (λ f. IsTrue (holds packs') → LeftRead f t (failed_at packs') (held packs) (held packs') (tells trace') (taken trace) (taken trace'))
   pub keeps : KeepsUnit holds held packs_faults tells faults t.unit t.kind packs packs' trace trace' why
 
 -- and a write of bytes.
-pub record WritesUnit {Q O : Type 0} (holds : Q → Bool) (held : Q → ℕ → Pack) (packs_faults : Q → ℕ) (tells : O → Bool) (taken : O → List ℕ) (faults : O → ℕ)
-    (t : Target) (from : List ℕ) (packs packs' : Q) (trace trace' : O) (why : Option TransferFault) : Type 0 where
+pub record WritesUnit {Q O : Type 0} (holds : Q → Bool) (held : Q → ℕ → Pack) (packs_faults : Q → ℕ) (failed_at : Q → PackCall) (tells : O → Bool)
+    (taken : O → List ℕ) (faults : O → ℕ) (t : Target) (from : List ℕ) (packs packs' : Q) (trace trace' : O) (why : Option TransferFault) : Type 0 where
   pub unusable : (done : ℕ) → why ≡ Some (fault.Unusable done) → done < length from
   pub writes : (done : ℕ) → done_by (length from) why ≡ Some done → IsTrue (holds packs')
       → HasWritten t done from (held packs) (held packs') (tells trace') (taken trace) (taken trace')
-  pub stops : IfSome why (λ f. IsTrue (holds packs') → LeftWritten f t from (held packs) (held packs') (tells trace') (taken trace) (taken trace'))
+  pub stops : IfSome why (λ f. IsTrue (holds packs') → LeftWritten f t (failed_at packs') from (held packs) (held packs') (tells trace') (taken trace) (taken trace'))
   pub keeps : KeepsUnit holds held packs_faults tells faults t.unit t.kind packs packs' trace trace' why

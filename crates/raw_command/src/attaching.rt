@@ -1,6 +1,7 @@
 // The unit of a transfer is attached.
 ghost use Rattle.std.specs.Prelude.{◌≡◌, ◌≤◌, ◌<◌, IsTrue, IfOk, IfErr, IsErrOf};
 ghost use Rattle.outside_traits.specs.Causes.{Rose};
+ghost use Rattle.mba_autoconf.specs.Attach.{IsAttaching};
 ghost use Rattle.raw_command.specs.Faults.{IsOfAttaching};
 ghost use Rattle.raw_command.specs.Units.{IsAttached, IsFoundLong};
 
@@ -31,6 +32,7 @@ pub(crate) fn attached<P: Packs>(
     ensures never_again { IsTrue (P.tells packs.new) → IsTrue (P.tells packs.old) }
     ensures later { P.faults packs.old ≤ P.faults packs.new }
     ensures store { IsErrOf result TransferFault.Store → Rose (P.faults packs.old) (P.faults packs.new) }
+    ensures at { IsErrOf result TransferFault.Store → IsAttaching kind unit (P.failed_at packs.new) }
 {
     let mut drive = Drive::new(kind, u16::from(unit));
     let found = attach(&mut drive, packs, unit)?;

@@ -40,12 +40,12 @@ pub fn run_bytes<S: Source, P: Packs, O: Sink, T: Sink>(
 ) -> Status
     requires { IsInRange transfer }
     ensures runs { RunsTransfer transfer (status_code result)
-        (outside S.tells S.left S.faults P.tells P.held P.faults O.tells O.taken O.faults T.tells T.taken T.faults source.old packs.old out.old trace.old)
-        (outside S.tells S.left S.faults P.tells P.held P.faults O.tells O.taken O.faults T.tells T.taken T.faults source.new packs.new out.new trace.new) }
+        (outside S.tells S.left S.faults P.tells P.held P.faults P.failed_at O.tells O.taken O.faults T.tells T.taken T.faults source.old packs.old out.old trace.old)
+        (outside S.tells S.left S.faults P.tells P.held P.faults P.failed_at O.tells O.taken O.faults T.tells T.taken T.faults source.new packs.new out.new trace.new) }
     ensures statuses { IsTransferCode transfer (status_code result) }
     ensures causes { HasItsCause (status_code result)
-        (outside S.tells S.left S.faults P.tells P.held P.faults O.tells O.taken O.faults T.tells T.taken T.faults source.old packs.old out.old trace.old)
-        (outside S.tells S.left S.faults P.tells P.held P.faults O.tells O.taken O.faults T.tells T.taken T.faults source.new packs.new out.new trace.new) }
+        (outside S.tells S.left S.faults P.tells P.held P.faults P.failed_at O.tells O.taken O.faults T.tells T.taken T.faults source.old packs.old out.old trace.old)
+        (outside S.tells S.left S.faults P.tells P.held P.faults P.failed_at O.tells O.taken O.faults T.tells T.taken T.faults source.new packs.new out.new trace.new) }
     ensures leaves { LeavesAlone (Some (TransferBytes transfer)) (status_code result) source.old source.new packs.old packs.new out.old out.new trace.old trace.new }
 {
     let answer = run_transfer(alloc, transfer, source, packs, out, trace);

@@ -95,8 +95,8 @@ fn read_to<P: Packs, O: Sink, T: Sink>(
     requires target { IsTarget target }
     requires inside { target.at + length bytes.old ≤ 512 * size_of target.kind target.part }
     ensures ends { (source_tells : Bool) → (left : List ℕ) → (source_faults : ℕ) → ReadEnds target (length bytes.old) result
-        (outside (λ (_ : Unit {0}). source_tells) (λ _. left) (λ _. source_faults) P.tells P.held P.faults O.tells O.taken O.faults T.tells T.taken T.faults tt packs.old out.old trace.old)
-        (outside (λ (_ : Unit {0}). source_tells) (λ _. left) (λ _. source_faults) P.tells P.held P.faults O.tells O.taken O.faults T.tells T.taken T.faults tt packs.new out.new trace.new) }
+        (outside (λ (_ : Unit {0}). source_tells) (λ _. left) (λ _. source_faults) P.tells P.held P.faults P.failed_at O.tells O.taken O.faults T.tells T.taken T.faults tt packs.old out.old trace.old)
+        (outside (λ (_ : Unit {0}). source_tells) (λ _. left) (λ _. source_faults) P.tells P.held P.faults P.failed_at O.tells O.taken O.faults T.tells T.taken T.faults tt packs.new out.new trace.new) }
     ensures stays { Stays (code_of result) packs.old packs.new out.old out.new trace.old trace.new }
 {
     match read_unit(alloc, target, bytes, packs, trace) {
@@ -124,8 +124,8 @@ fn run_read<P: Packs, O: Sink, T: Sink>(
     requires target { IsTarget target }
     requires few { size ≤ 16777216 }
     ensures ends { (source_tells : Bool) → (left : List ℕ) → (source_faults : ℕ) → ReadEnds target size result
-        (outside (λ (_ : Unit {0}). source_tells) (λ _. left) (λ _. source_faults) P.tells P.held P.faults O.tells O.taken O.faults T.tells T.taken T.faults tt packs.old out.old trace.old)
-        (outside (λ (_ : Unit {0}). source_tells) (λ _. left) (λ _. source_faults) P.tells P.held P.faults O.tells O.taken O.faults T.tells T.taken T.faults tt packs.new out.new trace.new) }
+        (outside (λ (_ : Unit {0}). source_tells) (λ _. left) (λ _. source_faults) P.tells P.held P.faults P.failed_at O.tells O.taken O.faults T.tells T.taken T.faults tt packs.old out.old trace.old)
+        (outside (λ (_ : Unit {0}). source_tells) (λ _. left) (λ _. source_faults) P.tells P.held P.faults P.failed_at O.tells O.taken O.faults T.tells T.taken T.faults tt packs.new out.new trace.new) }
     ensures stays { Stays (code_of result) packs.old packs.new out.old out.new trace.old trace.new }
 {
     if is_outside(target.kind, target.part, target.at, size as usize) {
@@ -147,8 +147,8 @@ fn write_from<P: Packs, O: Sink, T: Sink>(
     requires placed { IsPlaced writing }
     ensures ends { (tells tells' : Bool) → (left left' : List ℕ) → (faults faults' : ℕ) → (IsTrue tells' → left ≡ from.now ++ left')
         → (IsTrue tells' → (left' ≡ []) ⊎ (limit_of writing < length from.now)) → WriteEnds writing result
-        (outside (λ (_ : Unit {0}). tells) (λ _. left) (λ _. faults) P.tells P.held P.faults O.tells O.taken O.faults T.tells T.taken T.faults tt packs.old out.old trace.old)
-        (outside (λ (_ : Unit {0}). tells') (λ _. left') (λ _. faults') P.tells P.held P.faults O.tells O.taken O.faults T.tells T.taken T.faults tt packs.new out.new trace.new) }
+        (outside (λ (_ : Unit {0}). tells) (λ _. left) (λ _. faults) P.tells P.held P.faults P.failed_at O.tells O.taken O.faults T.tells T.taken T.faults tt packs.old out.old trace.old)
+        (outside (λ (_ : Unit {0}). tells') (λ _. left') (λ _. faults') P.tells P.held P.faults P.failed_at O.tells O.taken O.faults T.tells T.taken T.faults tt packs.new out.new trace.new) }
     ensures stays { Stays (code_of result) packs.old packs.new out.old out.new trace.old trace.new }
 {
     if is_beyond(writing, from.len()) {
@@ -176,8 +176,8 @@ fn run_write<S: Source, P: Packs, O: Sink, T: Sink>(
 ) -> Result<(), TransferFault>
     requires placed { IsPlaced writing }
     ensures ends { WriteEnds writing result
-        (outside S.tells S.left S.faults P.tells P.held P.faults O.tells O.taken O.faults T.tells T.taken T.faults source.old packs.old out.old trace.old)
-        (outside S.tells S.left S.faults P.tells P.held P.faults O.tells O.taken O.faults T.tells T.taken T.faults source.new packs.new out.new trace.new) }
+        (outside S.tells S.left S.faults P.tells P.held P.faults P.failed_at O.tells O.taken O.faults T.tells T.taken T.faults source.old packs.old out.old trace.old)
+        (outside S.tells S.left S.faults P.tells P.held P.faults P.failed_at O.tells O.taken O.faults T.tells T.taken T.faults source.new packs.new out.new trace.new) }
     ensures taken { IsTrue (S.tells source.new) → length (S.left source.old) ≤ length (S.left source.new) + limit_of writing + 1 }
     ensures stays { Stays (code_of result) packs.old packs.new out.old out.new trace.old trace.new }
 {
@@ -201,12 +201,12 @@ pub fn run_transfer<S: Source, P: Packs, O: Sink, T: Sink>(
 ) -> Result<(), TransferFault>
     requires { IsInRange transfer }
     ensures ends { Ends transfer result
-        (outside S.tells S.left S.faults P.tells P.held P.faults O.tells O.taken O.faults T.tells T.taken T.faults source.old packs.old out.old trace.old)
-        (outside S.tells S.left S.faults P.tells P.held P.faults O.tells O.taken O.faults T.tells T.taken T.faults source.new packs.new out.new trace.new) }
+        (outside S.tells S.left S.faults P.tells P.held P.faults P.failed_at O.tells O.taken O.faults T.tells T.taken T.faults source.old packs.old out.old trace.old)
+        (outside S.tells S.left S.faults P.tells P.held P.faults P.failed_at O.tells O.taken O.faults T.tells T.taken T.faults source.new packs.new out.new trace.new) }
     ensures statuses { IsTransferCode transfer (code_of result) }
     ensures causes { HasItsCause (code_of result)
-        (outside S.tells S.left S.faults P.tells P.held P.faults O.tells O.taken O.faults T.tells T.taken T.faults source.old packs.old out.old trace.old)
-        (outside S.tells S.left S.faults P.tells P.held P.faults O.tells O.taken O.faults T.tells T.taken T.faults source.new packs.new out.new trace.new) }
+        (outside S.tells S.left S.faults P.tells P.held P.faults P.failed_at O.tells O.taken O.faults T.tells T.taken T.faults source.old packs.old out.old trace.old)
+        (outside S.tells S.left S.faults P.tells P.held P.faults P.failed_at O.tells O.taken O.faults T.tells T.taken T.faults source.new packs.new out.new trace.new) }
     ensures stays { Stays (code_of result) packs.old packs.new out.old out.new trace.old trace.new }
     ensures unread { reads_source transfer ≡ false → source.new ≡ source.old }
 {

@@ -36,7 +36,7 @@ pub(crate) fn read_unit<P: Packs, T: Sink>(
 ) -> Result<(), TransferFault>
     requires target { IsTarget target }
     requires inside { target.at + length into.old ≤ 512 * size_of target.kind target.part }
-    ensures { ReadsUnit P.tells P.held P.faults T.tells T.taken T.faults target into.old into.new packs.old packs.new trace.old trace.new (fault_in result) }
+    ensures { ReadsUnit P.tells P.held P.faults P.failed_at T.tells T.taken T.faults target into.old into.new packs.old packs.new trace.old trace.new (fault_in result) }
 {
     let mut subsystem = attached(alloc, target.unit, target.kind, packs)?;
     let answer = raw_read(
@@ -62,7 +62,7 @@ fn write_unit<P: Packs, T: Sink>(
 ) -> Result<(), TransferFault>
     requires target { IsTarget target }
     requires inside { target.at + length from.now ≤ 512 * size_of target.kind target.part }
-    ensures { WritesUnit P.tells P.held P.faults T.tells T.taken T.faults target from.now packs.old packs.new trace.old trace.new (fault_in result) }
+    ensures { WritesUnit P.tells P.held P.faults P.failed_at T.tells T.taken T.faults target from.now packs.old packs.new trace.old trace.new (fault_in result) }
 {
     let mut subsystem = attached(alloc, target.unit, target.kind, packs)?;
     let answer = raw_write(
@@ -89,7 +89,7 @@ fn dump_unit<P: Packs, T: Sink>(
 ) -> Result<(), TransferFault>
     requires unit { unit < 32 }
     requires few { length memory.now ≤ 8388608 }
-    ensures { WritesUnit P.tells P.held P.faults T.tells T.taken T.faults (record { unit = unit; kind = kind; part = B; at = dump_place kind (length memory.now) })
+    ensures { WritesUnit P.tells P.held P.faults P.failed_at T.tells T.taken T.faults (record { unit = unit; kind = kind; part = B; at = dump_place kind (length memory.now) })
         (dumped memory.now) packs.old packs.new trace.old trace.new (fault_in result) }
 {
     let mut subsystem = attached(alloc, unit, kind, packs)?;
@@ -108,7 +108,7 @@ pub(crate) fn put<P: Packs, T: Sink>(
 ) -> Result<(), TransferFault>
     requires placed { IsPlaced writing }
     requires inside { ¬ (IsBeyond writing (length from.now)) }
-    ensures { WritesUnit P.tells P.held P.faults T.tells T.taken T.faults (target_for writing from.now) (bytes_for writing from.now)
+    ensures { WritesUnit P.tells P.held P.faults P.failed_at T.tells T.taken T.faults (target_for writing from.now) (bytes_for writing from.now)
         packs.old packs.new trace.old trace.new (fault_in result) }
 {
     match writing {

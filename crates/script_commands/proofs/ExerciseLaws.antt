@@ -1,5 +1,6 @@
 -- What an exercise comes to.
 use Rattle.std.proofs.Common.{◌≡◌, ℕ, suc, ◌+◌, ◌-◌, ◌^◌, ◌<◌, Bool, false, List, [], ◌∷◌, map, min, length, All, Option, sym, ap, subst, arith, ◌∙◌}
+use Rattle.outside_traits.specs.declared.traits.PackCall.{PackCall}
 use Rattle.pack_geometry.specs.Pack.{Pack}
 use Rattle.pack_geometry.specs.TableSpelling.{Table}
 use Rattle.script_lines.specs.declared.statement.Statement.TheVariants as says
@@ -109,12 +110,12 @@ exercised_for number script first last tells taken taken' tally same exercise go
       answered = all_counted (exercise_script number) first last tells taken taken' tally good keeps small played;
     }
 
-pub cut_short_for : (number : ℕ) (script : Script) (fault : PlayFault) (first left : ℕ → Pack) (out trace : Took) → script ≡ exercise_script number
-    → IsExercise number → AreEmpty first → fault ≡ faults.Sink → out.tells ≡ false → out.before ≡ [] → out.after ≡ [] → Leaves fault script first left out trace
+pub cut_short_for : (number : ℕ) (script : Script) (fault : PlayFault) (first left : ℕ → Pack) (call : PackCall) (out trace : Took) → script ≡ exercise_script number
+    → IsExercise number → AreEmpty first → fault ≡ faults.Sink → out.tells ≡ false → out.before ≡ [] → out.after ≡ [] → Leaves fault script first left call out trace
     → IsCutShort number trace.tells trace.before trace.after
-cut_short_for number script fault first left out trace same exercise empty sink untold before after leaves =
+cut_short_for number script fault first left call out trace same exercise empty sink untold before after leaves =
     let stops : StopsPlaying faults.Sink (exercise_script number) first left out trace =
-    subst (λ (s : Script). Leaves faults.Sink s first left out trace) same (subst (λ (f : PlayFault). Leaves f script first left out trace) sink leaves) in
+    subst (λ (s : Script). Leaves faults.Sink s first left call out trace) same (subst (λ (f : PlayFault). Leaves f script first left call out trace) sink leaves) in
     record {
       exercise = exercise;
       first = first;

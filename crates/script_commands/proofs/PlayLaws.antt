@@ -2,6 +2,7 @@
 use Rattle.std.proofs.Common.{◌≡◌, inl, inr, ℕ, ◌++◌, List, Bool, IsTrue, Result, Ok, Err, OnOk, OnErr, ap, subst, sym}
 use Rattle.outside_traits.specs.Causes.{HasCause}
 use Rattle.outside_traits.specs.Puts.{TakesFront}
+use Rattle.outside_traits.specs.declared.traits.PackCall.{PackCall}
 use Rattle.pack_geometry.specs.Pack.{Pack}
 use Rattle.script_lines.specs.declared.kinds.ScriptKind.{ScriptKind}
 use Rattle.trace_replay.specs.Script.{Script}
@@ -62,8 +63,9 @@ refusal_is text line other kind another e f is =
     subst (λ (k : ScriptKind). text ≡ refusal_text line k) (sym f) (subst (λ (n : ℕ). text ≡ refusal_text n another) (sym e) is)
 
 -- what a fault leaves
-pub left_by : (fault other : PlayFault) (script : Script) (first left : ℕ → Pack) (out trace : Took) → fault ≡ other → Leaves fault script first left out trace → Leaves other script first left out trace
-left_by fault other script first left out trace e is = subst (λ (f : PlayFault). Leaves f script first left out trace) e is
+pub left_by : (fault other : PlayFault) (script : Script) (first left : ℕ → Pack) (call : PackCall) (out trace : Took) → fault ≡ other
+    → Leaves fault script first left call out trace → Leaves other script first left call out trace
+left_by fault other script first left call out trace e is = subst (λ (f : PlayFault). Leaves f script first left call out trace) e is
 
 -- a fault by its name
 pub err_is : {T E : Type 0} {fault other : E} → fault ≡ other → ◌≡◌ {A = Result T E} (Err fault) (Err other)

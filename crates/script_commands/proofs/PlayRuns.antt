@@ -34,7 +34,7 @@ module _ (old new : Outside) (read : IsRead old new) where
   }
 
   abbrev Stop : PlayFault → Type 0
-  Stop fault = HasStopped fault new.source_tells old.left new.left new.packs_tell old.held new.held (out_took old new) (trace_took old new)
+  Stop fault = HasStopped fault new.source_tells old.left new.left new.packs_tell old.held new.held new.failed_at (out_took old new) (trace_took old new)
 
   pub runs_sink : (s : Stop faults.Sink) → (IsTrue new.packs_tell → (unit n : ℕ) → ¬ (IsTooLong (meaning s.lines s.count) old.held unit n))
       → Rose old.out_faults new.out_faults ⊎ Rose old.trace_faults new.trace_faults → RunsPlay 5 old new

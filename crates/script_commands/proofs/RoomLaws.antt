@@ -4,6 +4,7 @@ use Rattle.std.specs.Prelude.{if◌then◌else◌, ◌==◌}
 use Rattle.std.proofs.lemmas.Grind.{common_steps}
 use Rattle.std.proofs.lemmas.Bool.{eq-eqb}
 use Rattle.std.proofs.lemmas.Bool.Decides.{eqb_tells}
+use Rattle.outside_traits.specs.declared.traits.PackCall.{PackCall}
 use Rattle.pack_geometry.specs.Pack.{Pack, grown, with_window, with_block, with_pack, with_written, written}
 use Rattle.pack_geometry.proofs.PackLaws.{length-grown}
 use Rattle.outside_traits.specs.Causes.{Rose}
@@ -47,8 +48,8 @@ marks_stay held u block bytes unit = by_unit (eqb_tells unit u)
     by_unit (inr other) = ap (λ (t : Bool). (if t then written (held u) block bytes else held unit).marks) other.0
 
 -- So they are left where the packs failed,
-module _ (number : ℕ) (first left : ℕ → Pack) (out trace : Took) (empty : AreEmpty first) where
-  pub store_within : Leaves faults.Store (exercise_script number) first left out trace → IsWithin left
+module _ (number : ℕ) (first left : ℕ → Pack) (call : PackCall) (out trace : Took) (empty : AreEmpty first) where
+  pub store_within : Leaves faults.Store (exercise_script number) first left call out trace → IsWithin left
   store_within (inl unplayed) = subst IsWithin (sym unplayed.packs) (empty_within first empty)
   store_within (inr is) = record {
     beyond = λ unit.
@@ -116,11 +117,11 @@ inside_only (Some (Mark unit block on)) packs left lies within is rose =
     no_mark packs left unit block (if on then 1 else 0) (packs unit).image within is
 
 -- THE PACKS DO NOT FAIL.
-pub never_fails : (number : ℕ) (fault : PlayFault) (script : Script) (first left packs : ℕ → Pack) (out trace : Took)
+pub never_fails : (number : ℕ) (fault : PlayFault) (script : Script) (first left packs : ℕ → Pack) (call : PackCall) (out trace : Took)
     (outside : Option Outside) → fault ≡ faults.Store → script ≡ exercise_script number → AreEmpty first
-    → Leaves fault script first left out trace → IsOutside outside → left ≡ with_outside outside packs → Rose 0 (faults_of outside) → ⊥
-never_fails number fault script first left packs out trace outside store same empty leaves lies is rose =
+    → Leaves fault script first left call out trace → IsOutside outside → left ≡ with_outside outside packs → Rose 0 (faults_of outside) → ⊥
+never_fails number fault script first left packs call out trace outside store same empty leaves lies is rose =
     inside_only outside packs left lies
-    (store_within number first left out trace empty
-    (subst (λ (s : Script). Leaves faults.Store s first left out trace) same
-    (subst (λ (f : PlayFault). Leaves f script first left out trace) store leaves))) is rose
+    (store_within number first left call out trace empty
+    (subst (λ (s : Script). Leaves faults.Store s first left call out trace) same
+    (subst (λ (f : PlayFault). Leaves f script first left call out trace) store leaves))) is rose

@@ -1,5 +1,6 @@
 -- What a run of `play` that is done has done.
 use Rattle.std.specs.Prelude.{◌≡◌, ℕ, List, [], Bool, IsTrue}
+use Rattle.outside_traits.specs.declared.traits.PackCall.{PackCall}
 use Rattle.pack_geometry.specs.Pack.{Pack}
 use Rattle.script_reader.specs.Grammar.{Spells}
 use Rattle.script_lines.specs.Known.{Numbered}
@@ -25,12 +26,12 @@ pub record Headline (source_tells : Bool) (left left_after : List ℕ) (tells : 
   pub keeps : (told : IsTrue tells) → Promises (meaning lines count) (plays told).tables old new (plays told).moments
   pub fits : IsTrue tells → (unit n : ℕ) → ¬ (IsTooLong (meaning lines count) old unit n)
 
--- WHERE IT STOPPED as a sink or the packs failed. Where the source tells, it was read to its end, and its bytes spell these lines; where the
--- packs tell, the lines were played so far, this is what is left, and of the moments so far all is promised that can be.
-pub record HasStopped (fault : PlayFault) (source_tells : Bool) (left left_after : List ℕ) (tells : Bool) (old new : ℕ → Pack) (out trace : Took) : Type 0 where
+-- WHERE IT STOPPED as a sink or the packs failed, these at `call` if at all. Where the source tells, it was read to its end, and its bytes spell
+-- these lines; where the packs tell, the lines were played so far, this is what is left, and of the moments so far all is promised that can be.
+pub record HasStopped (fault : PlayFault) (source_tells : Bool) (left left_after : List ℕ) (tells : Bool) (old new : ℕ → Pack) (call : PackCall) (out trace : Took) : Type 0 where
   pub lines : List Numbered
   pub count : ℕ
   pub read : IsTrue source_tells → left_after ≡ []
   pub spelled : IsTrue source_tells → Spells all_verbs left lines count
-  pub leaves : IsTrue tells → Leaves fault (meaning lines count) old new out trace
+  pub leaves : IsTrue tells → Leaves fault (meaning lines count) old new call out trace
   pub keeps : IsTrue tells → Keeps fault (meaning lines count) old new out trace

@@ -22,6 +22,6 @@ pub record RunsPlay (code : ℕ) (old new : Outside) : Type 0 where
       → IsThatRun lines count old.held new.held new.out_tells old.said new.said new.trace_tells old.taken new.taken
   -- what stands after a stop
   pub stopped : code ≡ status_code SinkFailed
-      → HasStopped faults.Sink new.source_tells old.left new.left new.packs_tell old.held new.held (out_took old new) (trace_took old new)
+      → HasStopped faults.Sink new.source_tells old.left new.left new.packs_tell old.held new.held new.failed_at (out_took old new) (trace_took old new)
   pub stopped_packs : code ≡ status_code PacksFailed
-      → HasStopped faults.Store new.source_tells old.left new.left new.packs_tell old.held new.held (out_took old new) (trace_took old new)
+      → HasStopped faults.Store new.source_tells old.left new.left new.packs_tell old.held new.held new.failed_at (out_took old new) (trace_took old new)

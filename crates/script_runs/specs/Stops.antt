@@ -11,6 +11,8 @@ use Rattle.trace_replay.specs.Text.{trace_text}
 use Rattle.driver_laws.specs.shown.NextBlock.{IsTorn}
 use Rattle.driver_laws.specs.shown.Reach.{AskBelow, TablesBelow, StayFrom}
 use Rattle.trace_lines.specs.answers.AnswerText.{out_text}
+use Rattle.outside_traits.specs.declared.traits.PackCall.{PackCall}
+use Rattle.script_runs.specs.Attaching.{AttachesOne}
 use Rattle.script_runs.specs.Ahead.{IsBetween, WritesAhead, TellsAhead}
 
 -- HOW FAR THE RUN CAME: moments that follow from the start of the script over the packs as they were, and play its first inputs.
@@ -64,7 +66,8 @@ pub record StopsAtStore (script : Script) (tables : ℕ → Option Table) (first
   pub answers : TakesRest out (out_text reached.sent) (out_text (reached.sent ++ reached.late))
 
 -- nothing was played, as the packs failed when a unit was attached
-pub record IsUnplayed (first left : ℕ → Pack) (out trace : Took) : Type 0 where
+pub record IsUnplayed (script : Script) (first left : ℕ → Pack) (call : PackCall) (out trace : Took) : Type 0 where
+  pub attaches : AttachesOne script call
   pub packs : left ≡ first
   pub unsaid : out.after ≡ out.before
   pub untold : trace.after ≡ trace.before

@@ -63,7 +63,7 @@ returns-clause-stopped g c =
     let now : Scene = scene g.P.Packs.tells g.P.Packs.held g.O.Sink.tells g.O.Sink.taken g.O.Sink.faults g.T.Sink.tells g.T.Sink.taken g.T.Sink.faults c.play_lines.new.subsystem.world c.play_lines.new.packs c.play_lines.new.out c.play_lines.new.trace in
     let out : Took = took g.O.Sink.tells g.O.Sink.taken g.O.Sink.faults c.args.out.now c.play_lines.new.out in
     let trace : Took = took g.T.Sink.tells g.T.Sink.taken g.T.Sink.faults c.args.trace.now c.play_lines.new.trace in
-    leaves_as (IsTrue (g.P.Packs.tells c.play_lines.new.packs)) c.play_lines.result c.args.capacity (meaning_of s) old new out trace
+    leaves_as (IsTrue (g.P.Packs.tells c.play_lines.new.packs)) c.play_lines.result c.args.capacity (meaning_of s) old new (g.P.Packs.failed_at c.play_lines.new.packs) out trace
     (on_err_map c.play_lines.result (λ stops t.
     let t' = lines.told.never_again t in
     let read = units.tables t' in

@@ -5,6 +5,8 @@ use Rattle.pack_geometry.specs.Pack.{Pack}
 use Rattle.trace_replay.specs.Script.{Script}
 use Rattle.trace_lines.specs.declared.answers.tally.Tally.{Tally}
 use Rattle.outside_traits.specs.Causes.{Rose}
+use Rattle.outside_traits.specs.declared.traits.PackCall.{PackCall}
+use Rattle.script_runs.specs.Attaching.{AttachesOne}
 use Rattle.script_runs.specs.declared.fault.PlayFault.{PlayFault}
 use Rattle.script_runs.specs.declared.fault.PlayFault.TheVariants as faults
 use Rattle.script_runs.specs.Faults.{IsLongFor, IsPlaying, Rise}
@@ -34,11 +36,12 @@ not_played (Err (faults.TooLong u n)) fault is sinks playing = playing
 not_played (Err faults.Store) fault is sinks playing = playing
 not_played (Err faults.Sink) fault is sinks playing = sinks (sym is)
 
-leaves_unplayed : (fault : PlayFault) (script : Script) (first left : ℕ → Pack) (out trace : Took) → (fault ≡ faults.Sink → ⊥) → left ≡ first
-    → out.after ≡ out.before → trace.after ≡ trace.before → Leaves fault script first left out trace
-leaves_unplayed faults.Store script first left out trace sinks same unsaid untold = inl (record { packs = same; unsaid = unsaid; untold = untold })
-leaves_unplayed faults.Sink script first left out trace sinks same unsaid untold = absurd (sinks refl)
-leaves_unplayed other script first left out trace sinks same unsaid untold = tt
+leaves_unplayed : (fault : PlayFault) (script : Script) (first left : ℕ → Pack) (call : PackCall) (out trace : Took) → (fault ≡ faults.Sink → ⊥)
+    → (fault ≡ faults.Store → AttachesOne script call) → left ≡ first → out.after ≡ out.before → trace.after ≡ trace.before
+    → Leaves fault script first left call out trace
+leaves_unplayed faults.Store script first left call out trace sinks at same unsaid untold = inl (record { attaches = at refl; packs = same; unsaid = unsaid; untold = untold })
+leaves_unplayed faults.Sink script first left call out trace sinks at same unsaid untold = absurd (sinks refl)
+leaves_unplayed other script first left call out trace sinks at same unsaid untold = tt
 
 stays : (n : ℕ) → n ≤ n
 stays n = omega arith
@@ -60,7 +63,7 @@ returns-in_err-units g c =
     record {
       tallied = no_tally _ _ _ is;
       requests = no_tally _ _ _ is;
-      stopped = err_is _ _ _ is (λ t. leaves_unplayed _ (meaning_of c.args.script.now) _ _ _ _ (λ e. units.no_sink (ap Err e)) (units.same t) refl refl);
+      stopped = err_is _ _ _ is (λ t. leaves_unplayed _ (meaning_of c.args.script.now) _ _ _ _ _ (λ e. units.no_sink (ap Err e)) (λ e. units.at (ap Err e)) (units.same t) refl refl);
       fits = λ playing. absurd (not_played _ _ is (λ e. units.no_sink (ap Err e)) playing);
       too_long = err_is _ _ _ is units.too_long;
       told = record { never_again = λ t. units.never_again t; never_again_out = λ t. t; never_again_trace = λ t. t };
@@ -117,7 +120,7 @@ returns g c =
       tallied = tallied_at (IsTrue (g.P.Packs.tells c.play_units.new.packs)) (λ h tally. Tallied script h left out.tells out.before out.after trace.tells trace.before trace.after tally)
           attached first c.play_units.result (λ t. units.same (told.never_again t)) plays.tallied;
       requests = plays.requests;
-      stopped = stopped_at (IsTrue (g.P.Packs.tells c.play_units.new.packs)) (λ h fault. Leaves fault script h left out trace)
+      stopped = stopped_at (IsTrue (g.P.Packs.tells c.play_units.new.packs)) (λ h fault. Leaves fault script h left (g.P.Packs.failed_at c.play_units.new.packs) out trace)
           attached first c.play_units.result (λ t. units.same (told.never_again t)) plays.stopped;
       fits = λ playing t. units.fits (told.never_again t);
       too_long = long_never _ _ _ c.play_units.result plays.too_long;

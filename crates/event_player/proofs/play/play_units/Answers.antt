@@ -106,7 +106,7 @@ returns-clause-stopped g c =
     c.play_lines-played.new.packs c.args.out.now c.play_lines-played.new.out c.send_rest.new.out c.args.trace.now c.play_lines-played.new.trace c.send_rest.new.trace
     c.play_lines-played.new.subsystem c.play_lines-played.new.desk.gather c.play_lines-played.new.desk.tally
     c.send_rest.ensures.never_again c.send_rest.ensures.never_again_trace lines.causes.later_out lines.causes.later_trace
-    fault (meaning_of c.args.script.now) (tables_in (setups_of c.args.units.now)) (g.P.Packs.held c.args.packs.now) (c.requires.tables (lines.played.told.never_again t))
+    fault (meaning_of c.args.script.now) (tables_in (setups_of c.args.units.now)) (g.P.Packs.held c.args.packs.now) (g.P.Packs.failed_at c.play_lines-played.new.packs) (c.requires.tables (lines.played.told.never_again t))
     (play_halts (meaning_of c.args.script.now) c.args.units.now c.args.units.now c.count_requests-requests.result c.count_noises-noises.result c.in_ok-subsystem.subsystem
     (g.P.Packs.held c.args.packs.now) (g.O.Sink.taken c.args.out.now) (g.T.Sink.taken c.args.trace.now) fault old new refl c.requires.set
     refl starts refl said_is taken_is (stops t))

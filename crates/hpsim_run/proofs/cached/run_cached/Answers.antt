@@ -45,7 +45,7 @@ returns-in-Err-Sink-clause-runs g c = cached_sink c.args.capacity _ _ c.in-Ok.en
       lines = c.in-Ok.script;
       read = λ t. c.in-Ok.ensures.end t;
       spelled = λ t. c.in-Ok.ensures.ok t;
-      leaves = λ t. cached_leaves _ _ _ _ _ _ _ _ c.in-Err-Sink.field-0-is (c.in-Err-Sink.ensures.stopped t);
+      leaves = λ t. cached_leaves _ _ _ _ _ _ _ _ _ c.in-Err-Sink.field-0-is (c.in-Err-Sink.ensures.stopped t);
     })
     (c.in-Err-Sink.ensures.fits (cached_plays (Unit {0}) _ c.in-Err-Sink.field-0-is))
     (c.in-Err-Sink.ensures.causes.sink (err_is c.in-Err-Sink.field-0-is))
@@ -56,7 +56,7 @@ returns-in-Err-Store-clause-runs g c = cached_store c.args.capacity _ _ c.in-Ok.
       lines = c.in-Ok.script;
       read = λ t. c.in-Ok.ensures.end t;
       spelled = λ t. c.in-Ok.ensures.ok t;
-      leaves = λ t. cached_leaves _ _ _ _ _ _ _ _ c.in-Err-Store.field-0-is (c.in-Err-Store.ensures.stopped t);
+      leaves = λ t. cached_leaves _ _ _ _ _ _ _ _ _ c.in-Err-Store.field-0-is (c.in-Err-Store.ensures.stopped t);
     })
     (c.in-Err-Store.ensures.causes.store (err_is c.in-Err-Store.field-0-is))
 

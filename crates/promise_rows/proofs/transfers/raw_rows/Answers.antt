@@ -1,4 +1,4 @@
-use Rattle.promise_rows.proofs.Raw.{done_in_blocks, dump_at_the_front, outside_by_one, edge_without_its_bytes, any_trace_at_a_stopped_transfer, raw_lengthens_the_image}
+use Rattle.promise_rows.proofs.Raw.{done_in_blocks, dump_at_the_front, outside_by_one, edge_without_its_bytes, any_trace_at_a_stopped_transfer, lines_dropped_at_a_read, raw_lengthens_the_image}
 use Rattle.promise_rows.proofs.transfers.raw_rows.Goals as goal
 
 pub returns-clause-done_in_blocks : goal.returns-clause-done_in_blocks
@@ -18,3 +18,6 @@ returns-clause-any_trace_at_a_stopped_transfer c = any_trace_at_a_stopped_transf
 
 pub returns-clause-raw_lengthens_the_image : goal.returns-clause-raw_lengthens_the_image
 returns-clause-raw_lengthens_the_image c = raw_lengthens_the_image
+
+pub returns-clause-lines_dropped_at_a_read : goal.returns-clause-lines_dropped_at_a_read
+returns-clause-lines_dropped_at_a_read c = lines_dropped_at_a_read

@@ -1,11 +1,12 @@
-use Rattle.std.proofs.Common.{◌≡◌, Bool, IsTrue, Option, Some, None, Result, Ok, Err, refl, sym, ap, subst, ◌∙◌}
+use Rattle.std.proofs.Common.{◌≡◌, ℕ, Bool, IsTrue, Option, Some, None, Result, Ok, Err, refl, sym, ap, subst, ◌∙◌}
 use Rattle.std.specs.Prelude.{IfOk, IfErr, IfSome, IsErrAnd, IsErrOf}
 use Rattle.pack_geometry.specs.declared.DriveKind.{DriveKind}
 use Rattle.pack_geometry.specs.Pack.{Pack}
 use Rattle.pack_geometry.specs.PackTable.{IsTableOf}
 use Rattle.pack_geometry.specs.TableSpelling.{IsTable, Table}
 use Rattle.driver_machine.specs.Sound.{IsTableFor}
-use Rattle.mba_autoconf.specs.Attach.{Answers, Fits, IsLong}
+use Rattle.outside_traits.specs.declared.traits.PackCall.{PackCall}
+use Rattle.mba_autoconf.specs.Attach.{Answers, Fits, IsAttaching, IsLong}
 use Rattle.mba_autoconf.specs.declared.attaching.AttachFault.{AttachFault}
 use Rattle.mba_autoconf.specs.declared.attaching.AttachFault.TheVariants as attach
 use Rattle.raw_command.specs.Faults.{IsOfAttaching, from_attach}
@@ -45,6 +46,9 @@ of_store : (f : AttachFault) → from_attach f ≡ fault.Store → f ≡ attach.
 of_store (attach.TooLong n) e = cc
 of_store attach.Store e = refl
 
+attaching_as : (unit : ℕ) (call : PackCall) (k kind : DriveKind) → k ≡ kind → IsAttaching k unit call → IsAttaching kind unit call
+attaching_as unit call k kind same is = subst (λ (d : DriveKind). IsAttaching d unit call) same is
+
 never_store : fault.Memory ≡ fault.Store → ⊥
 never_store e = cc
 
@@ -73,6 +77,7 @@ returns-in_err-found g c =
       never_again = h.never_again;
       later = h.later;
       store = λ is. h.store (ap (λ (a : AttachFault). Err a) (of_store f (its_fault _ (from_attach f) fault.Store e is)));
+      at = λ is. attaching_as _ _ _ _ (ap (λ d. d.kind) c.new-drive.ensures) (h.at (ap (λ (a : AttachFault). Err a) (of_store f (its_fault _ (from_attach f) fault.Store e is))));
     }
 
 pub returns-in_err-subsystem : goal.returns-in_err-subsystem
@@ -87,6 +92,7 @@ returns-in_err-subsystem g c =
       never_again = h.never_again;
       later = h.later;
       store = λ is. absurd (never_store (its_fault _ fault.Memory fault.Store e is));
+      at = λ is. absurd (never_store (its_fault _ fault.Memory fault.Store e is));
     }
 
 pub returns : goal.returns
@@ -107,4 +113,5 @@ returns g c =
       never_again = h.never_again;
       later = h.later;
       store = λ is. cc;
+      at = λ is. absurd (cc is);
     }

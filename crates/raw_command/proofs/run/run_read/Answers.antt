@@ -29,8 +29,8 @@ returns g c =
     record {
       ends = λ tells left count.
           subst (λ (size : ℕ). ReadEnds c.args.target size c.read_to.result
-          (outside (λ (_ : Unit {0}). tells) (λ _. left) (λ _. count) g.P.Packs.tells g.P.Packs.held g.P.Packs.faults g.O.Sink.tells g.O.Sink.taken g.O.Sink.faults g.T.Sink.tells g.T.Sink.taken g.T.Sink.faults tt c.args.packs.now c.args.out.now c.args.trace.now)
-          (outside (λ (_ : Unit {0}). tells) (λ _. left) (λ _. count) g.P.Packs.tells g.P.Packs.held g.P.Packs.faults g.O.Sink.tells g.O.Sink.taken g.O.Sink.faults g.T.Sink.tells g.T.Sink.taken g.T.Sink.faults tt c.read_to.new.packs c.read_to.new.out c.read_to.new.trace))
+          (outside (λ (_ : Unit {0}). tells) (λ _. left) (λ _. count) g.P.Packs.tells g.P.Packs.held g.P.Packs.faults g.P.Packs.failed_at g.O.Sink.tells g.O.Sink.taken g.O.Sink.faults g.T.Sink.tells g.T.Sink.taken g.T.Sink.faults tt c.args.packs.now c.args.out.now c.args.trace.now)
+          (outside (λ (_ : Unit {0}). tells) (λ _. left) (λ _. count) g.P.Packs.tells g.P.Packs.held g.P.Packs.faults g.P.Packs.failed_at g.O.Sink.tells g.O.Sink.taken g.O.Sink.faults g.T.Sink.tells g.T.Sink.taken g.T.Sink.faults tt c.read_to.new.packs c.read_to.new.out c.read_to.new.trace))
           long (c.read_to.ensures.ends tells left count);
       stays = c.read_to.ensures.stays;
     }

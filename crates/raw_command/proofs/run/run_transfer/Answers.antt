@@ -10,8 +10,8 @@ pub returns-in-Read : goal.returns-in-Read
 returns-in-Read g c =
     let t = c.in-Read.target in
     let answer = c.run_read.result in
-    let old : Outside = outside g.S.Source.tells g.S.Source.left g.S.Source.faults g.P.Packs.tells g.P.Packs.held g.P.Packs.faults g.O.Sink.tells g.O.Sink.taken g.O.Sink.faults g.T.Sink.tells g.T.Sink.taken g.T.Sink.faults c.args.source.now c.args.packs.now c.args.out.now c.args.trace.now in
-    let new : Outside = outside g.S.Source.tells g.S.Source.left g.S.Source.faults g.P.Packs.tells g.P.Packs.held g.P.Packs.faults g.O.Sink.tells g.O.Sink.taken g.O.Sink.faults g.T.Sink.tells g.T.Sink.taken g.T.Sink.faults c.args.source.now c.run_read.new.packs c.run_read.new.out c.run_read.new.trace in
+    let old : Outside = outside g.S.Source.tells g.S.Source.left g.S.Source.faults g.P.Packs.tells g.P.Packs.held g.P.Packs.faults g.P.Packs.failed_at g.O.Sink.tells g.O.Sink.taken g.O.Sink.faults g.T.Sink.tells g.T.Sink.taken g.T.Sink.faults c.args.source.now c.args.packs.now c.args.out.now c.args.trace.now in
+    let new : Outside = outside g.S.Source.tells g.S.Source.left g.S.Source.faults g.P.Packs.tells g.P.Packs.held g.P.Packs.faults g.P.Packs.failed_at g.O.Sink.tells g.O.Sink.taken g.O.Sink.faults g.T.Sink.tells g.T.Sink.taken g.T.Sink.faults c.args.source.now c.run_read.new.packs c.run_read.new.out c.run_read.new.trace in
     let ends : ReadEnds t c.in-Read.size answer old new = c.run_read.ensures.ends (g.S.Source.tells c.args.source.now) (g.S.Source.left c.args.source.now) (g.S.Source.faults c.args.source.now) in
     record {
       ends = read_is c.args.transfer t c.in-Read.size answer old new c.in-Read.is ends;
@@ -25,8 +25,8 @@ pub returns-in-Write : goal.returns-in-Write
 returns-in-Write g c =
     let w = c.in-Write.writing in
     let answer = c.run_write.result in
-    let old : Outside = outside g.S.Source.tells g.S.Source.left g.S.Source.faults g.P.Packs.tells g.P.Packs.held g.P.Packs.faults g.O.Sink.tells g.O.Sink.taken g.O.Sink.faults g.T.Sink.tells g.T.Sink.taken g.T.Sink.faults c.args.source.now c.args.packs.now c.args.out.now c.args.trace.now in
-    let new : Outside = outside g.S.Source.tells g.S.Source.left g.S.Source.faults g.P.Packs.tells g.P.Packs.held g.P.Packs.faults g.O.Sink.tells g.O.Sink.taken g.O.Sink.faults g.T.Sink.tells g.T.Sink.taken g.T.Sink.faults c.run_write.new.source c.run_write.new.packs c.run_write.new.out c.run_write.new.trace in
+    let old : Outside = outside g.S.Source.tells g.S.Source.left g.S.Source.faults g.P.Packs.tells g.P.Packs.held g.P.Packs.faults g.P.Packs.failed_at g.O.Sink.tells g.O.Sink.taken g.O.Sink.faults g.T.Sink.tells g.T.Sink.taken g.T.Sink.faults c.args.source.now c.args.packs.now c.args.out.now c.args.trace.now in
+    let new : Outside = outside g.S.Source.tells g.S.Source.left g.S.Source.faults g.P.Packs.tells g.P.Packs.held g.P.Packs.faults g.P.Packs.failed_at g.O.Sink.tells g.O.Sink.taken g.O.Sink.faults g.T.Sink.tells g.T.Sink.taken g.T.Sink.faults c.run_write.new.source c.run_write.new.packs c.run_write.new.out c.run_write.new.trace in
     record {
       ends = write_is c.args.transfer w answer old new c.in-Write.is c.run_write.ensures.ends c.run_write.ensures.taken;
       statuses = write_code c.args.transfer w answer c.in-Write.is;

@@ -53,8 +53,8 @@ returns-in-Err-clause-ends g c tells tells' left left' faults faults' all end =
     λ t. subst (λ (u : ℕ). Told (g.O.Sink.taken c.args.out.now) (g.O.Sink.taken c.refuse-in-Err.new.out) (fault_text u f) (g.O.Sink.faults c.args.out.now) (g.O.Sink.faults c.refuse-in-Err.new.out))
     c.unit-in-Err.ensures (r.told t) in
     subst (λ (why : TransferFault). WriteEnds w (Err why)
-    (outside (λ (_ : Unit {0}). tells) (λ _. left) (λ _. faults) g.P.Packs.tells g.P.Packs.held g.P.Packs.faults g.O.Sink.tells g.O.Sink.taken g.O.Sink.faults g.T.Sink.tells g.T.Sink.taken g.T.Sink.faults tt c.args.packs.now c.args.out.now c.args.trace.now)
-    (outside (λ (_ : Unit {0}). tells') (λ _. left') (λ _. faults') g.P.Packs.tells g.P.Packs.held g.P.Packs.faults g.O.Sink.tells g.O.Sink.taken g.O.Sink.faults g.T.Sink.tells g.T.Sink.taken g.T.Sink.faults tt c.put.new.packs c.refuse-in-Err.new.out c.put.new.trace))
+    (outside (λ (_ : Unit {0}). tells) (λ _. left) (λ _. faults) g.P.Packs.tells g.P.Packs.held g.P.Packs.faults g.P.Packs.failed_at g.O.Sink.tells g.O.Sink.taken g.O.Sink.faults g.T.Sink.tells g.T.Sink.taken g.T.Sink.faults tt c.args.packs.now c.args.out.now c.args.trace.now)
+    (outside (λ (_ : Unit {0}). tells') (λ _. left') (λ _. faults') g.P.Packs.tells g.P.Packs.held g.P.Packs.faults g.P.Packs.failed_at g.O.Sink.tells g.O.Sink.taken g.O.Sink.faults g.T.Sink.tells g.T.Sink.taken g.T.Sink.faults tt c.put.new.packs c.refuse-in-Err.new.out c.put.new.trace))
     (sym r.same)
     (write_fault f took
     (record {
@@ -99,8 +99,8 @@ pub returns-then-is_beyond-clause-ends : goal.returns-then-is_beyond-clause-ends
 returns-then-is_beyond-clause-ends g c tells tells' left left' faults faults' all end =
     let w = c.args.writing in
     subst (λ (why : TransferFault). WriteEnds w (Err why)
-    (outside (λ (_ : Unit {0}). tells) (λ _. left) (λ _. faults) g.P.Packs.tells g.P.Packs.held g.P.Packs.faults g.O.Sink.tells g.O.Sink.taken g.O.Sink.faults g.T.Sink.tells g.T.Sink.taken g.T.Sink.faults tt c.args.packs.now c.args.out.now c.args.trace.now)
-    (outside (λ (_ : Unit {0}). tells') (λ _. left') (λ _. faults') g.P.Packs.tells g.P.Packs.held g.P.Packs.faults g.O.Sink.tells g.O.Sink.taken g.O.Sink.faults g.T.Sink.tells g.T.Sink.taken g.T.Sink.faults tt c.args.packs.now c.refuse.new.out c.args.trace.now))
+    (outside (λ (_ : Unit {0}). tells) (λ _. left) (λ _. faults) g.P.Packs.tells g.P.Packs.held g.P.Packs.faults g.P.Packs.failed_at g.O.Sink.tells g.O.Sink.taken g.O.Sink.faults g.T.Sink.tells g.T.Sink.taken g.T.Sink.faults tt c.args.packs.now c.args.out.now c.args.trace.now)
+    (outside (λ (_ : Unit {0}). tells') (λ _. left') (λ _. faults') g.P.Packs.tells g.P.Packs.held g.P.Packs.faults g.P.Packs.failed_at g.O.Sink.tells g.O.Sink.taken g.O.Sink.faults g.T.Sink.tells g.T.Sink.taken g.T.Sink.faults tt c.args.packs.now c.refuse.new.out c.args.trace.now))
     (sym c.refuse.ensures.same) (
       (λ t. beyond_all w _ _ left left' (all t) refl (c.is_beyond.ensures.0 c.if-is_beyond.true)),
       record {

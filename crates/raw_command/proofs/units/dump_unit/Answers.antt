@@ -16,8 +16,8 @@ dump-answer-requires g c = record { may = may c.requires.unit c.in_ok-subsystem.
 pub returns-in_err-subsystem : goal.returns-in_err-subsystem
 returns-in_err-subsystem g c =
     let h = c.in_err-subsystem.ensures in
-    writes_none _ _ _ _ _ _ _ _ _ _ _ _ h.later h.never_again h.same _ _ c.in_err-subsystem.field-0.0 c.from_residual.ensures.1 h.only
-    (λ e. h.store (ap (λ (f : TransferFault). Err f) e)) h.long
+    writes_none _ _ _ _ _ _ _ _ _ _ _ _ _ h.later h.never_again h.same _ _ c.in_err-subsystem.field-0.0 c.from_residual.ensures.1 h.only
+    (λ e. h.store (ap (λ (f : TransferFault). Err f) e)) (λ e. h.at (ap (λ (f : TransferFault). Err f) e)) h.long
 
 pub returns : goal.returns
 returns g c =
@@ -27,7 +27,7 @@ returns g c =
     let old : Stage = site g.P.Packs.tells g.P.Packs.held g.T.Sink.tells g.T.Sink.taken c.in_ok-subsystem.subsystem.world c.attached.new.packs c.args.trace.now in
     let new : Stage = site g.P.Packs.tells g.P.Packs.held g.T.Sink.tells g.T.Sink.taken c.dump-answer.new.subsystem.world c.dump-answer.new.packs c.dump-answer.new.trace in
     let long : length (dumped memory) ≡ 512 * blocks_for (length memory) = length_dumped memory in
-    writes_by _ _ _ _ _ _ _ _ _ _ _ _ h.later h.never_again h.same c.in_ok-subsystem.subsystem c.dump-answer.new.subsystem c.dump-answer.new.packs c.dump-answer.new.trace
+    writes_by _ _ _ _ _ _ _ _ _ _ _ _ _ h.later h.never_again h.same c.in_ok-subsystem.subsystem c.dump-answer.new.subsystem c.dump-answer.new.packs c.dump-answer.new.trace
     c.requires.unit h.attached c.dump-answer.result _ c.handed_on.ensures (λ e. too_many (length memory) c.requires.few (k.outside.0 e)) (dumped memory)
     (λ done e. subst (λ (kind : DriveKind). PutsRange c.args.unit B (dump_place kind (length memory)) done (dumped memory) old new) (kind_made c.requires.unit h.attached)
     (k.puts done (subst (λ (n : ℕ). done_by n c.dump-answer.result ≡ Some done) long e)))

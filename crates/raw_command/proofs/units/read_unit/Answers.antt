@@ -9,14 +9,14 @@ raw_read-answer-requires-clause-may g c = may c.requires.target.unit_is c.in_ok-
 pub returns-in_err-subsystem : goal.returns-in_err-subsystem
 returns-in_err-subsystem g c =
     let h = c.in_err-subsystem.ensures in
-    reads_none _ _ _ _ _ _ _ _ _ _ _ _ h.later h.never_again h.same _ _ c.in_err-subsystem.field-0.0 c.from_residual.ensures.1 h.only
-    (λ e. h.store (ap (λ (f : TransferFault). Err f) e)) h.long
+    reads_none _ _ _ _ _ _ _ _ _ _ _ _ _ h.later h.never_again h.same _ _ c.in_err-subsystem.field-0.0 c.from_residual.ensures.1 h.only
+    (λ e. h.store (ap (λ (f : TransferFault). Err f) e)) (λ e. h.at (ap (λ (f : TransferFault). Err f) e)) h.long
 
 pub returns : goal.returns
 returns g c =
     let h = c.in_ok-subsystem.ensures in
     let k = c.raw_read-answer.ensures in
-    reads_by _ _ _ _ _ _ _ _ _ _ _ _ h.later h.never_again h.same c.in_ok-subsystem.subsystem c.raw_read-answer.new.subsystem c.raw_read-answer.new.packs c.raw_read-answer.new.trace
+    reads_by _ _ _ _ _ _ _ _ _ _ _ _ _ h.later h.never_again h.same c.in_ok-subsystem.subsystem c.raw_read-answer.new.subsystem c.raw_read-answer.new.packs c.raw_read-answer.new.trace
     c.requires.target.unit_is h.attached c.raw_read-answer.result _ c.handed_on.ensures
     (λ e. not_outside c.args.target.part c.args.target.at (length c.args.into.now) c.requires.target.unit_is h.attached c.requires.inside (k.outside.0 e))
     c.args.into.now c.raw_read-answer.new.into k.gives k.unusable k.stops k.breaks k.keeps

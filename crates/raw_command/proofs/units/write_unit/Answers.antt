@@ -9,14 +9,14 @@ raw_write-answer-requires-clause-may g c = may c.requires.target.unit_is c.in_ok
 pub returns-in_err-subsystem : goal.returns-in_err-subsystem
 returns-in_err-subsystem g c =
     let h = c.in_err-subsystem.ensures in
-    writes_none _ _ _ _ _ _ _ _ _ _ _ _ h.later h.never_again h.same _ _ c.in_err-subsystem.field-0.0 c.from_residual.ensures.1 h.only
-    (λ e. h.store (ap (λ (f : TransferFault). Err f) e)) h.long
+    writes_none _ _ _ _ _ _ _ _ _ _ _ _ _ h.later h.never_again h.same _ _ c.in_err-subsystem.field-0.0 c.from_residual.ensures.1 h.only
+    (λ e. h.store (ap (λ (f : TransferFault). Err f) e)) (λ e. h.at (ap (λ (f : TransferFault). Err f) e)) h.long
 
 pub returns : goal.returns
 returns g c =
     let h = c.in_ok-subsystem.ensures in
     let k = c.raw_write-answer.ensures in
-    writes_by _ _ _ _ _ _ _ _ _ _ _ _ h.later h.never_again h.same c.in_ok-subsystem.subsystem c.raw_write-answer.new.subsystem c.raw_write-answer.new.packs c.raw_write-answer.new.trace
+    writes_by _ _ _ _ _ _ _ _ _ _ _ _ _ h.later h.never_again h.same c.in_ok-subsystem.subsystem c.raw_write-answer.new.subsystem c.raw_write-answer.new.packs c.raw_write-answer.new.trace
     c.requires.target.unit_is h.attached c.raw_write-answer.result _ c.handed_on.ensures
     (λ e. not_outside c.args.target.part c.args.target.at (length c.args.from.now) c.requires.target.unit_is h.attached c.requires.inside (k.outside.0 e))
     c.args.from.now k.puts k.unusable k.stops k.breaks k.keeps

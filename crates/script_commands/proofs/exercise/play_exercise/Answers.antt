@@ -26,7 +26,7 @@ unreachable-requires-in-Err-Store g c =
     let same : meaning_of c.in-Ok-read_script.script ≡ exercise_script c.args.number =
     one_meaning c.args.number c.in-Ok-read_script.script (c.spelling_law.ensures c.args.number) read
     (λ bytes ls os k o. c.grammar_law.ensures.one_script all_verbs bytes ls os k o) in
-    never_fails c.args.number c.in-Err-Store.field-0 (meaning_of c.in-Ok-read_script.script) _ _ _ _ _ c.play.new.packs.outside
+    never_fails c.args.number c.in-Err-Store.field-0 (meaning_of c.in-Ok-read_script.script) _ _ _ _ _ _ c.play.new.packs.outside
     c.in-Err-Store.field-0-is same c.in-Ok-new.ensures.empty (c.in-Err-Store.ensures.stopped refl) c.outside_law.ensures refl
     (subst (λ outside. Rose (faults_of outside) (faults_of c.play.new.packs.outside)) c.in-Ok-new.ensures.inside (c.in-Err-Store.ensures.causes.store (ap {B = Result Tally PlayFault} (λ (fault : PlayFault). Err fault) c.in-Err-Store.field-0-is)))
 
@@ -49,6 +49,6 @@ returns-in-Err-Sink-clause-stopped g c = λ sink.
     let same : meaning_of c.in-Ok-read_script.script ≡ exercise_script c.args.number =
     one_meaning c.args.number c.in-Ok-read_script.script (c.spelling_law.ensures c.args.number) read
     (λ bytes ls os k o. c.grammar_law.ensures.one_script all_verbs bytes ls os k o) in
-    cut_short_for c.args.number (meaning_of c.in-Ok-read_script.script) c.in-Err-Sink.field-0 _ _ _ _ same
+    cut_short_for c.args.number (meaning_of c.in-Ok-read_script.script) c.in-Err-Sink.field-0 _ _ _ _ _ same
     (is_exercise c.args.number (c.spelling_law.ensures c.args.number) (c.bounds_law.ensures.short c.args.number)) c.in-Ok-new.ensures.empty c.in-Err-Sink.field-0-is refl refl refl
     (c.in-Err-Sink.ensures.stopped refl)

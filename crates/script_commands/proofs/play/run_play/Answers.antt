@@ -52,7 +52,7 @@ returns-in-Err-Sink-clause-runs g c = runs_sink _ _ c.in-Ok.ensures.taken
       count = c.in-Ok.script.count;
       read = λ t. c.in-Ok.ensures.end t;
       spelled = λ t. c.in-Ok.ensures.ok t;
-      leaves = λ t. left_by _ _ _ _ _ _ _ c.in-Err-Sink.field-0-is (c.in-Err-Sink.ensures.stopped t);
+      leaves = λ t. left_by _ _ _ _ _ _ _ _ c.in-Err-Sink.field-0-is (c.in-Err-Sink.ensures.stopped t);
       keeps = λ t. keeps c.beginnings_law.ensures.begun c.beginnings_law.ensures.next
           faults.Sink _ _ _ _ _ (c.meaning_law.ensures.read c.in-Ok.script.text c.in-Ok.script c.in-Ok.ensures.spells);
     })
@@ -66,7 +66,7 @@ returns-in-Err-Store-clause-runs g c = runs_store _ _ c.in-Ok.ensures.taken
       count = c.in-Ok.script.count;
       read = λ t. c.in-Ok.ensures.end t;
       spelled = λ t. c.in-Ok.ensures.ok t;
-      leaves = λ t. left_by _ _ _ _ _ _ _ c.in-Err-Store.field-0-is (c.in-Err-Store.ensures.stopped t);
+      leaves = λ t. left_by _ _ _ _ _ _ _ _ c.in-Err-Store.field-0-is (c.in-Err-Store.ensures.stopped t);
       keeps = λ t. keeps c.beginnings_law.ensures.begun c.beginnings_law.ensures.next
           faults.Store _ _ _ _ _ (c.meaning_law.ensures.read c.in-Ok.script.text c.in-Ok.script c.in-Ok.ensures.spells);
     })
