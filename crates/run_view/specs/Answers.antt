@@ -7,7 +7,7 @@ use Rattle.pack_geometry.specs.Pack as model
 use Rattle.pack_geometry.specs.TableSpelling.{Table}
 use Rattle.picture_sheet.specs.Words.{outcome_word}
 use Rattle.run_picture.specs.Fold.{request_at}
-use Rattle.trace_replay.specs.requests.Requests.{Answer, ReadOk, WriteOk, OutsidePartition, EndOfPartition, NoFrames, Failed}
+use Rattle.trace_replay.specs.requests.Requests.{Answer, ReadOk, WriteOk, OutsidePartition, EndOfPartition, NoFrames, Failed, Offline, Locked, Unforwarded}
 use Rattle.trace_replay.specs.Moments.{Moment, Told, End}
 use Rattle.trace_replay.specs.Runs.{IsLegalRun}
 use Rattle.drive_pictures.specs.declared.requests.Request.{Request}
@@ -25,9 +25,15 @@ answer_word OutsidePartition = codes "partition"
 answer_word NoFrames = codes "frames"
 answer_word (Failed cause done) = cause_word cause
 
--- an outcome is the answer's word, or `stopped`
+-- an outcome is the answer's word; or it is `stopped`, where the lines do not tell which of three causes it was
+abbrev pub IsStop : Answer → Type 0
+IsStop (Failed Unforwarded done) = Unit {0}
+IsStop (Failed Offline done) = Unit {0}
+IsStop (Failed Locked done) = Unit {0}
+IsStop a = ⊥
+
 abbrev pub IsWordOf : Outcome → Answer → Type 0
-IsWordOf outcome.Stopped a = Unit {0}
+IsWordOf outcome.Stopped a = IsStop a
 IsWordOf o a = outcome_word o ≡ answer_word a
 
 -- A REQUEST WAS ANSWERED SO: it is one of those that the run has, and no other has its id; and it has the line at which it was

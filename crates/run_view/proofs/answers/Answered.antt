@@ -22,7 +22,7 @@ use Rattle.run_view.proofs.answers.OfRuns.{are_answered}
 use Rattle.pack_geometry.specs.Pack as model
 use Rattle.pack_geometry.specs.TableSpelling.{Table}
 use Rattle.run_picture.specs.declared.columns.Window.{Window}
-use Rattle.trace_replay.specs.requests.Requests.{Answer, Request as Wished, WriteOk}
+use Rattle.trace_replay.specs.requests.Requests.{Answer, Request as Wished, ReadOk, WriteOk, OutsidePartition, EndOfPartition, NoFrames, Failed, Offline, Locked, Unforwarded, Fault}
 use Rattle.trace_replay.specs.Moments.{Moment, Told, End, Deed}
 use Rattle.trace_replay.specs.Replay.{after_moments, Replay, LineMay, ToldMay, Follows, after_moment, next_wish, hand_of}
 use Rattle.trace_replay.specs.Runs.{IsLegalRun, start_of}
@@ -102,8 +102,22 @@ end_is k line u id place a b found inside refused event ended word =
     is = get_or-set_same k.requests place (request_after k.event line place deed.End (drive_at k.drives u) (request_at k.requests place)) (new_request 0 0 0 0 false) inside
         ∙ ap (λ (x : Bool). request_end x k.event line (drive_at k.drives u) (request_at k.requests place)) refused
 
+abbrev many : List ℕ → ℕ
+many letters = length letters
+
+no_seven : (n : ℕ) → 7 ≡ n → (7 ≡ n → ⊥) → ⊥
+no_seven n is never = never is
+
 word_is : (o : Outcome) (a : Answer) → outcome_word o ≡ answer_word a → IsWordOf o a
-word_is outcome.Stopped a e = tt
+word_is outcome.Stopped (Failed Unforwarded done) e = tt
+word_is outcome.Stopped (Failed Offline done) e = tt
+word_is outcome.Stopped (Failed Locked done) e = tt
+word_is outcome.Stopped (ReadOk bytes) e = no_seven 2 (ap many e) (λ is. omega (arith, is))
+word_is outcome.Stopped WriteOk e = no_seven 2 (ap many e) (λ is. omega (arith, is))
+word_is outcome.Stopped EndOfPartition e = no_seven 3 (ap many e) (λ is. omega (arith, is))
+word_is outcome.Stopped OutsidePartition e = no_seven 9 (ap many e) (λ is. omega (arith, is))
+word_is outcome.Stopped NoFrames e = no_seven 6 (ap many e) (λ is. omega (arith, is))
+word_is outcome.Stopped (Failed Fault done) e = no_seven 5 (ap many e) (λ is. omega (arith, is))
 word_is o a e = e
 
 answer_in : Deed → Answer

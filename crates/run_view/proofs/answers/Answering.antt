@@ -18,7 +18,7 @@ use Rattle.trace_replay.specs.History.{is_refusal, done_in, Tried, Untried, Trie
 use Rattle.trace_replay.specs.Causes.{IsCutOff, WasTriedOffline, IsOk, IsExplained}
 use Rattle.trace_replay.proofs.Histories.{Open, Goes, WasReached, EndFits, Fits, AreSaid}
 use Rattle.trace_replay.proofs.Kept.{no}
-use Rattle.run_view.specs.Answers.{answer_word, IsWordOf}
+use Rattle.run_view.specs.Answers.{answer_word, IsStop, IsWordOf}
 use Rattle.run_view.proofs.answers.Wanting.{want_in, wrote_in, Began, Waits, Wants}
 use Rattle.run_view.proofs.answers.Hearing.{verdict_in, fails_in, fails_last, failed_last, failed_fails, IsFailure}
 
@@ -127,6 +127,15 @@ only_cause WriteOk c kept never is = absurd (never tt)
 only_cause (Failed cause done) c kept never is = ap cause_word (is cause done refl)
 only_cause other c kept never is = absurd (no (sym kept))
 
+stop_is : (a : Answer) → is_refusal a ≡ false → (IsOk a → ⊥) → ((done : ℕ) → a ≡ Failed Fault done → ⊥) → IsStop a
+stop_is (ReadOk bytes) kept never unfailed = never tt
+stop_is WriteOk kept never unfailed = never tt
+stop_is (Failed Unforwarded done) kept never unfailed = tt
+stop_is (Failed Offline done) kept never unfailed = tt
+stop_is (Failed Locked done) kept never unfailed = tt
+stop_is (Failed Fault done) kept never unfailed = unfailed done refl
+stop_is other kept never unfailed = absurd (no (sym kept))
+
 -- ALL BLOCKS ARE DONE
 whole_done : (w d c : ℕ) → nat_lt 0 w && (d == w) ≡ true → (w ≡ 0) ⊎ (w ≡ c) → d ≡ c
 whole_done w d c e (inl none) = absurd (never w d e none)
@@ -199,7 +208,7 @@ marked_cause u lines a d r k two free Fault done is = absurd ((failure_never (la
 
 marked_word : (u : UnitSeen) (lines : List Deed) (a : Answer) (d : Drive) (r : Request) → Ends u lines a d r → (IsOk a → ⊥) → sort_of (last_tried lines) ≡ 2
     → (b : Bool) → nat_lt d.trial.marks 2 && (d.offline || (r.write && d.locked)) ≡ b → IsWordOf (cond b outcome.Stopped outcome.Unforwarded) a
-marked_word u lines a d r k never two true e = tt
+marked_word u lines a d r k never two true e = stop_is a k.kept never (λ done is. (failure_never (last_tried lines) (fault_fails u lines a d r k done is).0).1 two)
 marked_word u lines a d r k never two false e = at (k.stands.marked two)
   where
     at : (marks_in lines ≡ 1) ⊎ ((done : ℕ) × (a ≡ Failed Unforwarded done)) → cause_word Unforwarded ≡ answer_word a
@@ -242,7 +251,7 @@ plain_word u lines a d r k never tried unmarked false true locked e o l =
     sym (only_cause a Offline k.kept never (offline_cause u lines a d r k unmarked (not_28 d.trial.fails e) o))
 plain_word u lines a d r k never tried unmarked false false true e o l =
     sym (only_cause a Locked k.kept never (locked_cause u lines a d r k tried unmarked (not_28 d.trial.fails e) o))
-plain_word u lines a d r k never tried unmarked false false false e o l = tt
+plain_word u lines a d r k never tried unmarked false false false e o l = stop_is a k.kept never (λ done is. not_28 d.trial.fails e (fault_fails u lines a d r k done is).1)
 
 -- BY THE LAST SECTOR
 tried_word : (u : UnitSeen) (lines : List Deed) (a : Answer) (d : Drive) (r : Request) → Ends u lines a d r → (IsOk a → ⊥) → (t : Tried) → last_tried lines ≡ t
