@@ -2,21 +2,20 @@
 use Rattle.std.proofs.Common.{◌≡◌, ℕ, ◌+◌, ◌-◌, ◌^◌, ◌<◌, ◌≤◌, ◌==◌, nat_le, nat_lt, min, Bool, true, false, not, ◌&&◌, ◌||◌, if◌then◌else◌, List, [], ◌∷◌, ◌++◌, length, refl, sym, ap, ◌∙◌, arith}
 use Rattle.std.proofs.lemmas.Bool.{false≢true, ne_eqb}
 use Rattle.std.proofs.lemmas.Bool.Decides.{nat_tests}
-use Rattle.std.proofs.lemmas.Fmt.{decimal_injective}
-use Rattle.std.proofs.lemmas.List.{append_cancel_left, take_at}
+use Rattle.std.proofs.lemmas.List.{take_at}
 use Rattle.std.proofs.lemmas.List.Sums.{sum_by-append}
 use Rattle.drive_pictures.specs.declared.drives.Drive.{Drive}
 use Rattle.drive_pictures.specs.declared.letters.Letter.{Letter}
 use Rattle.run_picture.specs.Columns.{together}
 use Rattle.run_picture.specs.Positioning.{positioning, positions}
-use Rattle.picture_markup.specs.declared.pieces.Element.{Element}
-use Rattle.picture_markup.specs.declared.pieces.Element.TheVariants.{Group, Title}
-use Rattle.picture_markup.specs.Nesting.{Drawn, is_same, started, ended, ended_in}
 use Rattle.picture_sheet.specs.Letters.{count_of, oftener}
 use Rattle.picture_sheet.specs.Requests.{is_shown}
-use Rattle.picture_scene.specs.declared.scene.Stretch.{Stretch}
-use Rattle.picture_scene.specs.Stretches.{stretches_of}
-use Rattle.picture_rows.specs.Outcomes.{ColumnDropsAnEvent, IdleEventLeftOut, AmpersandAsItIs, CoordinateOf20000, WindowFromTheFirstEvent, LeadOfEqualsTheFirst, AllAdaptersTakenTogether, RequestBehindTheWindowShown, LineOfAnotherDrive, StretchEndedAtItsFirstColumn, GroupEndedAroundAnArm, TooltipEndedTwice}
+use Rattle.picture_svg.specs.declared.pieces.Element.{Element}
+use Rattle.picture_svg.specs.declared.pieces.Element.TheVariants.{Group, Title}
+use Rattle.picture_svg.specs.declared.pieces.Point.{Point}
+use Rattle.picture_svg.specs.Nesting.{Drawn, is_same, started, ended, ended_in}
+use Rattle.picture_svg.specs.Places.{is_low}
+use Rattle.picture_rows.specs.Outcomes.{ColumnDropsAnEvent, IdleEventLeftOut, AmpersandAsItIs, CoordinateOf20000, WindowFromTheFirstEvent, LeadOfEqualsTheFirst, AllAdaptersTakenTogether, RequestBehindTheWindowShown, LineOfAnotherDrive, GroupEndedAroundAnArm, TooltipEndedTwice}
 
 one_more : (n : ℕ) → n < 2 ^ 64 - 1 → min (n + 1) (2 ^ 64 - 1) ≡ n → ⊥
 one_more n less is = omega (arith, less, is)
@@ -34,10 +33,11 @@ ampersand_as_it_is is = longer is
     longer is = cc is
 
 pub coordinate_of_20000 : CoordinateOf20000
-coordinate_of_20000 text n far is = nearer n far (decimal_injective (min n 20000) (min n 19999) (omega arith) (omega arith) (append_cancel_left text _ _ is))
+unfolding is_low
+coordinate_of_20000 p far is = false≢true (sym (ap (λ b. b && nat_lt p.y 20000) (not_below p.x far)) ∙ is)
   where
-    nearer : (n : ℕ) → 20000 ≤ n → min n 20000 ≡ min n 19999 → ⊥
-    nearer n far is = omega (arith, far, is)
+    not_below : (x : ℕ) → x ≡ 20000 → nat_lt x 20000 ≡ false
+    not_below x far = grind (arith, nat_tests)
 
 pub window_from_the_first_event : WindowFromTheFirstEvent
 window_from_the_first_event events first last some behind end is = least first last events behind end some is
@@ -90,17 +90,6 @@ none_told false text elsewhere is = absurd (cc is)
 
 pub line_of_another_drive : LineOfAnotherDrive
 line_of_another_drive unit note differs is = none_told (note.unit == unit) note.text.now (ne_eqb note.unit unit differs) is
-
-pub stretch_ended_at_its_first_column : StretchEndedAtItsFirstColumn
-unfolding stretches_of
-stretch_ended_at_its_first_column is = other_end (ap end_of is) refl refl
-  where
-    end_of : List Stretch → ℕ
-    end_of [] = 0
-    end_of (s ∷ stretches) = s.to
-
-    other_end : {a b : ℕ} → a ≡ b → a ≡ 2 → b ≡ 0 → ⊥
-    other_end is two none = omega (arith, is, two, none)
 
 pub group_ended_around_an_arm : GroupEndedAroundAnArm
 group_ended_around_an_arm e d is = omega (arith, shorter)

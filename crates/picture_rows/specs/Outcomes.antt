@@ -1,5 +1,5 @@
 -- What wrong bodies would draw, refused by the words of columns, windows, letters, requests and texts.
-use Rattle.std.specs.Prelude.{◌≡◌, ℕ, ◌-◌, ◌^◌, ◌<◌, ◌≤◌, min, Bool, true, false, List, [], ◌∷◌, ◌++◌, length, decimal}
+use Rattle.std.specs.Prelude.{◌≡◌, ℕ, ◌-◌, ◌^◌, ◌<◌, ◌≤◌, Bool, true, false, List, [], ◌∷◌, ◌++◌, length}
 use Rattle.drive_pictures.specs.declared.cells.Tally.{Tally}
 use Rattle.drive_pictures.specs.declared.drives.Drive.{Drive}
 use Rattle.drive_pictures.specs.declared.letters.Letter.{Letter}
@@ -7,16 +7,17 @@ use Rattle.drive_pictures.specs.declared.requests.Request.{Request}
 use Rattle.run_picture.specs.declared.columns.Head.{Head}
 use Rattle.run_picture.specs.Columns.{headed, together, window_of}
 use Rattle.run_picture.specs.Positioning.{positioning, positions}
-use Rattle.picture_markup.specs.declared.pieces.Element.{Element}
-use Rattle.picture_markup.specs.declared.pieces.Element.TheVariants.{Group, Title}
-use Rattle.picture_markup.specs.Elements.{escaped, with_place}
-use Rattle.picture_markup.specs.Nesting.{Drawn, started, ended}
 use Rattle.picture_sheet.specs.declared.sheet.Note.{Note}
 use Rattle.picture_sheet.specs.declared.sheet.Sheet.{Sheet}
 use Rattle.picture_sheet.specs.Letters.{count_of, oftener}
 use Rattle.picture_sheet.specs.Notes.{lines_of}
 use Rattle.picture_sheet.specs.Requests.{is_shown}
-use Rattle.picture_scene.specs.Stretches.{stretches_of}
+use Rattle.picture_svg.specs.declared.pieces.Element.{Element}
+use Rattle.picture_svg.specs.declared.pieces.Element.TheVariants.{Group, Title}
+use Rattle.picture_svg.specs.declared.pieces.Point.{Point}
+use Rattle.picture_svg.specs.Nesting.{Drawn, started, ended}
+use Rattle.picture_svg.specs.Places.{is_low}
+use Rattle.picture_svg.specs.Texts.{escaped}
 
 -- a column has one event, another one comes, and it has one
 abbrev pub ColumnDropsAnEvent : Type 0
@@ -30,9 +31,9 @@ IdleEventLeftOut = (line : ℕ) (drives : List Drive) (head : Head) → head.eve
 abbrev pub AmpersandAsItIs : Type 0
 AmpersandAsItIs = ¬ (escaped 38 ≡ 38 ∷ [])
 
--- a coordinate of 20,000 or more is written as 20,000
+-- a point stands 20,000 to the right, and is taken for one of the drawing
 abbrev pub CoordinateOf20000 : Type 0
-CoordinateOf20000 = (text : List ℕ) (n : ℕ) → 20000 ≤ n → ¬ (text ++ decimal (min n 20000) ≡ with_place n text)
+CoordinateOf20000 = (p : Point) → p.x ≡ 20000 → ¬ (is_low p ≡ true)
 
 -- a window begins at the first event, though another was given
 abbrev pub WindowFromTheFirstEvent : Type 0
@@ -55,10 +56,6 @@ RequestBehindTheWindowShown = (sheet : Sheet) (r : Request) → r.asked ≡ shee
 -- a line that names another drive is told of a drive
 abbrev pub LineOfAnotherDrive : Type 0
 LineOfAnotherDrive = (unit : ℕ) (note : Note) → ¬ (note.unit ≡ unit) → ¬ (lines_of unit (note ∷ []) ≡ note.text.now ∷ [])
-
--- two columns are alike, and their stretch ends where it begins
-abbrev pub StretchEndedAtItsFirstColumn : Type 0
-StretchEndedAtItsFirstColumn = ¬ (stretches_of (5 ∷ 5 ∷ []) ≡ record { from = 0; to = 0 } ∷ [])
 
 -- a group ends that did not begin, within any element
 abbrev pub GroupEndedAroundAnArm : Type 0

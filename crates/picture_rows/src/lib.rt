@@ -3,9 +3,9 @@
 //! Laws state outcomes that a wrong program could produce, and prove that the contracts rule them out.
 #![tactic(auto)]
 
-ghost use Rattle.picture_rows.specs.Outcomes.{ColumnDropsAnEvent, IdleEventLeftOut, AmpersandAsItIs, CoordinateOf20000, WindowFromTheFirstEvent, LeadOfEqualsTheFirst, AllAdaptersTakenTogether, RequestBehindTheWindowShown, LineOfAnotherDrive, StretchEndedAtItsFirstColumn, GroupEndedAroundAnArm, TooltipEndedTwice};
+ghost use Rattle.picture_rows.specs.Outcomes.{ColumnDropsAnEvent, IdleEventLeftOut, AmpersandAsItIs, CoordinateOf20000, WindowFromTheFirstEvent, LeadOfEqualsTheFirst, AllAdaptersTakenTogether, RequestBehindTheWindowShown, LineOfAnotherDrive, GroupEndedAroundAnArm, TooltipEndedTwice};
 ghost use Rattle.picture_rows.specs.Nested.{GroupLeftOpen, LettersLeftOpen, ScriptLineLeftOpen, MarksOfAnotherUnit, LinesDropped, DriveDrawnTwice};
-ghost use Rattle.picture_rows.specs.Shown.{PositioningAtAnotherAdapter, ArmOfAnotherUnit, EventsFromZero, BarOfAnotherUnit, PanelDropsAColumn, RowOfAnotherUnit};
+ghost use Rattle.picture_rows.specs.Shown.{PanelDropsAColumn, RowOfAnotherUnit};
 ghost use Rattle.picture_rows.specs.Runs.{LastPlayNotSeen, PlayedBehindItsLines, LineInAColumnLate, TryCountedTwice, WindowOneEventEarly, NoMemoryTakenForUsage, SecondFaultRefused};
 ghost use Rattle.picture_rows.specs.Planned.{RequestLeftOut, ColumnLeftOut, SliceOfAnotherUnit, CaptionOfAnotherRun, ScaleTurnedRound, LegendWithoutALetter};
 
@@ -31,7 +31,6 @@ pub fn picture_law()
     ensures all_adapters_taken_together { AllAdaptersTakenTogether }
     ensures request_behind_the_window_shown { RequestBehindTheWindowShown }
     ensures line_of_another_drive { LineOfAnotherDrive }
-    ensures stretch_ended_at_its_first_column { StretchEndedAtItsFirstColumn }
     ensures group_ended_around_an_arm { GroupEndedAroundAnArm }
     ensures tooltip_ended_twice { TooltipEndedTwice }
 {}
@@ -46,12 +45,8 @@ pub fn nested_law()
     ensures drive_drawn_twice { DriveDrawnTwice }
 {}
 
-/// Refused outcomes of how columns are shown: by adapters, drives, axes and charts.
+/// Refused outcomes of how columns are shown in charts.
 pub fn shown_law()
-    ensures positioning_at_another_adapter { PositioningAtAnotherAdapter }
-    ensures arm_of_another_unit { ArmOfAnotherUnit }
-    ensures events_from_zero { EventsFromZero }
-    ensures bar_of_another_unit { BarOfAnotherUnit }
     ensures panel_drops_a_column { PanelDropsAColumn }
     ensures row_of_another_unit { RowOfAnotherUnit }
 {}

@@ -1,2 +1,3 @@
-mod Lanes
 mod Once
+mod Telling
+mod Whole

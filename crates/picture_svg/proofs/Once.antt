@@ -10,8 +10,7 @@ use Rattle.picture_sheet.specs.declared.sheet.Note.{Note}
 use Rattle.picture_sheet.specs.declared.sheet.Sheet.{Sheet}
 use Rattle.picture_sheet.specs.Notes.{lines_of}
 use Rattle.picture_sheet.specs.Units.{is_drawn, unit_drawn, units_below, units_shown}
-use Rattle.picture_scene.specs.Lines.{lines_of_units}
-use Rattle.picture_svg.specs.Pictures.{names_drawn, text_of, lines_seen}
+use Rattle.picture_svg.specs.Pictures.{lines_of_units, names_drawn, text_of, lines_seen}
 
 one : Bool → ℕ
 one b = cond b 1 0

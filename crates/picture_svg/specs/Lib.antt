@@ -1,3 +1,5 @@
-pub mod Drawings
+pub mod Legend
+pub mod Nesting
 pub mod Pictures
-pub mod Tables
+pub mod Places
+pub mod Texts

@@ -1,19 +1,17 @@
 //! The whole picture.
 
-ghost use Rattle.std.specs.Prelude.{◌≡◌, fold, IfOk, OnOk};
-ghost use Rattle.picture_markup.specs.Nesting.{told};
-ghost use Rattle.picture_scene.specs.Lines.{lines_of_lane, lines_of_lanes};
-ghost use Rattle.picture_svg.specs.Drawings.{caption_of, with_names, with_fixed_line, with_fixed, with_head, is_first, top_of, below, bottom_of, with_first, with_drive, with_drives, height_in, with_drawing};
-ghost use Rattle.picture_svg.specs.Pictures.{IsPicture};
+ghost use Rattle.std.specs.Prelude.{◌≡◌, ◌≤◌, ◌+◌, ◌*◌, fold, length, IfOk, OnOk};
+ghost use Rattle.picture_svg.specs.Nesting.{captioned, told};
+ghost use Rattle.picture_svg.specs.Pictures.{caption_of, lines_of_lane, lines_of_lanes, with_all, IsPicture};
 
-use crate::fixed::FIXED;
+use crate::lane::{draw_adapter, draw_lane};
+use crate::legend::draw_legend;
+use crate::markup::Markup;
+use crate::pieces::{Element, Piece, Start, at, extent};
+use crate::scene::{Frame, Lane, Scene, lanes_of};
+use crate::script::{draw_events, draw_script};
 use crate::table::draw_table;
-use picture_axes::{draw_adapter, draw_events, draw_lines};
-use picture_lanes::draw_unit;
-use picture_markup::{Element, Markup, Piece, Point, Start};
-use picture_scene::{
-    Frame, Lane, Scene, add, at, front, lanes_of, put_sentences, small, text_sentences, times,
-};
+use crate::tips::{front, put_sentences, text_sentences};
 use picture_sheet::{Sentence, Sheet, Shown, sentences};
 use std::alloc::{AllocError, Global};
 
@@ -33,55 +31,61 @@ fn caption_of<'a>(sheet: &Sheet<'a>) -> &'a [u8]
     front(sheet.title(), CAPTION)
 }
 
-/// Where the next drive stands: the adapter of the drive before it, if there is one, and how far below the top it stands.
+/// Where the next drive stands, and the adapter of the drive before it, if there is one.
 #[derive(Clone, Copy)]
 struct Place {
     adapter: Option<u8>,
     y: u32,
 }
 
-/// Whether a drive stands on another adapter than the drive before it.
-fn is_first(place: Place, lane: &Lane) -> bool
-    ensures { result ≡ is_first place lane.now }
-{
-    match place.adapter {
-        Some(adapter) => adapter != lane.unit / 8,
-        None => true,
+impl Place {
+    /// Whether a drive stands on another adapter than the drive before it.
+    fn is_first(&self, lane: &Lane) -> bool {
+        match self.adapter {
+            Some(adapter) => adapter != lane.unit / 8,
+            None => true,
+        }
+    }
+
+    /// Where a drive stands: below its adapter, if it is the first one of that adapter.
+    fn top(&self, lane: &Lane) -> u32
+        requires { self.now.y ≤ 18000 }
+        ensures { result ≤ self.now.y + 50 }
+    {
+        if self.is_first(lane) {
+            self.y + ADAPTER
+        } else {
+            self.y
+        }
+    }
+
+    /// Where the drive after a drive stands.
+    fn below(&self, lane: &Lane) -> Place
+        requires { self.now.y ≤ 18000 }
+        ensures { result.y ≤ self.now.y + 401 }
+    {
+        let height = (96 + u32::from(lane.chart)).max(112);
+        Place {
+            adapter: Some(lane.unit / 8),
+            y: self.top(lane) + height,
+        }
     }
 }
 
-/// Where a drive stands: below its adapter, if it is the first one of that adapter.
-fn top_of(place: Place, lane: &Lane) -> u32
-    ensures { result ≡ top_of place lane.now }
-{
-    if is_first(place, lane) {
-        add(place.y, ADAPTER)
-    } else {
-        place.y
-    }
-}
+/// Where the first drive stands.
+const FIRST: Place = Place {
+    adapter: None,
+    y: TOP,
+};
 
-/// Where the next drive stands.
-#[tactic(auto, unfolding(crate::specs::Drawings::below))]
-fn below(place: Place, lane: &Lane) -> Place
-    ensures { result ≡ below place lane.now }
-{
-    Place {
-        adapter: Some(lane.unit / 8),
-        y: add(top_of(place, lane), lane.height()),
-    }
-}
-
-/// Where the adapters end.
+/// Where the drives end.
 fn bottom_of(lanes: &[Lane]) -> u32
-    ensures { result ≡ bottom_of lanes.now }
+    requires { length lanes.now ≤ 32 }
+    ensures { result ≤ 13118 }
 {
-    let mut place = Place {
-        adapter: None,
-        y: TOP,
-    };
+    let mut place = FIRST;
     for lane in lanes.iter() {
-        place = below(place, lane);
+        place = place.below(lane);
     }
     place.y
 }
@@ -92,86 +96,46 @@ fn draw_names<'a>(
     sheet: &Sheet<'a>,
     sentences: &[Sentence; 4],
 ) -> Result<(), AllocError>
-    ensures stands { OnOk result (out.new.stands ≡ out.old.stands) }
-    ensures text { OnOk result (out.new.text ≡ with_names sheet.now sentences.now out.old.text) }
+    ensures { OnOk result (out.new ≡ captioned (caption_of sheet.now) out.old) }
 {
     let [first, second, third, fourth] = *sentences;
     let caption = caption_of(sheet);
     out.put_all(&[
         Piece::Start(Start::Caption),
-        Piece::Said(caption),
+        Piece::Caption(caption),
         Piece::End(Element::Title),
         Piece::Start(Start::Desc),
     ])?;
     put_sentences(out, first, second)?;
-    out.word(" ")?;
+    out.put(Piece::Word(" "))?;
     put_sentences(out, third, fourth)?;
     out.end(Element::Desc)
 }
 
-/// Lines that are the same in each picture.
-fn draw_lines_of(out: &mut Markup<'_>, lines: &[&'static str]) -> Result<(), AllocError>
-    ensures stands { OnOk result (out.new.stands ≡ out.old.stands) }
-    ensures text { OnOk result (out.new.text ≡ fold with_fixed_line out.old.text lines.now) }
-{
-    for line in lines.iter() {
-        out.fixed(line)?;
-    }
-    Ok(())
-}
-
-/// Style, patterns and legend.
-#[tactic(auto, unfolding(crate::specs::Drawings::with_fixed))]
-fn draw_fixed(out: &mut Markup<'_>) -> Result<(), AllocError>
-    ensures stands { OnOk result (out.new.stands ≡ out.old.stands) }
-    ensures text { OnOk result (out.new.text ≡ with_fixed out.old.text) }
-{
-    draw_lines_of(out, &FIXED)
-}
-
 /// What stands above the columns.
-#[tactic(auto, unfolding(picture_markup::specs::Elements::with_start, picture_markup::specs::Elements::with_opened))]
 fn draw_head<'a>(
     out: &mut Markup<'a>,
     sheet: &Sheet<'a>,
     sentences: &[Sentence; 4],
 ) -> Result<(), AllocError>
-    ensures stands { OnOk result (out.new.stands ≡ out.old.stands) }
-    ensures text { OnOk result (out.new.text ≡ with_head sheet.now sentences.now out.old.text) }
+    ensures { OnOk result (out.new ≡ captioned (caption_of sheet.now) out.old) }
 {
     let [first, second, third, fourth] = *sentences;
-    let Point { x, y } = at(16, 28);
-    let class = "h";
+    let place = at(16, 28);
     let caption = caption_of(sheet);
     out.put_all(&[
-        Piece::Start(Start::Text { class, x, y }),
-        Piece::Said(caption),
+        Piece::Start(Start::Text {
+            class: "h",
+            at: place,
+        }),
+        Piece::Caption(caption),
         Piece::End(Element::Text),
     ])?;
     text_sentences(out, 48, first, second)?;
     text_sentences(out, 64, third, fourth)
 }
 
-/// The adapter of a drive, if the drive is the first one of that adapter.
-fn draw_first(
-    alloc: Global,
-    out: &mut Markup<'_>,
-    scene: &Scene<'_, '_>,
-    place: Place,
-    lane: &Lane,
-) -> Result<(), AllocError>
-    ensures stands { OnOk result (out.new.stands ≡ out.old.stands) }
-    ensures text { OnOk result (out.new.text ≡ with_first scene.now place lane.now out.old.text) }
-{
-    if is_first(place, lane) {
-        draw_adapter(alloc, out, scene, lane.unit / 8, place.y)
-    } else {
-        Ok(())
-    }
-}
-
 /// A drive, below its adapter if it is the first one of that adapter. The result is where the next drive stands.
-#[tactic(auto, unfolding(crate::specs::Drawings::with_drive))]
 fn draw_drive<'a>(
     alloc: Global,
     out: &mut Markup<'a>,
@@ -179,65 +143,53 @@ fn draw_drive<'a>(
     place: Place,
     lane: &Lane,
 ) -> Result<Place, AllocError>
-    ensures stands { OnOk result (out.new.stands ≡ told (lines_of_lane scene.now.sheet.now lane.now) out.old.stands) }
-    ensures drives { IfOk result (λ next. with_drive scene.now (record { place = place; text = out.old.text }) lane.now ≡ record { place = next; text = out.new.text }) }
+    requires { place.y ≤ 18000 }
+    ensures told { OnOk result (out.new ≡ told (lines_of_lane scene.now.sheet.now lane.now) out.old) }
+    ensures below { IfOk result (λ next. next.y ≤ place.y + 401) }
 {
-    draw_first(alloc, out, scene, place, lane)?;
-    draw_unit(alloc, out, scene, lane, top_of(place, lane))?;
-    Ok(below(place, lane))
+    if place.is_first(lane) {
+        draw_adapter(alloc, out, scene, lane.unit / 8, place.y)?;
+    }
+    draw_lane(alloc, out, scene, lane, place.top(lane))?;
+    Ok(place.below(lane))
 }
 
-/// The drives; the first drive of each adapter stands below that adapter.
-#[tactic(auto, unfolding(crate::specs::Drawings::with_drives))]
+/// The drives.
 fn draw_drives<'a>(
     alloc: Global,
     out: &mut Markup<'a>,
     scene: &Scene<'_, 'a>,
 ) -> Result<(), AllocError>
-    ensures stands { OnOk result (out.new.stands ≡ told (lines_of_lanes scene.now.sheet.now scene.now.lanes.now) out.old.stands) }
-    ensures text { OnOk result (out.new.text ≡ with_drives scene.now out.old.text) }
+    requires { length scene.now.lanes.now ≤ 32 }
+    ensures { OnOk result (out.new ≡ told (lines_of_lanes scene.now.sheet.now scene.now.lanes.now) out.old) }
 {
-    let mut place = Place {
-        adapter: None,
-        y: TOP,
-    };
+    let mut place = FIRST;
     for lane in scene.lanes.iter() {
         place = draw_drive(alloc, out, scene, place, lane)?;
     }
     Ok(())
 }
 
-/// How high the drawing is.
-fn height_in(scene: &Scene<'_, '_>, bottom: u32) -> u32
-    requires { bottom ≡ bottom_of scene.now.lanes.now }
-    ensures { result ≡ height_in scene.now }
-{
-    let listed = times(13, small(scene.shown.listed.len() as u64));
-    add(add(bottom, 60), listed)
-}
-
 /// The drawing.
-#[tactic(auto, unfolding(crate::specs::Drawings::with_drawing))]
-fn draw<'a>(
-    alloc: Global,
-    out: &mut Markup<'a>,
-    scene: &Scene<'_, 'a>,
-    sentences: &[Sentence; 4],
-) -> Result<(), AllocError>
-    ensures stands { OnOk result (out.new.stands ≡ told (lines_of_lanes scene.now.sheet.now scene.now.lanes.now) out.old.stands) }
-    ensures text { OnOk result (out.new.text ≡ with_drawing scene.now sentences.now out.old.text) }
+fn draw<'a>(alloc: Global, out: &mut Markup<'a>, scene: &Scene<'_, 'a>) -> Result<(), AllocError>
+    requires lanes { length scene.now.lanes.now ≤ 32 }
+    requires few { length scene.now.shown.now.listed.items ≤ 256 }
+    ensures { OnOk result (out.new ≡ with_all scene.now.sheet.now (lines_of_lanes scene.now.sheet.now scene.now.lanes.now) scene.now.shown.now.listed.items out.old) }
 {
+    let sentences = sentences(scene.sheet);
     let bottom = bottom_of(scene.lanes);
-    let height = height_in(scene, bottom);
-    let width = scene.frame.width;
-    out.start(Start::Svg { width, height })?;
-    draw_names(out, scene.sheet, sentences)?;
-    draw_fixed(out)?;
-    draw_head(out, scene.sheet, sentences)?;
-    draw_lines(alloc, out, scene, height)?;
+    let listed = scene.shown.listed.len() as u32;
+    let height = bottom + 60 + 13 * listed;
+    let size = extent(scene.frame.width(), height);
+    out.put(Piece::Start(Start::Svg { size }))?;
+    draw_names(out, scene.sheet, &sentences)?;
+    out.put(Piece::Style)?;
+    draw_legend(out)?;
+    draw_head(out, scene.sheet, &sentences)?;
+    draw_script(alloc, out, scene, height)?;
     draw_drives(alloc, out, scene)?;
-    draw_events(out, scene, bottom)?;
-    draw_table(alloc, out, scene, add(bottom, 22))?;
+    draw_events(out, scene, bottom + 8)?;
+    draw_table(alloc, out, scene, bottom + 22)?;
     out.end(Element::Svg)
 }
 
@@ -247,7 +199,6 @@ pub fn svg(alloc: Global, sheet: &Sheet<'_>) -> Result<Vec<u8>, AllocError>
 {
     let shown = Shown::new(alloc, sheet)?;
     let lanes = lanes_of(alloc, sheet)?;
-    let sentences = sentences(sheet);
     let scene = Scene {
         sheet,
         frame: Frame::new(sheet.columns().len()),
@@ -255,6 +206,6 @@ pub fn svg(alloc: Global, sheet: &Sheet<'_>) -> Result<Vec<u8>, AllocError>
         shown: &shown,
     };
     let mut out = Markup::new(alloc);
-    draw(alloc, &mut out, &scene, &sentences)?;
+    draw(alloc, &mut out, &scene)?;
     out.finish(alloc)
 }

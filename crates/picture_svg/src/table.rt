@@ -1,58 +1,45 @@
 //! The requests, in the order asked.
 
-ghost use Rattle.std.specs.Prelude.{◌≡◌, ◌∷◌, [], fold, slice_range, IfOk, OnOk};
-ghost use Rattle.picture_markup.specs.Nesting.{started};
-ghost use Rattle.picture_markup.specs.declared.pieces.Element.TheVariants.{Group};
-ghost use Rattle.drive_pictures.specs.Requests.{is_ok};
-ghost use Rattle.picture_sheet.specs.Letters.{lead_of};
-ghost use Rattle.run_picture.specs.Fold.{drive_at};
-ghost use Rattle.picture_svg.specs.Tables.{table_name, with_table_names, with_cylinder, verb_of, with_asking, with_wait, is_idle, letter_at, lead_bar, with_lead, with_leads, with_tick, with_hand, answer_class, turn_class, with_numbers, with_begun, with_request, with_row, with_count, with_table};
+ghost use Rattle.std.specs.Prelude.{◌≡◌, ◌≤◌, fold, length, IfOk, OnOk};
+ghost use Rattle.picture_svg.specs.Nesting.{started, with_row};
+ghost use Rattle.picture_svg.specs.declared.pieces.Element.TheVariants.{Group};
 
-use drive_pictures::{Letter, Outcome, Request};
-use picture_lanes::pattern_of;
-use picture_markup::{Element, Markup, Piece, Point, Route, Start};
-use picture_scene::{
-    Key, LABEL, LEFT, Scene, Stretch, add, at, end_group, end_text, stretches_by, sub,
-};
-use picture_sheet::{lead, outcome_word};
-use run_picture::Column;
+use crate::bars::draw_bars;
+use crate::markup::Markup;
+use crate::pieces::{Element, Piece, Route, Start, at, extent};
+use crate::scene::{LABEL, LEFT, Scene};
+use crate::stretches::Track;
+use drive_pictures::{Outcome, Request};
+use picture_sheet::outcome_word;
 use std::alloc::{AllocError, Global};
 
-/// Where the numbers of a request end.
+/// Where the numbers of a request end, and what they are called.
 const ENDS: [u32; 6] = [84, 124, 164, 200, 234, 262];
 
-/// What the table is called.
-fn table_name(few: bool) -> &'static str
-    ensures { result.now ≡ table_name few }
+/// The names of the table's columns.
+fn draw_names(out: &mut Markup<'_>, scene: &Scene<'_, '_>, y: u32) -> Result<(), AllocError>
+    requires { y ≤ 19000 }
+    ensures { OnOk result (out.new ≡ out.old) }
 {
-    if few {
+    let beside = scene.frame.beside();
+    let name = if scene.shown.few {
         "requests, as asked"
     } else {
         "requests with trouble"
-    }
-}
-
-/// The names of the table's columns.
-#[tactic(auto, unfolding(crate::specs::Tables::with_table_names))]
-fn draw_names(out: &mut Markup<'_>, scene: &Scene<'_, '_>, y: u32) -> Result<(), AllocError>
-    ensures stands { OnOk result (out.new.stands ≡ out.old.stands) }
-    ensures text { OnOk result (out.new.text ≡ with_table_names scene.now y out.old.text) }
-{
-    let beside = scene.frame.beside;
-    out.text("b e", at(LABEL, y), table_name(scene.shown.few))?;
+    };
+    out.text("b e", at(LABEL, y), name)?;
     out.text("q", at(beside, y), "answer")?;
-    out.text("m q e", at(add(beside, ENDS[0]), y), "done")?;
-    out.text("m q e", at(add(beside, ENDS[1]), y), "queued")?;
-    out.text("m q e", at(add(beside, ENDS[2]), y), "on way")?;
-    out.text("m q e", at(add(beside, ENDS[3]), y), "ready")?;
-    out.text("m q e", at(add(beside, ENDS[4]), y), "trans")?;
-    out.text("m q e", at(add(beside, ENDS[5]), y), "turn")
+    out.text("m q e", at(beside + ENDS[0], y), "done")?;
+    out.text("m q e", at(beside + ENDS[1], y), "queued")?;
+    out.text("m q e", at(beside + ENDS[2], y), "on way")?;
+    out.text("m q e", at(beside + ENDS[3], y), "ready")?;
+    out.text("m q e", at(beside + ENDS[4], y), "trans")?;
+    out.text("m q e", at(beside + ENDS[5], y), "turn")
 }
 
-/// The cylinder of a request, if the request joined.
+/// Puts the cylinder of a request, if the request joined.
 fn put_cylinder(out: &mut Markup<'_>, cylinder: Option<u32>) -> Result<(), AllocError>
-    ensures stands { OnOk result (out.new.stands ≡ out.old.stands) }
-    ensures text { OnOk result (out.new.text ≡ with_cylinder cylinder out.old.text) }
+    ensures { OnOk result (out.new ≡ out.old) }
 {
     match cylinder {
         Some(cylinder) => {
@@ -63,141 +50,60 @@ fn put_cylinder(out: &mut Markup<'_>, cylinder: Option<u32>) -> Result<(), Alloc
     }
 }
 
-/// What a request does, as words before its unit.
-fn verb_of(write: bool) -> &'static str
-    ensures { result.now ≡ verb_of write }
-{
-    if write { " write u" } else { " read u" }
-}
-
 /// What a request asks.
-#[tactic(auto, unfolding(crate::specs::Tables::with_asking, picture_markup::specs::Elements::with_start, picture_markup::specs::Elements::with_opened))]
 fn draw_asking(out: &mut Markup<'_>, request: &Request, y: u32) -> Result<(), AllocError>
-    ensures stands { OnOk result (out.new.stands ≡ out.old.stands) }
-    ensures text { OnOk result (out.new.text ≡ with_asking request.now y out.old.text) }
+    requires { y ≤ 19000 }
+    ensures { OnOk result (out.new ≡ out.old) }
 {
-    let Point { x, y } = at(LABEL, add(y, 9));
     let class = "m e";
+    let place = at(LABEL, y);
     let id = u64::from(request.id);
-    let verb = verb_of(request.write);
+    let verb = if request.write { " write u" } else { " read u" };
     let unit = u64::from(request.unit);
     out.put_all(&[
-        Piece::Start(Start::Text { class, x, y }),
+        Piece::Start(Start::Text { class, at: place }),
         Piece::Number(id),
         Piece::Word(verb),
         Piece::Number(unit),
     ])?;
     put_cylinder(out, request.cylinder)?;
-    end_text(out)
+    out.end(Element::Text)
 }
 
 /// The time that a request waits.
-#[tactic(auto, unfolding(crate::specs::Tables::with_wait))]
 fn draw_wait(
     out: &mut Markup<'_>,
     scene: &Scene<'_, '_>,
     request: &Request,
     y: u32,
 ) -> Result<(), AllocError>
-    ensures stands { OnOk result (out.new.stands ≡ out.old.stands) }
-    ensures text { OnOk result (out.new.text ≡ with_wait scene.now request.now y out.old.text) }
+    requires { y ≤ 19000 }
+    ensures { OnOk result (out.new ≡ out.old) }
 {
     let asked = scene.at(request.asked);
-    let hand = scene.at(scene.in_hand(request));
+    let hand = scene.hand(request);
     if hand > asked {
-        out.rect("w", at(asked, add(y, 4)), sub(hand, asked), 4, None)
+        out.rect("w", at(asked, y + 4), extent(hand - asked, 4), None)
     } else {
         Ok(())
     }
 }
 
-/// The letter that leads a drive in a column of a number.
-fn letter_at(scene: &Scene<'_, '_>, unit: u8, column: usize) -> Letter
-    ensures { result ≡ letter_at scene.now unit column }
-{
-    lead(&scene.cell(unit, column).tally, scene.size(column))
-}
-
-/// A stretch in which a letter leads, except the idle one.
-fn draw_bar(
-    out: &mut Markup<'_>,
-    scene: &Scene<'_, '_>,
-    letter: Letter,
-    stretch: Stretch,
-    y: u32,
-) -> Result<(), AllocError>
-    ensures stands { OnOk result (out.new.stands ≡ out.old.stands) }
-    ensures text { OnOk result (out.new.text ≡ lead_bar scene.now letter y stretch out.old.text) }
-{
-    if matches!(letter, Letter::Idle) {
-        Ok(())
-    } else {
-        let corner = at(scene.frame.x(stretch.from), add(y, 1));
-        let width = scene.width(stretch);
-        out.rect("r", corner, width, 10, Some(pattern_of(letter)))
-    }
-}
-
-/// A stretch in which the drive does the same, some columns after the first.
-#[tactic(auto, unfolding(crate::specs::Tables::with_lead))]
-fn draw_lead(
-    out: &mut Markup<'_>,
-    scene: &Scene<'_, '_>,
-    unit: u8,
-    from: usize,
-    stretch: Stretch,
-    y: u32,
-) -> Result<(), AllocError>
-    ensures stands { OnOk result (out.new.stands ≡ out.old.stands) }
-    ensures text { OnOk result (out.new.text ≡ with_lead scene.now unit from y out.old.text stretch) }
-{
-    let stretch = stretch.moved(from);
-    let letter = letter_at(scene, unit, stretch.from);
-    draw_bar(out, scene, letter, stretch, y)
-}
-
-/// The columns from one up to another.
-fn columns_in<'a>(scene: &Scene<'_, 'a>, from: usize, to: usize) -> &'a [Column]
-    ensures { result.now ≡ slice_range scene.now.sheet.now.run.now.columns from to }
-{
-    let columns = scene.columns();
-    let (_, behind) = columns.split_at(from.min(columns.len()));
-    let count = to.saturating_sub(from).min(behind.len());
-    &behind[..count]
-}
-
-/// What the drive does in columns from one up to another.
-#[tactic(auto, unfolding(crate::specs::Tables::with_leads))]
-fn draw_leads(
+/// The time that a request is in hand, and its end if that is one of the events that are shown.
+fn draw_hand(
     alloc: Global,
-    out: &mut Markup<'_>,
-    scene: &Scene<'_, '_>,
-    unit: u8,
-    from: usize,
-    to: usize,
-    y: u32,
-) -> Result<(), AllocError>
-    ensures stands { OnOk result (out.new.stands ≡ out.old.stands) }
-    ensures text { OnOk result (out.new.text ≡ with_leads scene.now unit from to y out.old.text) }
-{
-    let columns = columns_in(scene, from, to);
-    for stretch in stretches_by(alloc, columns, Key::Lead(unit))?.iter() {
-        draw_lead(out, scene, unit, from, *stretch, y)?;
-    }
-    Ok(())
-}
-
-/// The end of a request, if it ended in the events that are shown.
-fn draw_tick(
     out: &mut Markup<'_>,
     scene: &Scene<'_, '_>,
     request: &Request,
     y: u32,
 ) -> Result<(), AllocError>
-    ensures stands { OnOk result (out.new.stands ≡ out.old.stands) }
-    ensures text { OnOk result (out.new.text ≡ with_tick scene.now request.now y out.old.text) }
+    requires { y ≤ 19000 }
+    ensures { OnOk result (out.new ≡ out.old) }
 {
-    let ended = scene.ended(request);
+    let ended = request.ended.unwrap_or(0);
+    let from = scene.sheet.column_of(request.in_hand.unwrap_or(0));
+    let to = scene.sheet.column_of(ended);
+    draw_bars(alloc, out, scene, Track::Lead(request.unit), from, to, y)?;
     if ended < scene.sheet.window.last {
         let from = at(scene.at(ended), y);
         out.path("k", Route::Tick { from })
@@ -206,100 +112,57 @@ fn draw_tick(
     }
 }
 
-/// The time that a request is in hand.
-#[tactic(auto, unfolding(crate::specs::Tables::with_hand))]
-fn draw_hand(
-    alloc: Global,
-    out: &mut Markup<'_>,
-    scene: &Scene<'_, '_>,
-    request: &Request,
-    y: u32,
-) -> Result<(), AllocError>
-    ensures stands { OnOk result (out.new.stands ≡ out.old.stands) }
-    ensures text { OnOk result (out.new.text ≡ with_hand scene.now request.now y out.old.text) }
-{
-    let from = scene.sheet.column_of(scene.in_hand(request));
-    let to = scene.sheet.column_of(scene.ended(request));
-    draw_leads(alloc, out, scene, request.unit, from, to, y)?;
-    draw_tick(out, scene, request, y)
-}
-
-/// How an answer is drawn.
-fn answer_class(outcome: Outcome) -> &'static str
-    ensures { result.now ≡ answer_class (is_ok outcome) }
-{
-    match outcome {
-        Outcome::Ok => "m",
-        _ => "m x",
-    }
-}
-
-/// How a turn is drawn.
-fn turn_class(out_of_order: bool) -> &'static str
-    ensures { result.now ≡ turn_class out_of_order }
-{
-    if out_of_order { "m e b" } else { "m e" }
-}
-
 /// The answer of a request, and its numbers.
-#[tactic(auto, unfolding(crate::specs::Tables::with_numbers))]
 fn draw_numbers(
     out: &mut Markup<'_>,
     scene: &Scene<'_, '_>,
     request: &Request,
     y: u32,
 ) -> Result<(), AllocError>
-    ensures stands { OnOk result (out.new.stands ≡ out.old.stands) }
-    ensures text { OnOk result (out.new.text ≡ with_numbers scene.now.frame request.now y out.old.text) }
+    requires { y ≤ 19000 }
+    ensures { OnOk result (out.new ≡ out.old) }
 {
-    let beside = scene.frame.beside;
+    let beside = scene.frame.beside();
     let outcome = request.outcome;
-    let turn = turn_class(request.is_out_of_order());
-    out.text(answer_class(outcome), at(beside, y), outcome_word(outcome))?;
-    out.text_number("m e", at(add(beside, ENDS[0]), y), request.done)?;
-    out.text_number("m e", at(add(beside, ENDS[1]), y), request.queued())?;
-    out.text_number("m e", at(add(beside, ENDS[2]), y), request.times.way)?;
-    out.text_number("m e", at(add(beside, ENDS[3]), y), request.times.ready)?;
-    out.text_number("m e", at(add(beside, ENDS[4]), y), request.times.trans)?;
-    out.text_number(turn, at(add(beside, ENDS[5]), y), request.turn)
+    let class = if matches!(outcome, Outcome::Ok) {
+        "m"
+    } else {
+        "m x"
+    };
+    let turn = if request.is_out_of_order() {
+        "m e b"
+    } else {
+        "m e"
+    };
+    out.text(class, at(beside, y), outcome_word(outcome))?;
+    out.text_number("m e", at(beside + ENDS[0], y), request.done)?;
+    out.text_number("m e", at(beside + ENDS[1], y), request.queued())?;
+    out.text_number("m e", at(beside + ENDS[2], y), request.times.way)?;
+    out.text_number("m e", at(beside + ENDS[3], y), request.times.ready)?;
+    out.text_number("m e", at(beside + ENDS[4], y), request.times.trans)?;
+    out.text_number(turn, at(beside + ENDS[5], y), request.turn)
 }
 
 /// The group of a request begins, with its tooltip and the line below it.
-#[tactic(auto, unfolding(crate::specs::Tables::with_begun, picture_scene::specs::Groups::with_group))]
 fn begin_request(
     out: &mut Markup<'_>,
     right: u32,
     request: &Request,
     y: u32,
 ) -> Result<(), AllocError>
-    ensures stands { OnOk result (out.new.stands ≡ started Group out.old.stands) }
-    ensures text { OnOk result (out.new.text ≡ with_begun right request.now y out.old.text) }
+    requires across { right ≤ 1024 }
+    requires down { y ≤ 19000 }
+    ensures { OnOk result (out.new ≡ started Group (with_row out.old request.now)) }
 {
-    let class = "g";
-    let from = at(LEFT, add(y, 12));
-    let route = Route::Across { from, to: right };
-    let id = u64::from(request.id);
-    let line = u64::from(request.line);
-    let ended_line = u64::from(request.ended_line);
-    let outcome = outcome_word(request.outcome);
-    out.put_all(&[
-        Piece::Start(Start::Group),
-        Piece::Start(Start::Title),
-        Piece::Word("request "),
-        Piece::Number(id),
-        Piece::Word(": asked at line "),
-        Piece::Number(line),
-        Piece::Word(", answered at line "),
-        Piece::Number(ended_line),
-        Piece::Word(": "),
-        Piece::Word(outcome),
-        Piece::End(Element::Title),
-        Piece::Path { class, route },
-    ])
+    let from = at(LEFT, y + 12);
+    let to = at(right, y + 12);
+    out.begin_tip()?;
+    out.row(request)?;
+    out.end(Element::Title)?;
+    out.path("g", Route::Across { from, to })
 }
 
 /// A request.
-#[tactic(auto, unfolding(crate::specs::Tables::with_request))]
 fn draw_request(
     alloc: Global,
     out: &mut Markup<'_>,
@@ -307,61 +170,54 @@ fn draw_request(
     request: &Request,
     y: u32,
 ) -> Result<(), AllocError>
-    ensures stands { OnOk result (out.new.stands ≡ out.old.stands) }
-    ensures text { OnOk result (out.new.text ≡ with_request scene.now request.now y out.old.text) }
+    requires { y ≤ 18900 }
+    ensures { OnOk result (out.new ≡ with_row out.old request.now) }
 {
-    begin_request(out, scene.frame.right, request, y)?;
-    draw_asking(out, request, y)?;
+    begin_request(out, scene.frame.right(), request, y)?;
+    draw_asking(out, request, y + 9)?;
     draw_wait(out, scene, request, y)?;
     draw_hand(alloc, out, scene, request, y)?;
-    draw_numbers(out, scene, request, add(y, 9))?;
-    end_group(out)
+    draw_numbers(out, scene, request, y + 9)?;
+    out.end(Element::Group)
 }
 
-/// A request below the one before it. The result is where it stands.
-#[tactic(auto, unfolding(crate::specs::Tables::with_row))]
-fn draw_row(
+/// The requests that are listed, each below the one before it. The result is where the last one stands.
+fn draw_rows(
     alloc: Global,
     out: &mut Markup<'_>,
     scene: &Scene<'_, '_>,
-    request: &Request,
     y: u32,
 ) -> Result<u32, AllocError>
-    ensures stands { OnOk result (out.new.stands ≡ out.old.stands) }
-    ensures rows { IfOk result (λ below. with_row scene.now (record { y = y; text = out.old.text }) request.now ≡ record { y = below; text = out.new.text }) }
+    requires y { y ≤ 15000 }
+    requires few { length scene.now.shown.now.listed.items ≤ 256 }
+    ensures rows { OnOk result (out.new ≡ fold with_row out.old scene.now.shown.now.listed.items) }
+    ensures low { IfOk result (λ last. last ≤ 18328) }
 {
-    let below = add(y, 13);
-    draw_request(alloc, out, scene, request, below)?;
-    Ok(below)
-}
-
-/// How many requests there are, if not all of them are listed.
-fn draw_count(out: &mut Markup<'_>, few: bool, count: u64, y: u32) -> Result<(), AllocError>
-    ensures stands { OnOk result (out.new.stands ≡ out.old.stands) }
-    ensures text { OnOk result (out.new.text ≡ with_count few count y out.old.text) }
-{
-    if few {
-        Ok(())
-    } else {
-        out.text_with("q e", at(LABEL, add(y, 22)), "of ", count)
+    let mut y = y;
+    for request in scene.shown.listed.iter() {
+        y += 13;
+        draw_request(alloc, out, scene, request, y)?;
     }
+    Ok(y)
 }
 
-/// The requests that are listed.
-#[tactic(auto, unfolding(crate::specs::Tables::with_table))]
-pub(crate) fn draw_table(
+/// The table of the requests, and how many there are if not all of them are listed.
+pub fn draw_table(
     alloc: Global,
     out: &mut Markup<'_>,
     scene: &Scene<'_, '_>,
     y: u32,
 ) -> Result<(), AllocError>
-    ensures stands { OnOk result (out.new.stands ≡ out.old.stands) }
-    ensures text { OnOk result (out.new.text ≡ with_table scene.now y out.old.text) }
+    requires y { y ≤ 15000 }
+    requires few { length scene.now.shown.now.listed.items ≤ 256 }
+    ensures { OnOk result (out.new ≡ fold with_row out.old scene.now.shown.now.listed.items) }
 {
-    draw_names(out, scene, add(y, 9))?;
-    let mut y = y;
-    for request in scene.shown.listed.iter() {
-        y = draw_row(alloc, out, scene, request, y)?;
+    draw_names(out, scene, y + 9)?;
+    let last = draw_rows(alloc, out, scene, y)?;
+    if scene.shown.few {
+        Ok(())
+    } else {
+        let count = scene.shown.count as u64;
+        out.text_with("q e", at(LABEL, last + 22), "of ", count)
     }
-    draw_count(out, scene.shown.few, scene.shown.count as u64, y)
 }

@@ -1,10 +1,10 @@
 use Rattle.std.proofs.Common.{◌≡◌, ℕ, ◌<◌, List, [], ◌∷◌, ◌++◌, length, refl, ap, arith, length-append}
 use Rattle.std.proofs.lemmas.Bool.{eq-eqb, ne_eqb}
 use Rattle.std.proofs.lemmas.List.{append_cancel_left}
-use Rattle.picture_markup.specs.Nesting.{Drawn, told}
 use Rattle.picture_sheet.specs.declared.sheet.Note.{Note}
 use Rattle.picture_sheet.specs.Notes.{lines_of, lines_shown}
-use Rattle.picture_scene.specs.Lines.{lines_of_lane}
+use Rattle.picture_svg.specs.Nesting.{Drawn, told}
+use Rattle.picture_svg.specs.Pictures.{lines_of_lane}
 use Rattle.picture_rows.proofs.nested_law.Goals as goal
 
 -- of one drawing as many elements are open, and as many lines are told

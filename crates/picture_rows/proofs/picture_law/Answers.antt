@@ -1,4 +1,4 @@
-use Rattle.picture_rows.proofs.Outcomes.{column_drops_an_event, idle_event_left_out, ampersand_as_it_is, coordinate_of_20000, window_from_the_first_event, lead_of_equals_the_first, all_adapters_taken_together, request_behind_the_window_shown, line_of_another_drive, stretch_ended_at_its_first_column, group_ended_around_an_arm, tooltip_ended_twice}
+use Rattle.picture_rows.proofs.Outcomes.{column_drops_an_event, idle_event_left_out, ampersand_as_it_is, coordinate_of_20000, window_from_the_first_event, lead_of_equals_the_first, all_adapters_taken_together, request_behind_the_window_shown, line_of_another_drive, group_ended_around_an_arm, tooltip_ended_twice}
 use Rattle.picture_rows.proofs.picture_law.Goals as goal
 
 pub returns-clause-column_drops_an_event : goal.returns-clause-column_drops_an_event
@@ -18,9 +18,6 @@ returns-clause-lead_of_equals_the_first c = lead_of_equals_the_first
 
 pub returns-clause-line_of_another_drive : goal.returns-clause-line_of_another_drive
 returns-clause-line_of_another_drive c = line_of_another_drive
-
-pub returns-clause-stretch_ended_at_its_first_column : goal.returns-clause-stretch_ended_at_its_first_column
-returns-clause-stretch_ended_at_its_first_column c = stretch_ended_at_its_first_column
 
 pub returns-clause-group_ended_around_an_arm : goal.returns-clause-group_ended_around_an_arm
 returns-clause-group_ended_around_an_arm c = group_ended_around_an_arm

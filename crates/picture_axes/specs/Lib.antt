@@ -1,2 +1,0 @@
-pub mod Adapters
-pub mod Axes

@@ -1,3 +1,0 @@
-mod Cutting
-mod Points
-pub mod Telling

@@ -1,6 +1,0 @@
-use Rattle.std.proofs.Common.{◌≡◌, [], take, fold}
-use Rattle.picture_markup.specs.Elements.{with_piece}
-use Rattle.picture_markup.proofs.render.render.Given as goal
-
-abbrev pub invariant-loop-piece : goal.invariant-loop-piece
-invariant-loop-piece l = l.out.items ≡ fold (with_piece l.points) [] (take l.piece-index l.pieces)

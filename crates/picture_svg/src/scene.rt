@@ -1,0 +1,229 @@
+//! What is drawn, and where.
+
+ghost use Rattle.std.specs.Prelude.{◌≡◌, ◌≤◌, map, IfOk};
+ghost use Rattle.picture_sheet.specs.Units.{units_shown};
+ghost use Rattle.picture_svg.specs.Pictures.{unit_of};
+
+use drive_pictures::{Cell, Request};
+use itoa::Buffer;
+use picture_sheet::{Sheet, Shown, cell_at, is_shown, top_of};
+use run_picture::{Column, Head};
+use std::alloc::{AllocError, Global};
+
+/// The left edge of the columns.
+pub const LEFT: u32 = 160;
+
+/// The right edge of the labels beside the columns.
+pub const LABEL: u32 = 150;
+
+/// How wide all columns are together at most, and one of them.
+const PLOT: u32 = 864;
+
+const WIDEST: u32 = 40;
+
+/// How many columns there are, and how wide one is.
+#[derive(Clone, Copy)]
+pub struct Frame {
+    count: usize,
+    pub column: u32,
+}
+
+/// A drive as it is drawn: its unit and its kind, its highest cylinder, where its arm is before the first column, and how high the
+/// way of its arm is drawn.
+#[derive(Clone, Copy)]
+pub struct Lane {
+    pub unit: u8,
+    pub kind: &'static str,
+    pub top: u32,
+    pub before: u32,
+    pub chart: u8,
+}
+
+/// What is drawn.
+#[derive(Clone, Copy)]
+pub struct Scene<'s, 'a> {
+    pub sheet: &'s Sheet<'a>,
+    pub frame: Frame,
+    pub lanes: &'s [Lane],
+    pub shown: &'s Shown,
+}
+
+/// A stretch of columns, from one up to another.
+#[derive(Clone, Copy)]
+pub struct Stretch {
+    pub from: usize,
+    pub to: usize,
+}
+
+impl Frame {
+    /// The frame of `columns` columns.
+    pub fn new(columns: usize) -> Frame {
+        let count = columns.min(1_000) as u32;
+        Frame {
+            count: columns,
+            column: WIDEST.min(PLOT / count.max(1)),
+        }
+    }
+
+    /// The left edge of a column.
+    pub fn x(&self, column: usize) -> u32
+        ensures { result ≤ 1024 }
+    {
+        let before = column.min(1_000) as u32;
+        LEFT + before.saturating_mul(self.column).min(PLOT)
+    }
+
+    /// The right edge of the columns.
+    pub fn right(&self) -> u32
+        ensures { result ≤ 1024 }
+    {
+        self.x(self.count)
+    }
+
+    /// The left edge of what stands beside the columns.
+    pub fn beside(&self) -> u32
+        ensures { result ≤ 1040 }
+    {
+        self.right().max(720) + 16
+    }
+
+    /// The width of the picture.
+    pub fn width(&self) -> u32
+        ensures { result ≤ 1314 }
+    {
+        self.beside() + 274
+    }
+}
+
+/// The part of a height that some events are of all events.
+pub fn part_of(height: u32, some: u64, all: u64) -> u32
+    ensures { result ≤ height }
+{
+    let height = u64::from(height);
+    let part = height.saturating_mul(some) / all.max(1);
+    part.min(height) as u32
+}
+
+/// How wide a number is written.
+pub fn width_of(number: u64) -> u32 {
+    let mut buffer = Buffer::new();
+    let digits = buffer.format(number).len() as u32;
+    digits.saturating_mul(6)
+}
+
+/// How many requests of a unit are shown, up to 40.
+fn count_asked(sheet: &Sheet<'_>, unit: u8) -> u8
+    ensures { result ≤ 40 }
+{
+    let mut count: u8 = 0;
+    for request in sheet.run.requests().iter() {
+        if count < 40 && request.unit == unit && is_shown(sheet, request) {
+            count += 1;
+        }
+    }
+    count
+}
+
+impl Lane {
+    /// The drive of a unit.
+    fn new(sheet: &Sheet<'_>, unit: u8) -> Lane
+        ensures { result.unit ≡ unit }
+    {
+        let top = top_of(sheet, unit);
+        let chart = if top > 0 {
+            44 + 4 * count_asked(sheet, unit)
+        } else {
+            0
+        };
+        Lane {
+            unit,
+            kind: sheet.kind_of(unit),
+            top,
+            before: sheet.arm_before(unit),
+            chart,
+        }
+    }
+}
+
+/// The drives of a sheet.
+pub fn lanes_of(alloc: Global, sheet: &Sheet<'_>) -> Result<Vec<Lane>, AllocError>
+    ensures { IfOk result (λ lanes. map unit_of lanes.items ≡ units_shown sheet.now) }
+{
+    let units = sheet.units(alloc)?;
+    let mut lanes = Vec::new(alloc);
+    for unit in units.iter() {
+        lanes.push(Lane::new(sheet, *unit))?;
+    }
+    Ok(lanes)
+}
+
+impl<'s, 'a> Scene<'s, 'a> {
+    /// The columns.
+    pub fn columns(&self) -> &'a [Column] {
+        self.sheet.columns()
+    }
+
+    /// The head of a column; after the last column, a head of no event.
+    pub fn head(&self, column: usize) -> Head {
+        match self.columns().get(column) {
+            Some(column) => column.head,
+            None => Head::new(),
+        }
+    }
+
+    /// How many events a column has.
+    pub fn size(&self, column: usize) -> u64 {
+        self.head(column).events
+    }
+
+    /// What is seen of a drive in a column.
+    pub fn cell(&self, unit: u8, column: usize) -> Cell {
+        match self.columns().get(column) {
+            Some(column) => cell_at(column, unit),
+            None => Cell::new(),
+        }
+    }
+
+    /// Where an event stands.
+    pub fn at(&self, event: u64) -> u32
+        ensures { result ≤ 1024 }
+    {
+        self.frame.x(self.sheet.column_of(event))
+    }
+
+    /// Where a stretch begins.
+    pub fn start(&self, stretch: Stretch) -> u32
+        ensures { result ≤ 1024 }
+    {
+        self.frame.x(stretch.from)
+    }
+
+    /// How wide a stretch is.
+    pub fn width(&self, stretch: Stretch) -> u32
+        ensures { result ≤ 1024 }
+    {
+        self.frame
+            .x(stretch.to)
+            .saturating_sub(self.frame.x(stretch.from))
+    }
+
+    /// The middle of a stretch.
+    pub fn middle(&self, stretch: Stretch) -> u32
+        ensures { result ≤ 1536 }
+    {
+        self.start(stretch) + self.width(stretch) / 2
+    }
+
+    /// Where a request comes to hand, and where it ends.
+    pub fn hand(&self, request: &Request) -> u32
+        ensures { result ≤ 1024 }
+    {
+        self.at(request.in_hand.unwrap_or(0))
+    }
+
+    pub fn end(&self, request: &Request) -> u32
+        ensures { result ≤ 1024 }
+    {
+        self.at(request.ended.unwrap_or(0))
+    }
+}

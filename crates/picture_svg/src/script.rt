@@ -1,0 +1,151 @@
+//! The script's lines above the columns, and the numbers of the events below them.
+
+ghost use Rattle.std.specs.Prelude.{◌≡◌, ◌≤◌, ◌<◌, IfOk, OnOk};
+
+use crate::markup::Markup;
+use crate::pieces::{Element, Piece, Route, Start, at};
+use crate::scene::{LABEL, Scene, Stretch};
+use crate::stretches::{Track, stretches};
+use crate::tips::front;
+use drive_pictures::plus;
+use itoa::Buffer;
+use run_picture::Head;
+use std::alloc::{AllocError, Global};
+
+/// Where the script's lines end.
+const AXIS: u32 = 276;
+
+/// How many bytes of a line are drawn.
+const ROOM: usize = 20;
+
+/// What is put after a line that found nothing to do.
+fn idle_words(idle: bool) -> &'static [u8] {
+    match idle {
+        true => b" idle",
+        false => b"",
+    }
+}
+
+/// Puts a line's number and its text, and whether it found nothing to do: the first 20 bytes.
+fn put_words<'a>(out: &mut Markup<'a>, head: &Head, words: &'a [u8]) -> Result<(), AllocError>
+    ensures { OnOk result (out.new ≡ out.old) }
+{
+    let number = u64::from(head.line);
+    let mut buffer = Buffer::new();
+    let room = ROOM.saturating_sub(buffer.format(number).len().saturating_add(1));
+    let shown = front(words, room);
+    let rest = front(idle_words(head.idle), room.saturating_sub(shown.len()));
+    out.put_all(&[
+        Piece::Number(number),
+        Piece::Word(" "),
+        Piece::Said(shown),
+        Piece::Said(rest),
+    ])
+}
+
+/// The text of the script's line at which a column begins, if it is known.
+fn words_at<'a>(scene: &Scene<'_, 'a>, column: usize) -> &'a [u8] {
+    match scene.sheet.texts.get(column) {
+        Some(words) => words,
+        None => b"",
+    }
+}
+
+/// The columns of a line, if they are several.
+fn draw_columns(
+    out: &mut Markup<'_>,
+    scene: &Scene<'_, '_>,
+    stretch: Stretch,
+) -> Result<(), AllocError>
+    ensures { OnOk result (out.new ≡ out.old) }
+{
+    if stretch.to.saturating_sub(stretch.from) > 1 {
+        let from = at(scene.start(stretch), AXIS);
+        let to = at(scene.frame.x(stretch.to).saturating_sub(2), AXIS);
+        out.path("k", Route::Across { from, to })
+    } else {
+        Ok(())
+    }
+}
+
+/// A line of the script, upwards over its first column, if there is room. The result is from where there is room after it.
+fn draw_line<'a>(
+    out: &mut Markup<'a>,
+    scene: &Scene<'_, 'a>,
+    stretch: Stretch,
+    height: u32,
+    free: u32,
+) -> Result<u32, AllocError>
+    requires { height < 20000 }
+    ensures { OnOk result (out.new ≡ out.old) }
+{
+    let x = scene.start(stretch);
+    draw_columns(out, scene, stretch)?;
+    if x < free {
+        return Ok(free);
+    }
+    let from = at(x, AXIS + 2);
+    let to = at(x, height.saturating_sub(16));
+    out.path("g", Route::Down { from, to })?;
+    let place = at(x + 4, AXIS - 4);
+    out.put(Piece::Start(Start::Upwards { at: place }))?;
+    put_words(
+        out,
+        &scene.head(stretch.from),
+        words_at(scene, stretch.from),
+    )?;
+    out.end(Element::Text)?;
+    Ok(x + 12)
+}
+
+/// The script, written upwards over the first column of each of its lines, as far as there is room.
+pub fn draw_script<'a>(
+    alloc: Global,
+    out: &mut Markup<'a>,
+    scene: &Scene<'_, 'a>,
+    height: u32,
+) -> Result<(), AllocError>
+    requires { height < 20000 }
+    ensures { OnOk result (out.new ≡ out.old) }
+{
+    out.text("q e", at(LABEL, AXIS - 4), "line of the script")?;
+    let mut free = 0;
+    let lines = stretches(alloc, scene, 0, scene.columns().len(), Track::Script)?;
+    for stretch in lines.iter() {
+        free = draw_line(out, scene, *stretch, height, free)?;
+    }
+    Ok(())
+}
+
+/// The number of a column's first event, if there is room. The result is from where there is room after it.
+fn draw_event(
+    out: &mut Markup<'_>,
+    scene: &Scene<'_, '_>,
+    column: usize,
+    y: u32,
+    free: u32,
+) -> Result<u32, AllocError>
+    requires { y < 20000 }
+    ensures { OnOk result (out.new ≡ out.old) }
+{
+    let x = scene.frame.x(column);
+    if x < free {
+        return Ok(free);
+    }
+    let event = plus(scene.sheet.head(column), 1);
+    out.text_number("m q", at(x, y), event)?;
+    Ok(x + 48)
+}
+
+/// The numbers of the events, as far as there is room.
+pub fn draw_events(out: &mut Markup<'_>, scene: &Scene<'_, '_>, y: u32) -> Result<(), AllocError>
+    requires { y < 20000 }
+    ensures { OnOk result (out.new ≡ out.old) }
+{
+    out.text("q e", at(LABEL, y), "event")?;
+    let mut free = 0;
+    for column in 0..scene.columns().len() {
+        free = draw_event(out, scene, column, y, free)?;
+    }
+    Ok(())
+}

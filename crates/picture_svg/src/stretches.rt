@@ -1,0 +1,112 @@
+//! Stretches of columns in which the same holds.
+
+use crate::scene::{Lane, Scene, Stretch};
+use drive_pictures::{Cell, Letter};
+use picture_sheet::{LETTERS, cell_at, count_of, holding, lead};
+use run_picture::Column;
+use std::alloc::{AllocError, Global};
+
+/// What is drawn of columns.
+#[derive(Clone, Copy)]
+pub enum Track {
+    /// The lines of the script.
+    Script,
+    /// Which drives hold an adapter, and how often.
+    Held(u8),
+    /// How many drives of an adapter position.
+    Positioning(u8),
+    /// How many requests of a unit wait; the second number is the most of a column.
+    Waiting(u8, u64),
+    /// Whether a unit is offline, or is locked.
+    Offline(u8),
+    Locked(u8),
+    /// Which letters a unit has, and how often; and which of them leads.
+    Letters(u8),
+    Lead(u8),
+}
+
+/// Whether a drive is one of the adapter's.
+pub fn is_on(lane: &Lane, adapter: u8) -> bool {
+    lane.unit / 8 == adapter
+}
+
+/// After how many events of a column a drive holds its adapter.
+pub fn held_by(column: &Column, lane: &Lane) -> u64 {
+    holding(&cell_at(column, lane.unit).tally)
+}
+
+/// How many drives of an adapter position in a column, at most.
+pub fn positioning(column: &Column, adapter: u8) -> u64 {
+    match column.head.together.get(usize::from(adapter)) {
+        Some(count) => *count as u64,
+        None => 0,
+    }
+}
+
+/// Whether the same drives hold the adapter equally often in both columns.
+fn is_same_held(column: &Column, next: &Column, lanes: &[Lane], adapter: u8) -> bool {
+    lanes.iter().all(|lane| !is_on(lane, adapter) || held_by(column, lane) == held_by(next, lane))
+}
+
+/// Whether a drive does the same in both columns: they have as many events, and each letter stands equally often.
+fn is_same_done(column: &Column, next: &Column, unit: u8) -> bool {
+    let here = cell_at(column, unit).tally;
+    let there = cell_at(next, unit).tally;
+    let (events, others) = (column.head.events, next.head.events);
+    events == others
+        && LETTERS.iter().all(|letter| count_of(&here, events, *letter)
+            == count_of(&there, others, *letter))
+}
+
+/// The letter that leads a drive in a column.
+pub fn lead_in(column: &Column, unit: u8) -> Letter {
+    lead(&cell_at(column, unit).tally, column.head.events)
+}
+
+/// Whether the same is drawn of two columns that are side by side.
+fn is_same(lanes: &[Lane], column: &Column, next: &Column, track: Track) -> bool {
+    match track {
+        Track::Script => column.head.line == next.head.line,
+        Track::Held(adapter) => is_same_held(column, next, lanes, adapter),
+        Track::Positioning(adapter) => positioning(column, adapter) == positioning(next, adapter),
+        Track::Waiting(unit, _) => cell_at(column, unit).waiting == cell_at(next, unit).waiting,
+        Track::Offline(unit) => cell_at(column, unit).offline == cell_at(next, unit).offline,
+        Track::Locked(unit) => cell_at(column, unit).locked == cell_at(next, unit).locked,
+        Track::Letters(unit) => is_same_done(column, next, unit),
+        Track::Lead(unit) => lead_in(column, unit) == lead_in(next, unit),
+    }
+}
+
+/// Whether a stretch of a track goes on after a column.
+fn goes_on(scene: &Scene<'_, '_>, column: usize, track: Track) -> bool {
+    let columns = scene.columns();
+    let Some(here) = columns.get(column) else {
+        return false;
+    };
+    match columns.get(column.saturating_add(1)) {
+        Some(next) => is_same(scene.lanes, here, next, track),
+        None => false,
+    }
+}
+
+/// The stretches of a track, of columns from one up to another.
+pub fn stretches(
+    alloc: Global,
+    scene: &Scene<'_, '_>,
+    from: usize,
+    to: usize,
+    track: Track,
+) -> Result<Vec<Stretch>, AllocError> {
+    let mut stretches = Vec::new(alloc);
+    let mut from = from;
+    for column in from..to {
+        if column + 1 == to || !goes_on(scene, column, track) {
+            stretches.push(Stretch {
+                from,
+                to: column + 1,
+            })?;
+            from = column + 1;
+        }
+    }
+    Ok(stretches)
+}

@@ -1,0 +1,136 @@
+//! Groups with their tooltips, and sentences.
+
+ghost use Rattle.std.specs.Prelude.{◌≡◌, ◌<◌, take, OnOk};
+ghost use Rattle.picture_svg.specs.Nesting.{started};
+ghost use Rattle.picture_svg.specs.declared.pieces.Element.TheVariants.{Group, Title};
+
+use crate::markup::Markup;
+use crate::pieces::{Element, Piece, Start, at};
+use crate::scene::{Scene, Stretch};
+use picture_sheet::{Phrase, Sentence};
+use std::alloc::AllocError;
+
+/// The front of a text, as far as there is room.
+pub fn front(text: &[u8], room: usize) -> &[u8]
+    ensures { result.now ≡ take room text.now }
+{
+    &text[..room.min(text.len())]
+}
+
+/// A group begins with a tooltip; at the head of this are the events and the lines of a stretch of columns.
+pub fn begin_span(
+    out: &mut Markup<'_>,
+    scene: &Scene<'_, '_>,
+    stretch: Stretch,
+) -> Result<(), AllocError>
+    ensures { OnOk result (out.new ≡ started Title (started Group out.old)) }
+{
+    let line = u64::from(scene.head(stretch.from).line);
+    let last_line = u64::from(scene.head(stretch.to.saturating_sub(1)).last_line);
+    let first = scene.sheet.head(stretch.from).saturating_add(1);
+    let last = scene.sheet.head(stretch.to);
+    out.put_all(&[
+        Piece::Start(Start::Group),
+        Piece::Start(Start::Title),
+        Piece::Word("events "),
+        Piece::Number(first),
+        Piece::Word(" to "),
+        Piece::Number(last),
+        Piece::Word(" (lines "),
+        Piece::Number(line),
+        Piece::Word(" to "),
+        Piece::Number(last_line),
+        Piece::Word(")"),
+    ])
+}
+
+/// A group begins; its tooltip has the events and the lines of a stretch, and words.
+pub fn begin_words(
+    out: &mut Markup<'_>,
+    scene: &Scene<'_, '_>,
+    stretch: Stretch,
+    words: &'static str,
+) -> Result<(), AllocError>
+    ensures { OnOk result (out.new ≡ started Group out.old) }
+{
+    begin_span(out, scene, stretch)?;
+    out.put_all(&[Piece::Word(words), Piece::End(Element::Title)])
+}
+
+/// A group begins; its tooltip has the events and the lines of a stretch, a count, and the words for what is counted.
+pub fn begin_count(
+    out: &mut Markup<'_>,
+    scene: &Scene<'_, '_>,
+    stretch: Stretch,
+    count: u64,
+    words: &'static str,
+) -> Result<(), AllocError>
+    ensures { OnOk result (out.new ≡ started Group out.old) }
+{
+    begin_span(out, scene, stretch)?;
+    out.put_all(&[
+        Piece::Word(": "),
+        Piece::Number(count),
+        Piece::Word(words),
+        Piece::End(Element::Title),
+    ])
+}
+
+/// Puts a phrase.
+fn put_phrase(out: &mut Markup<'_>, phrase: Phrase) -> Result<(), AllocError>
+    ensures { OnOk result (out.new ≡ out.old) }
+{
+    out.put_all(&[Piece::Word(phrase.word), Piece::Number(phrase.number)])
+}
+
+/// Puts the third phrase of a sentence, if it has one.
+fn put_third(out: &mut Markup<'_>, third: Option<Phrase>) -> Result<(), AllocError>
+    ensures { OnOk result (out.new ≡ out.old) }
+{
+    match third {
+        Some(phrase) => put_phrase(out, phrase),
+        None => Ok(()),
+    }
+}
+
+/// Puts a sentence.
+fn put_sentence(out: &mut Markup<'_>, sentence: Sentence) -> Result<(), AllocError>
+    ensures { OnOk result (out.new ≡ out.old) }
+{
+    put_phrase(out, sentence.first)?;
+    put_phrase(out, sentence.second)?;
+    put_third(out, sentence.third)?;
+    out.put(Piece::Word(sentence.end))
+}
+
+/// Puts two sentences.
+pub fn put_sentences(
+    out: &mut Markup<'_>,
+    first: Sentence,
+    second: Sentence,
+) -> Result<(), AllocError>
+    ensures { OnOk result (out.new ≡ out.old) }
+{
+    put_sentence(out, first)?;
+    out.put(Piece::Word(" "))?;
+    put_sentence(out, second)
+}
+
+/// Puts two sentences in a line of their own.
+pub fn text_sentences(
+    out: &mut Markup<'_>,
+    y: u32,
+    first: Sentence,
+    second: Sentence,
+) -> Result<(), AllocError>
+    requires { y < 20000 }
+    ensures { OnOk result (out.new ≡ out.old) }
+{
+    let class = "";
+    out.put(Piece::Start(Start::Text {
+        class,
+        at: at(16, y),
+    }))?;
+    put_sentences(out, first, second)?;
+    out.end(Element::Text)
+}
