@@ -16,7 +16,7 @@ import glob, os, re, sys
 TOP = os.path.join(os.path.dirname(os.path.abspath(__file__)), '..')
 MARK = re.compile(r'<!-- (file|item|contracts|crate) (\S+?)(?:: ([^\n]*?))? -->\n(```\w*\n)(?:(?!```).*\n)*```\n')
 # A place of a call, as contracts of requests that are waited for name it: how all stands at the call, and at the return.
-PLACES = ('(stage ', '(site ', '(telling ')
+PLACES = ('(spot ', '(stage ', '(site ', '(telling ')
 
 
 def read(path):

@@ -13,6 +13,7 @@ mod Readying
 pub mod Joined
 pub mod Passes
 pub mod Sites
+pub mod Spots
 pub mod FrontsBlocks
 mod FrontsFronts
 pub mod FrontsPasses

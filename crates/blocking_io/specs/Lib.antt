@@ -3,6 +3,7 @@ pub mod Taking
 pub mod Calls
 pub mod Asking
 pub mod Stopping
+pub mod Spots
 pub mod Sessions
 pub mod Passes
 pub mod Fronts

@@ -1,5 +1,5 @@
 // A request is submitted, drained, and its answer given.
-ghost use Rattle.std.specs.Prelude.{◌≡◌, ◌≤◌, ℕ, [], Bool, false, if◌then◌else◌, IsTrue, IfOk, IfErr, OnOk};
+ghost use Rattle.std.specs.Prelude.{◌≡◌, ◌≤◌, ℕ, [], Bool, false, if◌then◌else◌, IsTrue, IfErr, OnOk};
 ghost use Rattle.pack_geometry.specs.Pack.{Pack};
 ghost use Rattle.outside_traits.specs.Causes.{HasCause};
 ghost use Rattle.trace_replay.specs.Moments.{Idle};
@@ -8,10 +8,9 @@ ghost use Rattle.driver_laws.specs.answers.Outcome.{IsFront, stop_in};
 ghost use Rattle.hp_driver.specs.Passes.{HasCauses};
 ghost use Rattle.hp_driver.specs.Inputs.{input_of};
 ghost use Rattle.hp_driver.specs.Subsystem.{asked, IsAsked, IsThere, writes_by};
-ghost use Rattle.blocking_io.specs.declared.reached.Reached.TheVariants.{Before};
 ghost use Rattle.blocking_io.specs.Calls.{stage, telling, GivesSubmission, GivesEvent, SubmissionStops, EventStops, SaysText, SendsRest};
-ghost use Rattle.blocking_io.specs.Asking.{IsReady, MayAsk, Answers};
-ghost use Rattle.blocking_io.specs.Stopping.{Stops};
+ghost use Rattle.blocking_io.specs.Asking.{MayAsk};
+ghost use Rattle.blocking_io.specs.Spots.{Waits, spot};
 
 use crate::answers::take_answers;
 use crate::reached::Reached;
@@ -171,17 +170,9 @@ fn ask<P: Packs, T: Sink>(
 ) -> Result<Reached, Stop>
     requires line { 1 ≤ line }
     requires may { MayAsk subsystem.old request from.now }
-    ensures answers { IfOk result (λ reached. Answers line (asked request from.now)
-        (stage P.tells P.held T.tells T.taken subsystem.old.world packs.old trace.old (Before 0) into.old)
-        (stage P.tells P.held T.tells T.taken subsystem.new.world packs.new trace.new reached into.new)) }
-    ensures stops { IfErr result (λ stop. Stops stop line (asked request from.now)
-        (stage P.tells P.held T.tells T.taken subsystem.old.world packs.old trace.old (Before 0) into.old)
-        (stage P.tells P.held T.tells T.taken subsystem.new.world packs.new trace.new (Before 0) into.new)) }
-    ensures ready { OnOk result (IsReady subsystem.new) }
-    ensures outstanding { subsystem.new.outstanding ≡ subsystem.old.outstanding }
-    ensures never_again { IsTrue (P.tells packs.new) → IsTrue (P.tells packs.old) }
-    ensures never_again_trace { IsTrue (T.tells trace.new) → IsTrue (T.tells trace.old) }
-    ensures causes { HasCauses (P.faults packs.old) (P.faults packs.new) (T.faults trace.old) (T.faults trace.new) (stop_in result) }
+    ensures { Waits line (asked request from.now) into.old into.new result
+        (spot P.tells P.held P.faults T.tells T.taken T.faults subsystem.old packs.old trace.old)
+        (spot P.tells P.held P.faults T.tells T.taken T.faults subsystem.new packs.new trace.new) }
 {
     beginnings_law();
     next_block_law();
@@ -225,17 +216,9 @@ pub fn ask_read<P: Packs, T: Sink>(
     requires line { 1 ≤ line }
     requires reads { request.write ≡ false }
     requires may { MayAsk subsystem.old request [] }
-    ensures answers { IfOk result (λ reached. Answers line (asked request [])
-        (stage P.tells P.held T.tells T.taken subsystem.old.world packs.old trace.old (Before 0) into.old)
-        (stage P.tells P.held T.tells T.taken subsystem.new.world packs.new trace.new reached into.new)) }
-    ensures stops { IfErr result (λ stop. Stops stop line (asked request [])
-        (stage P.tells P.held T.tells T.taken subsystem.old.world packs.old trace.old (Before 0) into.old)
-        (stage P.tells P.held T.tells T.taken subsystem.new.world packs.new trace.new (Before 0) into.new)) }
-    ensures ready { OnOk result (IsReady subsystem.new) }
-    ensures outstanding { subsystem.new.outstanding ≡ subsystem.old.outstanding }
-    ensures never_again { IsTrue (P.tells packs.new) → IsTrue (P.tells packs.old) }
-    ensures never_again_trace { IsTrue (T.tells trace.new) → IsTrue (T.tells trace.old) }
-    ensures causes { HasCauses (P.faults packs.old) (P.faults packs.new) (T.faults trace.old) (T.faults trace.new) (stop_in result) }
+    ensures { Waits line (asked request []) into.old into.new result
+        (spot P.tells P.held P.faults T.tells T.taken T.faults subsystem.old packs.old trace.old)
+        (spot P.tells P.held P.faults T.tells T.taken T.faults subsystem.new packs.new trace.new) }
 {
     ask(subsystem, line, request, &[], into, packs, trace)
 }
@@ -257,17 +240,9 @@ pub fn ask_write<P: Packs, T: Sink>(
 ) -> Result<Reached, Stop>
     requires line { 1 ≤ line }
     requires may { MayAsk subsystem.old request from.now }
-    ensures answers { IfOk result (λ reached. Answers line (asked request from.now)
-        (stage P.tells P.held T.tells T.taken subsystem.old.world packs.old trace.old (Before 0) [])
-        (stage P.tells P.held T.tells T.taken subsystem.new.world packs.new trace.new reached [])) }
-    ensures stops { IfErr result (λ stop. Stops stop line (asked request from.now)
-        (stage P.tells P.held T.tells T.taken subsystem.old.world packs.old trace.old (Before 0) [])
-        (stage P.tells P.held T.tells T.taken subsystem.new.world packs.new trace.new (Before 0) [])) }
-    ensures ready { OnOk result (IsReady subsystem.new) }
-    ensures outstanding { subsystem.new.outstanding ≡ subsystem.old.outstanding }
-    ensures never_again { IsTrue (P.tells packs.new) → IsTrue (P.tells packs.old) }
-    ensures never_again_trace { IsTrue (T.tells trace.new) → IsTrue (T.tells trace.old) }
-    ensures causes { HasCauses (P.faults packs.old) (P.faults packs.new) (T.faults trace.old) (T.faults trace.new) (stop_in result) }
+    ensures { Waits line (asked request from.now) [] [] result
+        (spot P.tells P.held P.faults T.tells T.taken T.faults subsystem.old packs.old trace.old)
+        (spot P.tells P.held P.faults T.tells T.taken T.faults subsystem.new packs.new trace.new) }
 {
     let mut none = [];
     ask(subsystem, line, request, from, &mut none, packs, trace)

@@ -18,9 +18,11 @@ mod asking;
 pub mod fronts;
 mod reached;
 mod sessions;
+mod site;
 
 pub use asking::{ask_read, ask_write};
 pub use fronts::{clean_law, fronts_law};
 pub use hp_driver::{Request, Stop, Subsystem, UnitSetup};
 pub use reached::Reached;
 pub use sessions::sessions_law;
+pub use site::{Outlet, Site};

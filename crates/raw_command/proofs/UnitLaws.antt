@@ -9,12 +9,13 @@ use Rattle.pack_geometry.specs.Pack.{Pack}
 use Rattle.pack_geometry.specs.PackTable.{IsTableOf}
 use Rattle.driver_laws.specs.declared.answers.outcome.Stop.{Stop}
 use Rattle.driver_laws.specs.declared.answers.outcome.Stop.TheVariants.{Store, Sink}
-use Rattle.raw_io.specs.Passes.{State, Stage, setup_at, kind_at, IsUntouched, Keeps, MayTransfer, site}
+use Rattle.raw_io.specs.Passes.{State, Stage, setup_at, kind_at, IsUntouched, Keeps, MayTransfer, Spot, seen, spot}
 use Rattle.driver_laws.specs.rules.Rest.{HasTables}
 use Rattle.partitions.specs.declared.Part.{Part}
 use Rattle.partitions.specs.Partitions.{size_of}
 use Rattle.driver_laws.specs.rules.Bytes.{IsOutside}
-use Rattle.raw_io.specs.Calls.{StopsAt, done_by as raw_done, stop_of as raw_stop}
+use Rattle.raw_io.specs.Calls.{StopsAt}
+use Rattle.raw_io.specs.Moves.{Comes, StopsFrom}
 use Rattle.raw_io.specs.Pieces.{GivesRange, PutsRange, start_of}
 use Rattle.raw_io.specs.Transfers.{Breaks}
 use Rattle.raw_io.specs.declared.fault.RawFault.{RawFault}
@@ -134,11 +135,17 @@ module _ (Q O : Type 0) (holds : Q → Bool) (held : Q → ℕ → Pack) (packs_
 
   -- ---- A TRANSFER behind it
   module _ (s s' : State) (packs' : Q) (trace' : O) (small : t.unit < 32) (a : IsAttached (holds mid) (held packs t.unit) t.unit t.kind s) where
+    abbrev before : Spot
+    before = spot holds held packs_faults tells taken faults s mid trace
+
+    abbrev after : Spot
+    after = spot holds held packs_faults tells taken faults s' packs' trace'
+
     abbrev old : Stage
-    old = site holds held tells taken s.world mid trace
+    old = seen before
 
     abbrev new : Stage
-    new = site holds held tells taken s'.world packs' trace'
+    new = seen after
 
     made : s.world ≡ one_world t.unit t.kind a.table
     made = ap (λ (x : State). x.world) a.made
@@ -150,9 +157,9 @@ module _ (Q O : Type 0) (holds : Q → Bool) (held : Q → ℕ → Pack) (packs_
     fits_mid told = subst (λ (h : ℕ → Pack). Fits t.kind (h t.unit)) (sym (same told)) (a.fits told)
 
     keeps_on : (why : Option TransferFault) (stop : Option Stop) → stop ≡ stop_of why → (IsBefore why → ⊥) → IsOfUnit why → IfSome why (IsFoundLong (holds packs') (held packs t.unit) t.kind)
-        → Keeps holds packs_faults tells faults s s' mid packs' trace trace' stop
+        → Keeps before after stop
         → KeepsUnit holds held packs_faults tells faults t.unit t.kind packs packs' trace trace' why
-    keeps_on why stop e after only long k =
+    keeps_on why stop e begun only long k =
         let more = k.causes.later_packs in record {
           never_again = λ told. never (k.never_again told);
           never_again_trace = k.never_again_trace;
@@ -162,8 +169,8 @@ module _ (Q O : Type 0) (holds : Q → Bool) (held : Q → ℕ → Pack) (packs_
             store = λ is. rose_more (packs_faults packs) (packs_faults mid) (packs_faults packs') later (k.causes.store (e ∙ is));
             sink = λ is. k.causes.sink (e ∙ is);
           };
-          untraced = λ b. absurd (after b);
-          same = λ b. absurd (after b);
+          untraced = λ b. absurd (begun b);
+          same = λ b. absurd (begun b);
           long = long;
           only = only;
         }
@@ -197,96 +204,80 @@ module _ (Q O : Type 0) (holds : Q → Bool) (held : Q → ℕ → Pack) (packs_
         (stops (tables t a.table small a.good old new made told (is_mid told_mid) (fits_mid told_mid))))
 
     pub reads_after : {A : Type 0} (r : Result A RawFault) → (r ≡ Err raw.Outside → ⊥) → (into into' : List ℕ)
-        → ((done : ℕ) → raw_done (length into) r ≡ Some done → GivesRange t.unit t.part t.at done into into' old new)
-        → ((done : ℕ) → r ≡ Err (raw.Unusable done) → done < length into)
-        → ((stop : Stop) → raw_stop r ≡ Some stop → IsTrue (holds packs') → HasTables (setup_at old) → IsUntouched old new)
-        → ((stop : Stop) → raw_stop r ≡ Some stop → Breaks true t.unit t.part stop old new)
-        → Keeps holds packs_faults tells faults s s' mid packs' trace trace' (raw_stop r)
+        → Comes true t.unit t.part (length into) (λ done. GivesRange t.unit t.part t.at done into into') IsUntouched r before after
         → ReadsUnit holds held packs_faults failed_at tells taken faults t into into' packs packs' trace trace' (raw_fault r)
-    reads_after (Ok value) inside into into' gives some stops breaks k = record {
-      few = λ done e. (gives done e).few;
+    reads_after (Ok value) inside into into' m = record {
+      few = λ done e. (m.done done e).few;
       unusable = λ done e. absurd (none-some (fault.Unusable done) e);
-      reads = λ done e told. read_so done into into' (k.never_again told) told (gives done e);
+      reads = λ done e told. read_so done into into' (m.keeps.never_again told) told (m.done done e);
       stops = tt;
-      keeps = keeps_on None None refl (λ b. b) tt tt k;
+      keeps = keeps_on None None refl (λ b. b) tt tt m.keeps;
     }
-    reads_after (Err raw.Outside) inside into into' gives some stops breaks k = absurd (inside refl)
-    reads_after (Err (raw.Unusable n)) inside into into' gives some stops breaks k = record {
-      few = λ done e. (gives done e).few;
-      unusable = λ done e. subst (λ (m : ℕ). m < length into) (same_count n done e) (some n refl);
-      reads = λ done e told. read_so done into into' (k.never_again told) told (gives done e);
+    reads_after (Err raw.Outside) inside into into' m = absurd (inside refl)
+    reads_after (Err (raw.Unusable n)) inside into into' m = record {
+      few = λ done e. (m.done done e).few;
+      unusable = λ done e. subst (λ (m : ℕ). m < length into) (same_count n done e) (m.unusable n refl);
+      reads = λ done e told. read_so done into into' (m.keeps.never_again told) told (m.done done e);
       stops = λ told. tt;
-      keeps = keeps_on (Some (fault.Unusable n)) None refl (λ b. b) tt tt k;
+      keeps = keeps_on (Some (fault.Unusable n)) None refl (λ b. b) tt tt m.keeps;
     }
-    reads_after (Err raw.Store) inside into into' gives some stops breaks k = record {
+    reads_after (Err raw.Store) inside into into' m = record {
       few = λ done e. absurd (none-some done e);
       unusable = λ done e. absurd (store_usable done e);
       reads = λ done e. absurd (none-some done e);
-      stops = λ told. inr (all_so Store (breaks Store refl) (k.never_again told) told (stops Store refl told));
-      keeps = keeps_on (Some fault.Store) (Some Store) refl (λ b. b) tt tt k;
+      stops = λ told. inr (all_so Store (m.breaks Store refl) (m.keeps.never_again told) told (m.left Store refl told));
+      keeps = keeps_on (Some fault.Store) (Some Store) refl (λ b. b) tt tt m.keeps;
     }
-    reads_after (Err raw.Sink) inside into into' gives some stops breaks k = record {
+    reads_after (Err raw.Sink) inside into into' m = record {
       few = λ done e. absurd (none-some done e);
       unusable = λ done e. absurd (sink_usable done e);
       reads = λ done e. absurd (none-some done e);
-      stops = λ told. all_so Sink (breaks Sink refl) (k.never_again told) told (stops Sink refl told);
-      keeps = keeps_on (Some fault.Sink) (Some Sink) refl (λ b. b) tt tt k;
+      stops = λ told. all_so Sink (m.breaks Sink refl) (m.keeps.never_again told) told (m.left Sink refl told);
+      keeps = keeps_on (Some fault.Sink) (Some Sink) refl (λ b. b) tt tt m.keeps;
     }
 
     pub writes_after : {A : Type 0} (r : Result A RawFault) → (r ≡ Err raw.Outside → ⊥) → (from : List ℕ)
-        → ((done : ℕ) → raw_done (length from) r ≡ Some done → PutsRange t.unit t.part t.at done from old new)
-        → ((done : ℕ) → r ≡ Err (raw.Unusable done) → done < length from)
-        → ((stop : Stop) → raw_stop r ≡ Some stop → IsTrue (holds packs') → HasTables (setup_at old) → StopsAt t.unit (start_of old t.unit t.part) t.at from old new)
-        → ((stop : Stop) → raw_stop r ≡ Some stop → Breaks false t.unit t.part stop old new)
-        → Keeps holds packs_faults tells faults s s' mid packs' trace trace' (raw_stop r)
+        → Comes false t.unit t.part (length from) (λ done. PutsRange t.unit t.part t.at done from) (StopsFrom t.unit t.part t.at from) r before after
         → WritesUnit holds held packs_faults failed_at tells taken faults t from packs packs' trace trace' (raw_fault r)
-    writes_after (Ok value) inside from puts some stops breaks k = record {
+    writes_after (Ok value) inside from m = record {
       unusable = λ done e. absurd (none-some (fault.Unusable done) e);
-      writes = λ done e told. written_so done from (k.never_again told) told (puts done e);
+      writes = λ done e told. written_so done from (m.keeps.never_again told) told (m.done done e);
       stops = tt;
-      keeps = keeps_on None None refl (λ b. b) tt tt k;
+      keeps = keeps_on None None refl (λ b. b) tt tt m.keeps;
     }
-    writes_after (Err raw.Outside) inside from puts some stops breaks k = absurd (inside refl)
-    writes_after (Err (raw.Unusable n)) inside from puts some stops breaks k = record {
-      unusable = λ done e. subst (λ (m : ℕ). m < length from) (same_count n done e) (some n refl);
-      writes = λ done e told. written_so done from (k.never_again told) told (puts done e);
+    writes_after (Err raw.Outside) inside from m = absurd (inside refl)
+    writes_after (Err (raw.Unusable n)) inside from m = record {
+      unusable = λ done e. subst (λ (m : ℕ). m < length from) (same_count n done e) (m.unusable n refl);
+      writes = λ done e told. written_so done from (m.keeps.never_again told) told (m.done done e);
       stops = λ told. tt;
-      keeps = keeps_on (Some (fault.Unusable n)) None refl (λ b. b) tt tt k;
+      keeps = keeps_on (Some (fault.Unusable n)) None refl (λ b. b) tt tt m.keeps;
     }
-    writes_after (Err raw.Store) inside from puts some stops breaks k = record {
+    writes_after (Err raw.Store) inside from m = record {
       unusable = λ done e. absurd (store_usable done e);
       writes = λ done e. absurd (none-some done e);
-      stops = λ told. inr (front_so Store (breaks Store refl) from (k.never_again told) told (stops Store refl told));
-      keeps = keeps_on (Some fault.Store) (Some Store) refl (λ b. b) tt tt k;
+      stops = λ told. inr (front_so Store (m.breaks Store refl) from (m.keeps.never_again told) told (m.left Store refl told));
+      keeps = keeps_on (Some fault.Store) (Some Store) refl (λ b. b) tt tt m.keeps;
     }
-    writes_after (Err raw.Sink) inside from puts some stops breaks k = record {
+    writes_after (Err raw.Sink) inside from m = record {
       unusable = λ done e. absurd (sink_usable done e);
       writes = λ done e. absurd (none-some done e);
-      stops = λ told. front_so Sink (breaks Sink refl) from (k.never_again told) told (stops Sink refl told);
-      keeps = keeps_on (Some fault.Sink) (Some Sink) refl (λ b. b) tt tt k;
+      stops = λ told. front_so Sink (m.breaks Sink refl) from (m.keeps.never_again told) told (m.left Sink refl told);
+      keeps = keeps_on (Some fault.Sink) (Some Sink) refl (λ b. b) tt tt m.keeps;
     }
 
     pub reads_by : {A : Type 0} (r : Result A RawFault) (why : Option TransferFault) → why ≡ raw_fault r → (r ≡ Err raw.Outside → ⊥) → (into into' : List ℕ)
-        → ((done : ℕ) → raw_done (length into) r ≡ Some done → GivesRange t.unit t.part t.at done into into' old new)
-        → ((done : ℕ) → r ≡ Err (raw.Unusable done) → done < length into)
-        → ((stop : Stop) → raw_stop r ≡ Some stop → IsTrue (holds packs') → HasTables (setup_at old) → IsUntouched old new)
-        → ((stop : Stop) → raw_stop r ≡ Some stop → Breaks true t.unit t.part stop old new)
-        → Keeps holds packs_faults tells faults s s' mid packs' trace trace' (raw_stop r)
+        → Comes true t.unit t.part (length into) (λ done. GivesRange t.unit t.part t.at done into into') IsUntouched r before after
         → ReadsUnit holds held packs_faults failed_at tells taken faults t into into' packs packs' trace trace' why
-    reads_by r why e inside into into' gives some stops breaks k =
+    reads_by r why e inside into into' m =
         subst (λ (w : Option TransferFault). ReadsUnit holds held packs_faults failed_at tells taken faults t into into' packs packs' trace trace' w) (sym e)
-        (reads_after r inside into into' gives some stops breaks k)
+        (reads_after r inside into into' m)
 
     pub writes_by : {A : Type 0} (r : Result A RawFault) (why : Option TransferFault) → why ≡ raw_fault r → (r ≡ Err raw.Outside → ⊥) → (from : List ℕ)
-        → ((done : ℕ) → raw_done (length from) r ≡ Some done → PutsRange t.unit t.part t.at done from old new)
-        → ((done : ℕ) → r ≡ Err (raw.Unusable done) → done < length from)
-        → ((stop : Stop) → raw_stop r ≡ Some stop → IsTrue (holds packs') → HasTables (setup_at old) → StopsAt t.unit (start_of old t.unit t.part) t.at from old new)
-        → ((stop : Stop) → raw_stop r ≡ Some stop → Breaks false t.unit t.part stop old new)
-        → Keeps holds packs_faults tells faults s s' mid packs' trace trace' (raw_stop r)
+        → Comes false t.unit t.part (length from) (λ done. PutsRange t.unit t.part t.at done from) (StopsFrom t.unit t.part t.at from) r before after
         → WritesUnit holds held packs_faults failed_at tells taken faults t from packs packs' trace trace' why
-    writes_by r why e inside from puts some stops breaks k =
+    writes_by r why e inside from m =
         subst (λ (w : Option TransferFault). WritesUnit holds held packs_faults failed_at tells taken faults t from packs packs' trace trace' w) (sym e)
-        (writes_after r inside from puts some stops breaks k)
+        (writes_after r inside from m)
 
 -- a range that is inside
 pub not_outside : {tells : Bool} {pack : Pack} {unit : ℕ} {kind : DriveKind} {s : State} (part : Part) (at size : ℕ) → unit < 32 → IsAttached tells pack unit kind s

@@ -1,6 +1,6 @@
 -- A transfer that stopped: at its first request, or behind others.
 use Rattle.std.proofs.Common.{◌≡◌, ℕ, Bool, true, false, List, [], ◌∷◌, ◌++◌, Option, None, Some, refl, sym, subst, ◌∙◌}
-use Rattle.std.specs.Prelude.{Result, Ok, Err, IfErr, IsErrAnd}
+use Rattle.std.specs.Prelude.{Result, IsErrAnd}
 use Rattle.std.proofs.lemmas.Bool.{false≢true}
 use Rattle.std.proofs.lemmas.Option.{same_Some}
 use Rattle.partitions.specs.declared.Part.{Part}
@@ -67,10 +67,6 @@ pub breaks_wider : (unit : ℕ) (part : Part) (stop : Stop) (old new : Stage) �
 breaks_wider unit part stop old new b = record { parts = b.parts; begun = begun_wider unit part b.parts b.begun; stops = b.stops; images = λ told only. absurd (false≢true only) }
 
 -- ---- an error that is handed on
-pub if_err : {T : Type 0} (result : Result T Stop) (stop : Stop) (P : Stop → Type 0) → IsErrAnd result (λ x. x ≡ stop) → P stop → IfErr result P
-if_err (Ok value) stop P is holds = tt
-if_err (Err other) stop P is holds = subst P (sym is) holds
-
 pub at_fault : {T : Type 0} (result : Result T RawFault) (stop : Stop) (P : Stop → Type 0) → IsErrAnd result (λ x. x ≡ fault_of stop) → P stop
     → (other : Stop) → stop_of result ≡ Some other → P other
 at_fault result stop P is holds other e = subst P (same_Some stop other (sym (stop_is result stop is) ∙ e)) holds

@@ -1,6 +1,7 @@
 mod Answered
 mod Joins
 mod Breaks
+mod Moving
 mod Exits
 mod Loops
 mod ReadPieces

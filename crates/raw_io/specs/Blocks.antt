@@ -3,13 +3,18 @@ use Rattle.std.specs.Prelude.{◌≡◌, ℕ, ◌+◌, ◌*◌, ◌<◌, ◌≤�
 use Rattle.trace_replay.specs.requests.Requests.{Request}
 use Rattle.driver_laws.specs.rules.Sessions.{told_in}
 use Rattle.driver_laws.specs.rules.Rest.{HasTables}
-use Rattle.blocking_io.specs.FrontsPasses.{Stage, setup_at}
+use Rattle.blocking_io.specs.FrontsPasses.{Stage, State, setup_at}
 use Rattle.driver_laws.specs.rules.Laid.{laid}
 use Rattle.driver_laws.specs.rules.Pieces.{Reaches}
 use Rattle.driver_laws.specs.rules.Bytes.{range}
 use Rattle.raw_io.specs.Transfers.{Transfers, AreClean}
-use Rattle.blocking_io.specs.Sites.{IsUnchanged, map_at}
-use Rattle.blocking_io.specs.Blocks.{PutsBlocks, ReadsOnce, origin}
+use Rattle.blocking_io.specs.Sites.{IsUnchanged, MayTransfer, kind_at, map_at}
+use Rattle.blocking_io.specs.Blocks.{AreBlocks, PutsBlocks, ReadsOnce, origin}
+
+-- WHAT MAY BE MOVED by a driver that is ready: whole blocks inside a partition of a unit that is set up.
+pub record MayMove (s : State) (r : Request) : Type 0 where
+  pub may : MayTransfer s r.unit
+  pub blocks : AreBlocks (kind_at s.world r.unit) r
 
 pub record Reads (r : Request) (n : ℕ) (into into' : List ℕ) (old new : Stage) : Type 0 where
   pub few : n ≤ r.count

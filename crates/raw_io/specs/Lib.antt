@@ -2,4 +2,5 @@ pub mod Transfers
 pub mod Calls
 pub mod Blocks
 pub mod Pieces
+pub mod Moves
 pub mod Passes

@@ -4,5 +4,6 @@ pub use Rattle.blocking_io.specs.FrontsPasses.{Answers, AnswersReach, GoesOn, Im
 pub use Rattle.driver_laws.specs.shown.RunsRuns.{Stay}
 pub use Rattle.driver_laws.specs.shown.Runs.{IsSoFar}
 pub use Rattle.blocking_io.specs.Fronts.{OthersStay}
-pub use Rattle.blocking_io.specs.Sites.{IsUntouched, Keeps, MayTransfer, kind_at, left_map, map_at, site}
+pub use Rattle.blocking_io.specs.Sites.{IsUntouched, MayTransfer, kind_at, left_map, map_at}
+pub use Rattle.blocking_io.specs.Spots.{Keeps, Spot, seen, spot}
 pub use Rattle.blocking_io.specs.Stopping.{IsCut, LeftAt, LongAt, Took}

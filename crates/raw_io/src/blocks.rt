@@ -1,17 +1,13 @@
 // Whole blocks of a partition, by blocking requests.
-ghost use Rattle.std.specs.Prelude.{◌≡◌, ◌*◌, [], true, false, IsTrue, IfOk, IfErr, OnErr, length};
-ghost use Rattle.driver_laws.specs.answers.Outcome.{stop_in};
-ghost use Rattle.blocking_io.specs.FrontsPasses.{asked, setup_at};
-ghost use Rattle.driver_laws.specs.rules.Rest.{HasTables};
+ghost use Rattle.std.specs.Prelude.{◌≡◌, ◌*◌, [], true, false, length};
+ghost use Rattle.blocking_io.specs.FrontsPasses.{asked};
+ghost use Rattle.blocking_io.specs.Sites.{IsUntouched};
+ghost use Rattle.blocking_io.specs.Blocks.{blocks_reached, PutsFront};
+ghost use Rattle.blocking_io.specs.Spots.{TurnsOut};
 ghost use Rattle.raw_io.specs.Transfers.{Breaks};
-ghost use Rattle.blocking_io.specs.Sites.{site, Keeps, MayTransfer, kind_at, IsUntouched};
-ghost use Rattle.blocking_io.specs.Blocks.{AreBlocks, blocks_reached, PutsFront};
-ghost use Rattle.raw_io.specs.Blocks.{Reads, Gives, Puts};
+ghost use Rattle.raw_io.specs.Blocks.{MayMove, Reads, Gives, Puts};
 
-use blocking_io::{
-    Reached, Request, Stop, Subsystem, ask_read, ask_write, clean_law, fronts_law, sessions_law,
-};
-use outside_traits::traits::{Packs, Sink};
+use blocking_io::{Reached, Request, Site, Stop, clean_law, fronts_law, sessions_law};
 
 /// How many of the `count` blocks of a request were done.
 fn blocks_done(reached: Reached, count: u32) -> u32
@@ -25,62 +21,34 @@ fn blocks_done(reached: Reached, count: u32) -> u32
 }
 
 /// Reads the blocks of a request, and gives them if all can be used. Answers how many come before the first one that can't be used.
-fn read_once<P: Packs, T: Sink>(
-    subsystem: &mut Subsystem,
-    request: Request,
-    into: &mut [u8],
-    packs: &mut P,
-    trace: &mut T,
-) -> Result<u32, Stop>
-    requires may { MayTransfer subsystem.old request.unit }
+fn read_once<S: Site>(site: &mut S, request: Request, into: &mut [u8]) -> Result<u32, Stop>
+    requires may { MayMove (S.at site.old).driver (asked request []) }
     requires reads { request.write ≡ false }
-    requires blocks { AreBlocks (kind_at subsystem.old.world request.unit) (asked request []) }
-    ensures reads { IfOk result (λ n. Reads (asked request []) n into.old into.new
-        (site P.tells P.held T.tells T.taken subsystem.old.world packs.old trace.old)
-        (site P.tells P.held T.tells T.taken subsystem.new.world packs.new trace.new)) }
-    ensures stops { OnErr result (IsTrue (P.tells packs.new) → HasTables (setup_at (site P.tells P.held T.tells T.taken subsystem.old.world packs.old trace.old))
-        → IsUntouched
-        (site P.tells P.held T.tells T.taken subsystem.old.world packs.old trace.old)
-        (site P.tells P.held T.tells T.taken subsystem.new.world packs.new trace.new)) }
-    ensures breaks { IfErr result (λ stop. Breaks true request.unit request.part stop
-        (site P.tells P.held T.tells T.taken subsystem.old.world packs.old trace.old)
-        (site P.tells P.held T.tells T.taken subsystem.new.world packs.new trace.new)) }
-    ensures keeps { Keeps P.tells P.faults T.tells T.faults subsystem.old subsystem.new packs.old packs.new trace.old trace.new (stop_in result) }
+    ensures turns { TurnsOut (λ n. Reads (asked request []) n into.old into.new) IsUntouched (Breaks true request.unit request.part) result (S.at site.old) (S.at site.new) }
+    ensures loans { S.loans site.new ≡ S.loans site.old }
 {
     sessions_law();
     fronts_law();
     clean_law();
-    subsystem.law();
-    let reached = ask_read(subsystem, 1, request, into, packs, trace)?;
+    site.law();
+    let reached = site.ask_read(1, request, into)?;
     Ok(blocks_done(reached, request.count))
 }
 
 /// Reads the blocks of a request, and gives those before the first one that can't be used. Answers how many they are. If there is such
 /// a block, the blocks before it are read once more, since a read that meets it gives nothing.
-pub(crate) fn get_blocks<P: Packs, T: Sink>(
-    subsystem: &mut Subsystem,
+pub(crate) fn get_blocks<S: Site>(
+    site: &mut S,
     request: Request,
     into: &mut [u8],
-    packs: &mut P,
-    trace: &mut T,
 ) -> Result<u32, Stop>
-    requires may { MayTransfer subsystem.old request.unit }
+    requires may { MayMove (S.at site.old).driver (asked request []) }
     requires reads { request.write ≡ false }
-    requires blocks { AreBlocks (kind_at subsystem.old.world request.unit) (asked request []) }
-    ensures gives { IfOk result (λ n. Gives (asked request []) n into.old into.new
-        (site P.tells P.held T.tells T.taken subsystem.old.world packs.old trace.old)
-        (site P.tells P.held T.tells T.taken subsystem.new.world packs.new trace.new)) }
-    ensures stops { OnErr result (IsTrue (P.tells packs.new) → HasTables (setup_at (site P.tells P.held T.tells T.taken subsystem.old.world packs.old trace.old))
-        → IsUntouched
-        (site P.tells P.held T.tells T.taken subsystem.old.world packs.old trace.old)
-        (site P.tells P.held T.tells T.taken subsystem.new.world packs.new trace.new)) }
-    ensures breaks { IfErr result (λ stop. Breaks true request.unit request.part stop
-        (site P.tells P.held T.tells T.taken subsystem.old.world packs.old trace.old)
-        (site P.tells P.held T.tells T.taken subsystem.new.world packs.new trace.new)) }
-    ensures keeps { Keeps P.tells P.faults T.tells T.faults subsystem.old subsystem.new packs.old packs.new trace.old trace.new (stop_in result) }
+    ensures turns { TurnsOut (λ n. Gives (asked request []) n into.old into.new) IsUntouched (Breaks true request.unit request.part) result (S.at site.old) (S.at site.new) }
+    ensures loans { S.loans site.new ≡ S.loans site.old }
 {
     sessions_law();
-    let first = read_once(subsystem, request, into, packs, trace)?;
+    let first = read_once(site, request, into)?;
     if first == request.count || first == 0 {
         return Ok(first);
     }
@@ -88,37 +56,21 @@ pub(crate) fn get_blocks<P: Packs, T: Sink>(
         count: first,
         ..request
     };
-    read_once(subsystem, fewer, into, packs, trace)?;
+    read_once(site, fewer, into)?;
     Ok(first)
 }
 
 /// Writes the blocks of a request. Answers how many come before the first one that can't be used; these were replaced.
-pub(crate) fn put_blocks<P: Packs, T: Sink>(
-    subsystem: &mut Subsystem,
-    request: Request,
-    from: &[u8],
-    packs: &mut P,
-    trace: &mut T,
-) -> Result<u32, Stop>
-    requires may { MayTransfer subsystem.old request.unit }
+pub(crate) fn put_blocks<S: Site>(site: &mut S, request: Request, from: &[u8]) -> Result<u32, Stop>
+    requires may { MayMove (S.at site.old).driver (asked request from.now) }
     requires writes { request.write ≡ true }
-    requires blocks { AreBlocks (kind_at subsystem.old.world request.unit) (asked request from.now) }
     requires size { length from.now ≡ 512 * request.count }
-    ensures puts { IfOk result (λ n. Puts (asked request from.now) n
-        (site P.tells P.held T.tells T.taken subsystem.old.world packs.old trace.old)
-        (site P.tells P.held T.tells T.taken subsystem.new.world packs.new trace.new)) }
-    ensures stops { OnErr result (IsTrue (P.tells packs.new) → HasTables (setup_at (site P.tells P.held T.tells T.taken subsystem.old.world packs.old trace.old))
-        → PutsFront (asked request from.now)
-        (site P.tells P.held T.tells T.taken subsystem.old.world packs.old trace.old)
-        (site P.tells P.held T.tells T.taken subsystem.new.world packs.new trace.new)) }
-    ensures breaks { IfErr result (λ stop. Breaks false request.unit request.part stop
-        (site P.tells P.held T.tells T.taken subsystem.old.world packs.old trace.old)
-        (site P.tells P.held T.tells T.taken subsystem.new.world packs.new trace.new)) }
-    ensures keeps { Keeps P.tells P.faults T.tells T.faults subsystem.old subsystem.new packs.old packs.new trace.old trace.new (stop_in result) }
+    ensures turns { TurnsOut (λ n. Puts (asked request from.now) n) (PutsFront (asked request from.now)) (Breaks false request.unit request.part) result (S.at site.old) (S.at site.new) }
+    ensures loans { S.loans site.new ≡ S.loans site.old }
 {
     sessions_law();
     fronts_law();
-    subsystem.law();
-    let reached = ask_write(subsystem, 1, request, from, packs, trace)?;
+    site.law();
+    let reached = site.ask_write(1, request, from)?;
     Ok(blocks_done(reached, request.count))
 }

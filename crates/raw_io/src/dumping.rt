@@ -1,22 +1,19 @@
 // Memory is dumped to the end of the partition for swapping.
-ghost use Rattle.std.specs.Prelude.{◌≡◌, ◌+◌, ◌-◌, ◌*◌, ◌<◌, ◌≤◌, ◌++◌, ◌↔◌, ℕ, false, IsTrue, IfOk, IfErr, OnErr, length, take, drop, replicate, Some, Err};
+ghost use Rattle.std.specs.Prelude.{◌≡◌, ◌+◌, ◌-◌, ◌*◌, ◌<◌, ◌≤◌, ◌++◌, ◌↔◌, false, IfOk, length, take, drop, replicate, Err};
 ghost use Rattle.partitions.specs.declared.Part.TheVariants.{B};
 ghost use Rattle.partitions.specs.Partitions.{size_of};
-ghost use Rattle.driver_laws.specs.declared.answers.outcome.Stop.{Stop};
-ghost use Rattle.driver_laws.specs.answers.Outcome.{stop_in};
-ghost use Rattle.driver_laws.specs.rules.Rest.{HasTables};
-ghost use Rattle.raw_io.specs.Transfers.{Breaks};
-ghost use Rattle.blocking_io.specs.FrontsPasses.{setup_at};
-ghost use Rattle.raw_io.specs.declared.fault.RawFault.TheVariants.{Outside, Unusable};
+ghost use Rattle.raw_io.specs.declared.fault.RawFault.TheVariants.{Outside};
 ghost use Rattle.driver_laws.specs.rules.Bytes.{blocks_for, dumped, dump_place};
-ghost use Rattle.blocking_io.specs.Sites.{site, Keeps, MayTransfer, kind_at};
-ghost use Rattle.raw_io.specs.Calls.{StopsAt, stop_of, done_by};
-ghost use Rattle.raw_io.specs.Pieces.{IsWritten, IsWholeOrOne, start_of, PutsPiece, StopsPiece, PutsRange};
+ghost use Rattle.blocking_io.specs.Sites.{MayTransfer, kind_at};
+ghost use Rattle.blocking_io.specs.Spots.{TurnsOut, spot};
+ghost use Rattle.raw_io.specs.Transfers.{Breaks};
+ghost use Rattle.raw_io.specs.Moves.{Comes, StopsFrom};
+ghost use Rattle.raw_io.specs.Pieces.{IsWritten, IsWholeOrOne, PutsPiece, StopsPiece, PutsRange};
 
 use crate::fault::RawFault;
 use crate::pieces::{Piece, piece_to_write};
 use crate::writing::write_piece;
-use blocking_io::{Stop, Subsystem, sessions_law};
+use blocking_io::{Outlet, Site, Stop, Subsystem, sessions_law};
 use outside_traits::traits::{Packs, Sink};
 use partitions::{Part, part_range};
 
@@ -53,62 +50,35 @@ fn lay_piece(buffer: &mut [u8], memory: &[u8], start: usize)
 
 /// Writes a piece of memory, filled up with zeros to whole blocks, from a place on, through a buffer for its blocks. Answers how many
 /// bytes come before the first block that can't be used.
-fn dump_piece<P: Packs, T: Sink>(
-    subsystem: &mut Subsystem,
+fn dump_piece<S: Site>(
+    site: &mut S,
     piece: Piece,
     memory: &[u8],
     start: usize,
     blocks: &mut [u8],
-    packs: &mut P,
-    trace: &mut T,
 ) -> Result<usize, Stop>
-    requires may { MayTransfer subsystem.old piece.request.unit }
-    requires piece { IsWritten (kind_at subsystem.old.world piece.request.unit) piece (take piece.size (drop start (dumped memory.now))) }
+    requires may { MayTransfer (S.at site.old).driver piece.request.unit }
+    requires piece { IsWritten (kind_at (S.at site.old).driver.world piece.request.unit) piece (take piece.size (drop start (dumped memory.now))) }
     requires whole { IsWholeOrOne piece }
     requires few { length memory.now ≤ 8388608 }
     requires inside { start + piece.size ≤ 512 * blocks_for (length memory.now) }
     requires room { piece.size ≤ length blocks.old }
-    ensures puts { IfOk result (λ size. PutsPiece piece size (take piece.size (drop start (dumped memory.now)))
-        (site P.tells P.held T.tells T.taken subsystem.old.world packs.old trace.old)
-        (site P.tells P.held T.tells T.taken subsystem.new.world packs.new trace.new)) }
-    ensures stops { OnErr result (IsTrue (P.tells packs.new) → HasTables (setup_at (site P.tells P.held T.tells T.taken subsystem.old.world packs.old trace.old))
-        → StopsPiece piece (take piece.size (drop start (dumped memory.now)))
-        (site P.tells P.held T.tells T.taken subsystem.old.world packs.old trace.old)
-        (site P.tells P.held T.tells T.taken subsystem.new.world packs.new trace.new)) }
-    ensures breaks { IfErr result (λ stop. Breaks false piece.request.unit piece.request.part stop
-        (site P.tells P.held T.tells T.taken subsystem.old.world packs.old trace.old)
-        (site P.tells P.held T.tells T.taken subsystem.new.world packs.new trace.new)) }
-    ensures keeps { Keeps P.tells P.faults T.tells T.faults subsystem.old subsystem.new packs.old packs.new trace.old trace.new (stop_in result) }
+    ensures turns { TurnsOut (λ size. PutsPiece piece size (take piece.size (drop start (dumped memory.now)))) (StopsPiece piece (take piece.size (drop start (dumped memory.now)))) (Breaks false piece.request.unit piece.request.part) result (S.at site.old) (S.at site.new) }
+    ensures loans { S.loans site.new ≡ S.loans site.old }
 {
     let part = &mut blocks[..piece.size];
     lay_piece(part, memory, start);
-    write_piece(subsystem, piece, part, packs, trace)
+    write_piece(site, piece, part)
 }
 
 /// Writes memory, filled up with zeros to whole blocks, to partition `b` from a place on. Answers how many bytes come before the first
 /// block that can't be used.
-fn dump_range<P: Packs, T: Sink>(
-    subsystem: &mut Subsystem,
-    unit: u8,
-    place: u64,
-    memory: &[u8],
-    packs: &mut P,
-    trace: &mut T,
-) -> Result<usize, Stop>
-    requires may { MayTransfer subsystem.old unit }
+fn dump_range<S: Site>(site: &mut S, unit: u8, place: u64, memory: &[u8]) -> Result<usize, Stop>
+    requires may { MayTransfer (S.at site.old).driver unit }
     requires few { length memory.now ≤ 8388608 }
-    requires inside { place + 512 * blocks_for (length memory.now) ≤ 512 * size_of (kind_at subsystem.old.world unit) B }
-    ensures puts { IfOk result (λ done. PutsRange unit B place done (dumped memory.now)
-        (site P.tells P.held T.tells T.taken subsystem.old.world packs.old trace.old)
-        (site P.tells P.held T.tells T.taken subsystem.new.world packs.new trace.new)) }
-    ensures stops { OnErr result (IsTrue (P.tells packs.new) → HasTables (setup_at (site P.tells P.held T.tells T.taken subsystem.old.world packs.old trace.old))
-        → StopsAt unit (start_of (site P.tells P.held T.tells T.taken subsystem.old.world packs.old trace.old) unit B) place (dumped memory.now)
-        (site P.tells P.held T.tells T.taken subsystem.old.world packs.old trace.old)
-        (site P.tells P.held T.tells T.taken subsystem.new.world packs.new trace.new)) }
-    ensures breaks { IfErr result (λ stop. Breaks false unit B stop
-        (site P.tells P.held T.tells T.taken subsystem.old.world packs.old trace.old)
-        (site P.tells P.held T.tells T.taken subsystem.new.world packs.new trace.new)) }
-    ensures keeps { Keeps P.tells P.faults T.tells T.faults subsystem.old subsystem.new packs.old packs.new trace.old trace.new (stop_in result) }
+    requires inside { place + 512 * blocks_for (length memory.now) ≤ 512 * size_of (kind_at (S.at site.old).driver.world unit) B }
+    ensures turns { TurnsOut (λ done. PutsRange unit B place done (dumped memory.now)) (StopsFrom unit B place (dumped memory.now)) (Breaks false unit B) result (S.at site.old) (S.at site.new) }
+    ensures loans { S.loans site.new ≡ S.loans site.old }
 {
     sessions_law();
     let mut blocks = [0; 65_024];
@@ -116,7 +86,7 @@ fn dump_range<P: Packs, T: Sink>(
     let mut done = 0;
     while done < size {
         let piece = piece_to_write(unit, Part::B, place + done as u64, size - done);
-        let written = dump_piece(subsystem, piece, memory, done, &mut blocks, packs, trace)?;
+        let written = dump_piece(site, piece, memory, done, &mut blocks)?;
         done += written;
         if written < piece.size {
             return Ok(done);
@@ -141,35 +111,22 @@ pub fn dump<P: Packs, T: Sink>(
     ensures outside { (result ≡ Err Outside) ↔ (8388608 < length memory.now) }
     ensures nothing { result ≡ Err Outside → (subsystem.new ≡ subsystem.old) × (packs.new ≡ packs.old) × (trace.new ≡ trace.old) }
     ensures count { IfOk result (λ count. count ≡ blocks_for (length memory.now)) }
-    ensures puts { (done : ℕ) → done_by (512 * blocks_for (length memory.now)) result ≡ Some done
-        → PutsRange unit B (dump_place (kind_at subsystem.old.world unit) (length memory.now)) done (dumped memory.now)
-        (site P.tells P.held T.tells T.taken subsystem.old.world packs.old trace.old)
-        (site P.tells P.held T.tells T.taken subsystem.new.world packs.new trace.new) }
-    ensures unusable { (done : ℕ) → result ≡ Err (Unusable done) → done < 512 * blocks_for (length memory.now) }
-    ensures stops { (stop : Stop) → stop_of result ≡ Some stop
-        → IsTrue (P.tells packs.new) → HasTables (setup_at (site P.tells P.held T.tells T.taken subsystem.old.world packs.old trace.old))
-        → StopsAt unit (start_of (site P.tells P.held T.tells T.taken subsystem.old.world packs.old trace.old) unit B)
-        (dump_place (kind_at subsystem.old.world unit) (length memory.now)) (dumped memory.now)
-        (site P.tells P.held T.tells T.taken subsystem.old.world packs.old trace.old)
-        (site P.tells P.held T.tells T.taken subsystem.new.world packs.new trace.new) }
-    ensures breaks { (stop : Stop) → stop_of result ≡ Some stop → Breaks false unit B stop
-        (site P.tells P.held T.tells T.taken subsystem.old.world packs.old trace.old)
-        (site P.tells P.held T.tells T.taken subsystem.new.world packs.new trace.new) }
-    ensures keeps { Keeps P.tells P.faults T.tells T.faults subsystem.old subsystem.new packs.old packs.new trace.old trace.new (stop_of result) }
+    ensures comes { Comes false unit B (512 * blocks_for (length memory.now)) (λ done. PutsRange unit B (dump_place (kind_at subsystem.old.world unit) (length memory.now)) done (dumped memory.now))
+        (StopsFrom unit B (dump_place (kind_at subsystem.old.world unit) (length memory.now)) (dumped memory.now)) result
+        (spot P.tells P.held P.faults T.tells T.taken T.faults subsystem.old packs.old trace.old)
+        (spot P.tells P.held P.faults T.tells T.taken T.faults subsystem.new packs.new trace.new) }
 {
     if memory.len() > MEMORY {
         return Err(RawFault::Outside);
     }
     let count = ((memory.len() + 511) / 512) as u32;
     let first = part_range(subsystem.kind(unit), Part::B).size - count;
-    let done = dump_range(
+    let mut site = Outlet {
         subsystem,
-        unit,
-        512 * u64::from(first),
-        memory,
         packs,
         trace,
-    )?;
+    };
+    let done = dump_range(&mut site, unit, 512 * u64::from(first), memory)?;
     if done < 512 * count as usize {
         return Err(RawFault::Unusable { done: done as u64 });
     }

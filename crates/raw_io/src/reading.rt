@@ -1,82 +1,57 @@
 // A range of a partition is read.
-ghost use Rattle.std.specs.Prelude.{◌≡◌, ◌+◌, ◌*◌, ◌^◌, ◌<◌, ◌≤◌, ◌↔◌, ℕ, [], false, true, IsTrue, IfOk, IfErr, OnErr, length, Some, Err};
+ghost use Rattle.std.specs.Prelude.{◌≡◌, ◌+◌, ◌*◌, ◌^◌, ◌<◌, ◌≤◌, ◌↔◌, [], false, true, length, Err};
 ghost use Rattle.partitions.specs.Partitions.{size_of};
-ghost use Rattle.driver_laws.specs.declared.answers.outcome.Stop.{Stop};
-ghost use Rattle.driver_laws.specs.answers.Outcome.{stop_in};
-ghost use Rattle.blocking_io.specs.FrontsPasses.{asked, setup_at};
-ghost use Rattle.driver_laws.specs.rules.Rest.{HasTables};
+ghost use Rattle.blocking_io.specs.FrontsPasses.{asked};
+ghost use Rattle.blocking_io.specs.Sites.{MayTransfer, kind_at, IsUntouched};
+ghost use Rattle.blocking_io.specs.Spots.{TurnsOut, spot};
 ghost use Rattle.raw_io.specs.Transfers.{Breaks};
-ghost use Rattle.raw_io.specs.declared.fault.RawFault.TheVariants.{Outside, Unusable};
+ghost use Rattle.raw_io.specs.declared.fault.RawFault.TheVariants.{Outside};
 ghost use Rattle.driver_laws.specs.rules.Bytes.{IsOutside};
-ghost use Rattle.blocking_io.specs.Sites.{site, Keeps, MayTransfer, kind_at, IsUntouched};
-ghost use Rattle.blocking_io.specs.Blocks.{AreBlocks};
-ghost use Rattle.raw_io.specs.Calls.{stop_of, done_by};
+ghost use Rattle.raw_io.specs.Blocks.{MayMove};
+ghost use Rattle.raw_io.specs.Moves.{Comes};
 ghost use Rattle.raw_io.specs.Pieces.{IsCut, GivesPiece, GivesRange};
 
 use crate::blocks::get_blocks;
 use crate::fault::RawFault;
 use crate::pieces::{Piece, bytes_among, is_outside, piece_to_read};
-use blocking_io::{Stop, Subsystem, sessions_law};
+use blocking_io::{Outlet, Site, Stop, Subsystem, sessions_law};
 use outside_traits::traits::{Packs, Sink};
 use partitions::Part;
 
 /// Reads a piece of a range through a buffer for its blocks, and gives the bytes before the first block that can't be used: how many.
-fn read_piece<P: Packs, T: Sink>(
-    subsystem: &mut Subsystem,
+fn read_piece<S: Site>(
+    site: &mut S,
     piece: Piece,
     blocks: &mut [u8],
     into: &mut [u8],
-    packs: &mut P,
-    trace: &mut T,
 ) -> Result<usize, Stop>
-    requires may { MayTransfer subsystem.old piece.request.unit }
+    requires may { MayMove (S.at site.old).driver (asked piece.request []) }
     requires reads { piece.request.write ≡ false }
-    requires inside { AreBlocks (kind_at subsystem.old.world piece.request.unit) (asked piece.request []) }
     requires cut { IsCut piece }
     requires room { 512 * piece.request.count ≤ length blocks.old }
     requires fits { piece.size ≤ length into.old }
-    ensures gives { IfOk result (λ size. GivesPiece piece size into.old into.new
-        (site P.tells P.held T.tells T.taken subsystem.old.world packs.old trace.old)
-        (site P.tells P.held T.tells T.taken subsystem.new.world packs.new trace.new)) }
-    ensures stops { OnErr result (IsTrue (P.tells packs.new) → HasTables (setup_at (site P.tells P.held T.tells T.taken subsystem.old.world packs.old trace.old))
-        → IsUntouched
-        (site P.tells P.held T.tells T.taken subsystem.old.world packs.old trace.old)
-        (site P.tells P.held T.tells T.taken subsystem.new.world packs.new trace.new)) }
-    ensures breaks { IfErr result (λ stop. Breaks true piece.request.unit piece.request.part stop
-        (site P.tells P.held T.tells T.taken subsystem.old.world packs.old trace.old)
-        (site P.tells P.held T.tells T.taken subsystem.new.world packs.new trace.new)) }
-    ensures keeps { Keeps P.tells P.faults T.tells T.faults subsystem.old subsystem.new packs.old packs.new trace.old trace.new (stop_in result) }
+    ensures turns { TurnsOut (λ size. GivesPiece piece size into.old into.new) IsUntouched (Breaks true piece.request.unit piece.request.part) result (S.at site.old) (S.at site.new) }
+    ensures loans { S.loans site.new ≡ S.loans site.old }
 {
-    let read = get_blocks(subsystem, piece.request, blocks, packs, trace)?;
+    let read = get_blocks(site, piece.request, blocks)?;
     let size = bytes_among(read, piece.skip, piece.size);
     into[..size].copy_from_slice(&blocks[piece.skip..piece.skip + size]);
     Ok(size)
 }
 
 /// Reads a range, piece by piece, and gives the bytes before the first block that can't be used: how many.
-fn read_range<P: Packs, T: Sink>(
-    subsystem: &mut Subsystem,
+fn read_range<S: Site>(
+    site: &mut S,
     unit: u8,
     part: Part,
     at: u64,
     into: &mut [u8],
-    packs: &mut P,
-    trace: &mut T,
 ) -> Result<usize, Stop>
-    requires may { MayTransfer subsystem.old unit }
+    requires may { MayTransfer (S.at site.old).driver unit }
     requires at { at < 2 ^ 40 }
-    requires inside { at + length into.old ≤ 512 * size_of (kind_at subsystem.old.world unit) part }
-    ensures gives { IfOk result (λ done. GivesRange unit part at done into.old into.new
-        (site P.tells P.held T.tells T.taken subsystem.old.world packs.old trace.old)
-        (site P.tells P.held T.tells T.taken subsystem.new.world packs.new trace.new)) }
-    ensures stops { OnErr result (IsTrue (P.tells packs.new) → HasTables (setup_at (site P.tells P.held T.tells T.taken subsystem.old.world packs.old trace.old))
-        → IsUntouched
-        (site P.tells P.held T.tells T.taken subsystem.old.world packs.old trace.old)
-        (site P.tells P.held T.tells T.taken subsystem.new.world packs.new trace.new)) }
-    ensures breaks { IfErr result (λ stop. Breaks true unit part stop
-        (site P.tells P.held T.tells T.taken subsystem.old.world packs.old trace.old)
-        (site P.tells P.held T.tells T.taken subsystem.new.world packs.new trace.new)) }
-    ensures keeps { Keeps P.tells P.faults T.tells T.faults subsystem.old subsystem.new packs.old packs.new trace.old trace.new (stop_in result) }
+    requires inside { at + length into.old ≤ 512 * size_of (kind_at (S.at site.old).driver.world unit) part }
+    ensures turns { TurnsOut (λ done. GivesRange unit part at done into.old into.new) IsUntouched (Breaks true unit part) result (S.at site.old) (S.at site.new) }
+    ensures loans { S.loans site.new ≡ S.loans site.old }
 {
     sessions_law();
     let mut blocks = [0; 65_024];
@@ -84,7 +59,7 @@ fn read_range<P: Packs, T: Sink>(
     while done < into.len() {
         let piece = piece_to_read(unit, part, at + done as u64, into.len() - done);
         let (_, rest) = into.split_at_mut(done);
-        let size = read_piece(subsystem, piece, &mut blocks, rest, packs, trace)?;
+        let size = read_piece(site, piece, &mut blocks, rest)?;
         done += size;
         if size < piece.size {
             return Ok(done);
@@ -114,23 +89,19 @@ pub fn raw_read<P: Packs, T: Sink>(
     requires at { at < 2 ^ 40 }
     ensures outside { (result ≡ Err Outside) ↔ IsOutside (kind_at subsystem.old.world unit) part at (length into.old) }
     ensures nothing { result ≡ Err Outside → (subsystem.new ≡ subsystem.old) × (packs.new ≡ packs.old) × (trace.new ≡ trace.old) × (into.new ≡ into.old) }
-    ensures gives { (done : ℕ) → done_by (length into.old) result ≡ Some done → GivesRange unit part at done into.old into.new
-        (site P.tells P.held T.tells T.taken subsystem.old.world packs.old trace.old)
-        (site P.tells P.held T.tells T.taken subsystem.new.world packs.new trace.new) }
-    ensures unusable { (done : ℕ) → result ≡ Err (Unusable done) → done < length into.old }
-    ensures stops { (stop : Stop) → stop_of result ≡ Some stop → IsTrue (P.tells packs.new) → HasTables (setup_at (site P.tells P.held T.tells T.taken subsystem.old.world packs.old trace.old))
-        → IsUntouched
-        (site P.tells P.held T.tells T.taken subsystem.old.world packs.old trace.old)
-        (site P.tells P.held T.tells T.taken subsystem.new.world packs.new trace.new) }
-    ensures breaks { (stop : Stop) → stop_of result ≡ Some stop → Breaks true unit part stop
-        (site P.tells P.held T.tells T.taken subsystem.old.world packs.old trace.old)
-        (site P.tells P.held T.tells T.taken subsystem.new.world packs.new trace.new) }
-    ensures keeps { Keeps P.tells P.faults T.tells T.faults subsystem.old subsystem.new packs.old packs.new trace.old trace.new (stop_of result) }
+    ensures comes { Comes true unit part (length into.old) (λ done. GivesRange unit part at done into.old into.new) IsUntouched result
+        (spot P.tells P.held P.faults T.tells T.taken T.faults subsystem.old packs.old trace.old)
+        (spot P.tells P.held P.faults T.tells T.taken T.faults subsystem.new packs.new trace.new) }
 {
     if is_outside(subsystem.kind(unit), part, at, into.len()) {
         return Err(RawFault::Outside);
     }
-    let done = read_range(subsystem, unit, part, at, into, packs, trace)?;
+    let mut site = Outlet {
+        subsystem,
+        packs,
+        trace,
+    };
+    let done = read_range(&mut site, unit, part, at, into)?;
     if done < into.len() {
         return Err(RawFault::Unusable { done: done as u64 });
     }

@@ -19,4 +19,4 @@ returns g c =
     reads_by _ _ _ _ _ _ _ _ _ _ _ _ _ h.later h.never_again h.same c.in_ok-subsystem.subsystem c.raw_read-answer.new.subsystem c.raw_read-answer.new.packs c.raw_read-answer.new.trace
     c.requires.target.unit_is h.attached c.raw_read-answer.result _ c.handed_on.ensures
     (λ e. not_outside c.args.target.part c.args.target.at (length c.args.into.now) c.requires.target.unit_is h.attached c.requires.inside (k.outside.0 e))
-    c.args.into.now c.raw_read-answer.new.into k.gives k.unusable k.stops k.breaks k.keeps
+    c.args.into.now c.raw_read-answer.new.into k.comes

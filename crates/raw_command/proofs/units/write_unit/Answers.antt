@@ -19,4 +19,4 @@ returns g c =
     writes_by _ _ _ _ _ _ _ _ _ _ _ _ _ h.later h.never_again h.same c.in_ok-subsystem.subsystem c.raw_write-answer.new.subsystem c.raw_write-answer.new.packs c.raw_write-answer.new.trace
     c.requires.target.unit_is h.attached c.raw_write-answer.result _ c.handed_on.ensures
     (λ e. not_outside c.args.target.part c.args.target.at (length c.args.from.now) c.requires.target.unit_is h.attached c.requires.inside (k.outside.0 e))
-    c.args.from.now k.puts k.unusable k.stops k.breaks k.keeps
+    c.args.from.now k.comes

@@ -1,11 +1,11 @@
-use Rattle.std.proofs.Common.{None, Some, ◌≢◌, inl, inr, ℕ, ◌<◌, ◌≤◌, ◌+◌, [], refl, sym, subst, arith, true}
+use Rattle.std.proofs.Common.{◌≢◌, inl, inr, ℕ, ◌<◌, ◌≤◌, ◌+◌, [], sym, subst, arith, true, refl}
 use Rattle.partitions.specs.Partitions.{size_of}
-use Rattle.blocking_io.specs.FrontsPasses.{asked, Stage}
-use Rattle.blocking_io.specs.Sites.{site}
-use Rattle.blocking_io.proofs.Sites.{on_err, kind_stays, keeps_err, keeps_join}
+use Rattle.blocking_io.specs.FrontsPasses.{asked}
+use Rattle.blocking_io.specs.Spots.{Spot, seen}
+use Rattle.blocking_io.proofs.Sites.{kind_stays}
+use Rattle.blocking_io.proofs.Spots.{keeps_join, may_again, still, stopped}
+use Rattle.raw_io.proofs.Moving.{stopped_behind}
 use Rattle.raw_io.proofs.ReadPieces.{gives_first, gives_again, untouched_again}
-use Rattle.raw_io.specs.Transfers.{Breaks}
-use Rattle.raw_io.proofs.Breaks.{breaks_join, if_err}
 use Rattle.raw_io.proofs.blocks.get_blocks.Goals as goal
 use Rattle.raw_io.proofs.blocks.get_blocks.Goals.{then-first-request-via-then-first-request, then-first-request-via-else-first-request+then-first-eq0}
 
@@ -15,97 +15,71 @@ some_of n ne = grind (arith, ne)
 fewer : (m n : ℕ) → m ≤ n → m ≢ n → m < n
 fewer m n le ne = grind (arith, le, ne)
 
-pub returns-then-first-request-clause-gives : goal.returns-then-first-request-clause-gives
-returns-then-first-request-clause-gives g c =
-    let old : Stage = site g.P.Packs.tells g.P.Packs.held g.T.Sink.tells g.T.Sink.taken c.args.subsystem.now.world c.args.packs.now c.args.trace.now in
-    let new : Stage = site g.P.Packs.tells g.P.Packs.held g.T.Sink.tells g.T.Sink.taken c.read_once.new.subsystem.world c.read_once.new.packs c.read_once.new.trace in
-    gives_first (asked c.args.request []) c.in_ok-first.first c.args.into.now c.read_once.new.into old new
-    (elim c.then-first-request.branch [
-      | then-first-request-via-then-first-request w ↦ inl w.if-first-request.true
-      | then-first-request-via-else-first-request+then-first-eq0 w ↦ inr w.if-first-eq0.true
-    ]) c.requires.blocks.some c.requires.blocks.last c.in_ok-first.ensures.reads
+pub returns-in_err-first-clause-turns : goal.returns-in_err-first-clause-turns
+returns-in_err-first-clause-turns g c =
+    let m = c.in_err-first.ensures.turns in
+    stopped c.from_residual.result c.in_err-first.field-0.0 c.from_residual.ensures.1 m.left m.stopped m.keeps
 
-pub read_once-requires-2-clause-blocks : goal.read_once-requires-2-clause-blocks
-read_once-requires-2-clause-blocks g c =
-    let old : Stage = site g.P.Packs.tells g.P.Packs.held g.T.Sink.tells g.T.Sink.taken c.args.subsystem.now.world c.args.packs.now c.args.trace.now in
-    let mid : Stage = site g.P.Packs.tells g.P.Packs.held g.T.Sink.tells g.T.Sink.taken c.read_once.new.subsystem.world c.read_once.new.packs c.read_once.new.trace in
-    let few = c.in_ok-first.ensures.reads.few in
-    let most = c.requires.blocks.few in
-    let inside = c.requires.blocks.inside in
+pub returns-then-first-request-clause-turns : goal.returns-then-first-request-clause-turns
+returns-then-first-request-clause-turns g c =
+    let old : Spot = g.S.Site.at c.args.site.now in
+    let new : Spot = g.S.Site.at c.read_once.new.site in
+    let m = c.in_ok-first.ensures.turns in
     record {
-      id = c.requires.blocks.id;
-      some = some_of c.in_ok-first.first c.if-first-eq0.false;
-      few = omega (arith, few, most);
-      last = c.requires.blocks.last;
-      offset = c.requires.blocks.offset;
-      inside = subst (λ kind. c.args.request.block + c.in_ok-first.first ≤ size_of kind c.args.request.part)
-          (sym (kind_stays old mid c.args.request.unit c.in_ok-first.ensures.reads.transfers.goes.setup c.requires.may.unit_is
-          (c.in_ok-first.ensures.keeps.units refl c.args.request.unit c.requires.may.unit_is)))
-          (omega (arith, few, inside));
+      done = gives_first (asked c.args.request []) c.in_ok-first.first c.args.into.now c.read_once.new.into (seen old) (seen new)
+          (elim c.then-first-request.branch [
+            | then-first-request-via-then-first-request w ↦ inl w.if-first-request.true
+            | then-first-request-via-else-first-request+then-first-eq0 w ↦ inr w.if-first-eq0.true
+          ]) c.requires.may.blocks.some c.requires.may.blocks.last m.done;
+      left = tt;
+      stopped = tt;
+      keeps = m.keeps;
     }
-
-pub returns-in_err-read_once-clause-stops : goal.returns-in_err-read_once-clause-stops
-returns-in_err-read_once-clause-stops g c =
-    let old : Stage = site g.P.Packs.tells g.P.Packs.held g.T.Sink.tells g.T.Sink.taken c.args.subsystem.now.world c.args.packs.now c.args.trace.now in
-    let mid : Stage = site g.P.Packs.tells g.P.Packs.held g.T.Sink.tells g.T.Sink.taken c.read_once.new.subsystem.world c.read_once.new.packs c.read_once.new.trace in
-    let new : Stage = site g.P.Packs.tells g.P.Packs.held g.T.Sink.tells g.T.Sink.taken c.read_once-2.new.subsystem.world c.read_once-2.new.packs c.read_once-2.new.trace in
-    on_err c.from_residual-in_err-read_once.result _
-    (untouched_again (asked c.args.request []) c.in_ok-first.first c.args.into.now c.read_once.new.into old mid new c.in_err-read_once.ensures.keeps.never_again c.in_ok-first.ensures.reads
-    c.in_err-read_once.ensures.stops)
-
-pub returns-clause-gives : goal.returns-clause-gives
-returns-clause-gives g c =
-    let old : Stage = site g.P.Packs.tells g.P.Packs.held g.T.Sink.tells g.T.Sink.taken c.args.subsystem.now.world c.args.packs.now c.args.trace.now in
-    let mid : Stage = site g.P.Packs.tells g.P.Packs.held g.T.Sink.tells g.T.Sink.taken c.read_once.new.subsystem.world c.read_once.new.packs c.read_once.new.trace in
-    let new : Stage = site g.P.Packs.tells g.P.Packs.held g.T.Sink.tells g.T.Sink.taken c.read_once-2.new.subsystem.world c.read_once-2.new.packs c.read_once-2.new.trace in
-    gives_again c.sessions_law.ensures.join (asked c.args.request []) c.in_ok-first.first c.in_ok-read_once.field-0 c.args.into.now c.read_once.new.into c.read_once-2.new.into old mid new
-    (fewer c.in_ok-first.first c.args.request.count c.in_ok-first.ensures.reads.few c.if-first-request.false) c.requires.blocks.last c.requires.may.unit_is
-    (c.in_ok-first.ensures.keeps.units refl c.args.request.unit c.requires.may.unit_is)
-    (record { packs = c.in_ok-read_once.ensures.keeps.never_again; trace = c.in_ok-read_once.ensures.keeps.never_again_trace })
-    c.in_ok-first.ensures.reads c.in_ok-read_once.ensures.reads
-
-pub returns-in_err-first-clause-keeps : goal.returns-in_err-first-clause-keeps
-returns-in_err-first-clause-keeps g c =
-    let keeps = c.in_err-first.ensures.keeps in
-    keeps_err g.P.Packs.tells g.P.Packs.faults g.T.Sink.tells g.T.Sink.faults c.args.subsystem.now c.read_once.new.subsystem c.args.packs.now c.read_once.new.packs c.args.trace.now c.read_once.new.trace
-    c.from_residual.result c.in_err-first.field-0.0 c.from_residual.ensures.1 keeps.outstanding keeps.never_again keeps.never_again_trace keeps.causes
-
-pub returns-then-first-request-clause-keeps : goal.returns-then-first-request-clause-keeps
-returns-then-first-request-clause-keeps g c =
-    c.in_ok-first.ensures.keeps
 
 pub read_once-requires-2-clause-may : goal.read_once-requires-2-clause-may
 read_once-requires-2-clause-may g c =
+    let old : Spot = g.S.Site.at c.args.site.now in
+    let mid : Spot = g.S.Site.at c.read_once.new.site in
+    let m = c.in_ok-first.ensures.turns in
+    let may = may_again c.requires.may.may m.keeps in
+    let few = m.done.few in
+    let most = c.requires.may.blocks.few in
+    let inside = c.requires.may.blocks.inside in
     record {
-      ready = c.in_ok-first.ensures.keeps.ready refl;
-      room = subst (λ n. 1 ≤ n) (sym c.in_ok-first.ensures.keeps.outstanding) c.requires.may.room;
-      unit_is = c.in_ok-first.ensures.keeps.units refl c.args.request.unit c.requires.may.unit_is;
+      may = may;
+      blocks = record {
+        id = c.requires.may.blocks.id;
+        some = some_of c.in_ok-first.first c.if-first-eq0.false;
+        few = omega (arith, few, most);
+        last = c.requires.may.blocks.last;
+        offset = c.requires.may.blocks.offset;
+        inside = subst (λ kind. c.args.request.block + c.in_ok-first.first ≤ size_of kind c.args.request.part)
+            (sym (kind_stays (seen old) (seen mid) c.args.request.unit m.done.transfers.goes.setup c.requires.may.may.unit_is may.unit_is)) (omega (arith, few, inside));
+      };
     }
 
-pub returns-in_err-read_once-clause-keeps : goal.returns-in_err-read_once-clause-keeps
-returns-in_err-read_once-clause-keeps g c =
-    let joined = keeps_join g.P.Packs.tells g.P.Packs.faults g.T.Sink.tells g.T.Sink.faults c.args.subsystem.now c.read_once.new.subsystem c.read_once-2.new.subsystem c.args.packs.now c.read_once.new.packs
-    c.read_once-2.new.packs c.args.trace.now c.read_once.new.trace c.read_once-2.new.trace (Some c.in_err-read_once.field-0.0) c.in_ok-first.ensures.keeps c.in_err-read_once.ensures.keeps in
-    keeps_err g.P.Packs.tells g.P.Packs.faults g.T.Sink.tells g.T.Sink.faults c.args.subsystem.now c.read_once-2.new.subsystem c.args.packs.now c.read_once-2.new.packs c.args.trace.now c.read_once-2.new.trace
-    c.from_residual-in_err-read_once.result c.in_err-read_once.field-0.0 c.from_residual-in_err-read_once.ensures.1 joined.outstanding joined.never_again joined.never_again_trace joined.causes
+pub returns-in_err-read_once-clause-turns : goal.returns-in_err-read_once-clause-turns
+returns-in_err-read_once-clause-turns g c =
+    let old : Spot = g.S.Site.at c.args.site.now in
+    let mid : Spot = g.S.Site.at c.read_once.new.site in
+    let new : Spot = g.S.Site.at c.read_once-2.new.site in
+    let m = c.in_ok-first.ensures.turns in
+    let next = c.in_err-read_once.ensures.turns in
+    stopped_behind c.sessions_law.ensures.stops c.from_residual-in_err-read_once.result c.in_err-read_once.field-0.0 c.from_residual-in_err-read_once.ensures.1 m.done.transfers m.keeps
+    (untouched_again (asked c.args.request []) c.in_ok-first.first c.args.into.now c.read_once.new.into (seen old) (seen mid) (seen new) next.keeps.never_again m.done next.left) next.stopped next.keeps
 
-pub returns-clause-keeps : goal.returns-clause-keeps
-returns-clause-keeps g c =
-    keeps_join g.P.Packs.tells g.P.Packs.faults g.T.Sink.tells g.T.Sink.faults c.args.subsystem.now c.read_once.new.subsystem c.read_once-2.new.subsystem c.args.packs.now c.read_once.new.packs
-    c.read_once-2.new.packs c.args.trace.now c.read_once.new.trace c.read_once-2.new.trace None c.in_ok-first.ensures.keeps c.in_ok-read_once.ensures.keeps
-
-pub returns-in_err-first-clause-breaks : goal.returns-in_err-first-clause-breaks
-returns-in_err-first-clause-breaks g c =
-    let old : Stage = site g.P.Packs.tells g.P.Packs.held g.T.Sink.tells g.T.Sink.taken c.args.subsystem.now.world c.args.packs.now c.args.trace.now in
-    let new : Stage = site g.P.Packs.tells g.P.Packs.held g.T.Sink.tells g.T.Sink.taken c.read_once.new.subsystem.world c.read_once.new.packs c.read_once.new.trace in
-    if_err c.from_residual.result c.in_err-first.field-0.0 (λ stop. Breaks true c.args.request.unit c.args.request.part stop old new) c.from_residual.ensures.1
-    c.in_err-first.ensures.breaks
-
-pub returns-in_err-read_once-clause-breaks : goal.returns-in_err-read_once-clause-breaks
-returns-in_err-read_once-clause-breaks g c =
-    let old : Stage = site g.P.Packs.tells g.P.Packs.held g.T.Sink.tells g.T.Sink.taken c.args.subsystem.now.world c.args.packs.now c.args.trace.now in
-    let mid : Stage = site g.P.Packs.tells g.P.Packs.held g.T.Sink.tells g.T.Sink.taken c.read_once.new.subsystem.world c.read_once.new.packs c.read_once.new.trace in
-    let new : Stage = site g.P.Packs.tells g.P.Packs.held g.T.Sink.tells g.T.Sink.taken c.read_once-2.new.subsystem.world c.read_once-2.new.packs c.read_once-2.new.trace in
-    if_err c.from_residual-in_err-read_once.result c.in_err-read_once.field-0.0 (λ stop. Breaks true c.args.request.unit c.args.request.part stop old new) c.from_residual-in_err-read_once.ensures.1
-    (breaks_join c.sessions_law.ensures.stops true c.args.request.unit c.args.request.part c.in_err-read_once.field-0.0 old mid new c.in_ok-first.ensures.reads.transfers c.in_err-read_once.ensures.breaks
-    (record { packs = c.in_err-read_once.ensures.keeps.never_again; trace = c.in_err-read_once.ensures.keeps.never_again_trace }))
+pub returns-clause-turns : goal.returns-clause-turns
+returns-clause-turns g c =
+    let old : Spot = g.S.Site.at c.args.site.now in
+    let mid : Spot = g.S.Site.at c.read_once.new.site in
+    let new : Spot = g.S.Site.at c.read_once-2.new.site in
+    let m = c.in_ok-first.ensures.turns in
+    let next = c.in_ok-read_once.ensures.turns in
+    record {
+      done = gives_again c.sessions_law.ensures.join (asked c.args.request []) c.in_ok-first.first c.in_ok-read_once.field-0 c.args.into.now c.read_once.new.into c.read_once-2.new.into (seen old) (seen mid) (seen new)
+          (fewer c.in_ok-first.first c.args.request.count m.done.few c.if-first-request.false) c.requires.may.blocks.last c.requires.may.may.unit_is
+          (m.keeps.units refl c.args.request.unit c.requires.may.may.unit_is) (still next.keeps) m.done next.done;
+      left = tt;
+      stopped = tt;
+      keeps = keeps_join m.keeps next.keeps;
+    }
