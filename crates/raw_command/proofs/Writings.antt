@@ -1,6 +1,7 @@
 -- WHAT IS WRITTEN, by the two cases.
 use Rattle.std.proofs.Common.{◌≡◌, ◌⊎◌, inl, inr, ℕ, ◌+◌, ◌-◌, ◌*◌, ◌/◌, ◌<◌, ◌≤◌, Bool, List, Option, length, length-append, replicate, ap, sym, subst, ◌∙◌, arith}
 use Rattle.std.proofs.lemmas.List.{length-replicate}
+use Rattle.outside_traits.specs.declared.traits.PackCall.{PackCall}
 use Rattle.pack_geometry.specs.declared.DriveKind.{DriveKind}
 use Rattle.pack_geometry.specs.Pack.{Pack}
 use Rattle.partitions.specs.declared.Part.TheVariants.{B}
@@ -47,15 +48,15 @@ raw_placed w t e is = subst IsPlaced e is
 pub dump_placed : (w : Writing) (unit : ℕ) (kind : DriveKind) → w ≡ Dump unit kind → IsPlaced w → unit < 32
 dump_placed w unit kind e is = subst IsPlaced e is
 
-module _ {Q O : Type 0} {holds : Q → Bool} {held : Q → ℕ → Pack} {packs_faults : Q → ℕ} {tells : O → Bool} {taken : O → List ℕ} {faults : O → ℕ} {packs packs' : Q} {trace trace' : O}
+module _ {Q O : Type 0} {holds : Q → Bool} {held : Q → ℕ → Pack} {packs_faults : Q → ℕ} {failed_at : Q → PackCall} {tells : O → Bool} {taken : O → List ℕ} {faults : O → ℕ} {packs packs' : Q} {trace trace' : O}
     {why : Option TransferFault} where
-  pub put_raw : (w : Writing) (t : Target) (from : List ℕ) → w ≡ Raw t → WritesUnit holds held packs_faults tells taken faults t from packs packs' trace trace' why
-      → WritesUnit holds held packs_faults tells taken faults (target_for w from) (bytes_for w from) packs packs' trace trace' why
+  pub put_raw : (w : Writing) (t : Target) (from : List ℕ) → w ≡ Raw t → WritesUnit holds held packs_faults failed_at tells taken faults t from packs packs' trace trace' why
+      → WritesUnit holds held packs_faults failed_at tells taken faults (target_for w from) (bytes_for w from) packs packs' trace trace' why
   put_raw w t from e is =
-      subst (λ (x : Writing). WritesUnit holds held packs_faults tells taken faults (target_for x from) (bytes_for x from) packs packs' trace trace' why) (sym e) is
+      subst (λ (x : Writing). WritesUnit holds held packs_faults failed_at tells taken faults (target_for x from) (bytes_for x from) packs packs' trace trace' why) (sym e) is
 
   pub put_dump : (w : Writing) (unit : ℕ) (kind : DriveKind) (from : List ℕ) → w ≡ Dump unit kind
-      → WritesUnit holds held packs_faults tells taken faults (record { unit = unit; kind = kind; part = B; at = dump_place kind (length from) }) (dumped from) packs packs' trace trace' why
-      → WritesUnit holds held packs_faults tells taken faults (target_for w from) (bytes_for w from) packs packs' trace trace' why
+      → WritesUnit holds held packs_faults failed_at tells taken faults (record { unit = unit; kind = kind; part = B; at = dump_place kind (length from) }) (dumped from) packs packs' trace trace' why
+      → WritesUnit holds held packs_faults failed_at tells taken faults (target_for w from) (bytes_for w from) packs packs' trace trace' why
   put_dump w unit kind from e is =
-      subst (λ (x : Writing). WritesUnit holds held packs_faults tells taken faults (target_for x from) (bytes_for x from) packs packs' trace trace' why) (sym e) is
+      subst (λ (x : Writing). WritesUnit holds held packs_faults failed_at tells taken faults (target_for x from) (bytes_for x from) packs packs' trace trace' why) (sym e) is
