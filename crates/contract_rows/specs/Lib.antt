@@ -2,6 +2,7 @@ pub mod Checks
 pub mod Player
 pub mod Memory
 pub mod Drives
+pub mod Entries
 pub mod Machine
 pub mod Slots
 pub mod Bytes

@@ -1,9 +1,9 @@
 -- What wrong bodies of the driver would do, refused by what its machine does.
-use Rattle.std.specs.Prelude.{ℕ, ◌≡◌, ◌≢◌, ◌<◌, Bool, true, [], ◌∷◌, ◌++◌, Option, Some, None}
+use Rattle.std.specs.Prelude.{ℕ, ◌≡◌, ◌≢◌, ◌<◌, Bool, true, false, [], ◌∷◌, ◌++◌, Option, Some, None}
 use Rattle.drive_registers.specs.Codes.{offset_field}
 use Rattle.hardware_table.specs.declared.Moved.{Moved}
-use Rattle.hardware_table.specs.declared.Moved.TheVariants.{Hard}
-use Rattle.hardware_table.specs.Adapter.{AdapterState}
+use Rattle.hardware_table.specs.declared.Moved.TheVariants.{Clean, Hard}
+use Rattle.hardware_table.specs.Adapter.{AdapterState, next_block}
 use Rattle.partitions.specs.declared.Admission.TheVariants.{Outside}
 use Rattle.pack_geometry.specs.TableSpelling.{Table}
 use Rattle.transfer_engine.specs.State.{TransferState, segment_of}
@@ -13,12 +13,13 @@ use Rattle.trace_replay.specs.declared.requests.answers.AnswerKind.TheVariants.{
 use Rattle.trace_replay.specs.declared.requests.answers.Cause.TheVariants as cause
 use Rattle.driver_machine.specs.declared.Made.{Made}
 use Rattle.driver_machine.specs.declared.Task.{Task}
-use Rattle.driver_machine.specs.declared.Task.TheVariants.{Judge}
-use Rattle.driver_machine.specs.declared.Phase.TheVariants.{Waiting}
-use Rattle.driver_machine.specs.World.{World, UnitView, AdapterView, Held}
-use Rattle.driver_machine.specs.Acts.{Try, Rtc, End, Of, Taken, no_more_waits, after, commanded}
+use Rattle.driver_machine.specs.declared.Task.TheVariants.{Judge, Steps}
+use Rattle.driver_machine.specs.declared.Phase.TheVariants.{Waiting, Due}
+use Rattle.trace_replay.specs.requests.Requests.{Request}
+use Rattle.driver_machine.specs.World.{World, UnitView, AdapterView, Held, adapter_of, adapter_at}
+use Rattle.driver_machine.specs.Acts.{Act, Scene, Attn, Intr, Repair, Refuse, Try, Rtc, End, Of, Taken, no_more_waits, after, commanded, effect}
 use Rattle.driver_machine.specs.Due.{judged, deed_for, next_of, try_of}
-use Rattle.driver_machine.specs.Events.{can_arrive, lowest, refusal_by}
+use Rattle.driver_machine.specs.Events.{can_arrive, lowest, refusal_by, followed, adapter_start, data_interrupt}
 
 -- a request ends at the first failure of a sector
 abbrev pub FirstFailureIsFinal : Type 0
@@ -66,3 +67,35 @@ FramesBeforePartition = (room : Bool) → refusal_by Outside room ≡ Some (Erro
 abbrev pub FirstBlocksLoaded : Type 0
 FirstBlocksLoaded = (u : ℕ) (h : Held) (write : Bool) (t : TransferState) (a : AdapterState) → t.index ≡ None → 0 < t.done
     → (commanded u h write (segment_of t) a).skip ≡ 0 → ⊥
+
+-- an attention is taken, and the steps of the retry begin anew
+abbrev pub StepsForgotten : Type 0
+StepsForgotten = (line u p taken : ℕ) (s : Scene) → 0 < taken → (effect line u p (Attn taken) s).unit.phase ≡ Due (Steps 0) → ⊥
+
+-- a block was repaired, and is judged again
+abbrev pub RepairedBlockJudgedAgain : Type 0
+RepairedBlockJudgedAgain = (line u p moved at pattern : ℕ) (s : Scene) → (effect line u p (Repair moved at pattern) s).unit.phase ≡ Due (Judge moved Clean) → ⊥
+
+-- the data interrupt is taken, and the adapter stays busy, or its completion up,
+abbrev pub AdapterLeftBusy : Type 0
+AdapterLeftBusy = (line u p moved : ℕ) (last : Moved) (s : Scene) → (effect line u p (Intr moved last) s).adapter.state.busy ≡ true → ⊥
+
+abbrev pub CompletionLeftUp : Type 0
+CompletionLeftUp = (line u p moved : ℕ) (last : Moved) (s : Scene) → (effect line u p (Intr moved last) s).adapter.state.completion ≡ true → ⊥
+
+-- or the request's buffer is the bus's still
+abbrev pub BufferLeftOnTheBus : Type 0
+BufferLeftOnTheBus = (line u p moved : ℕ) (last : Moved) (s : Scene) → (effect line u p (Intr moved last) s).held.on_bus ≡ true → ⊥
+
+-- the sector that follows others is told as the first block of its transfer
+abbrev pub EachSectorTheFirstBlock : Type 0
+EachSectorTheFirstBlock = (a : AdapterState) → 0 < a.moved → next_block a ≡ a.block → ⊥
+
+-- a data interrupt is taken before the completion
+abbrev pub InterruptBeforeTheCompletion : Type 0
+InterruptBeforeTheCompletion = (w : World) (line a : ℕ) → (adapter_at w a).state.completion ≡ false → data_interrupt line a w ≢ [] → ⊥
+
+-- a request is refused, and the adapter is not started behind it
+abbrev pub RefusalStopsTheAdapter : Type 0
+RefusalStopsTheAdapter = (w : World) (line : ℕ) (r : Request) (kind : AnswerKind) → adapter_start line (adapter_of r.unit) (after w (Refuse line r kind)) ≢ []
+    → followed (Refuse line r kind ∷ []) (adapter_start line (adapter_of r.unit)) w ≡ Refuse line r kind ∷ [] → ⊥

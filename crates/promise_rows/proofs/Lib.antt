@@ -11,3 +11,4 @@ mod Cache
 mod Cached
 mod Shown
 mod Waited
+pub mod Saying

@@ -14,3 +14,4 @@ pub mod Cache
 pub mod Cached
 pub mod Caller
 pub mod Waited
+pub mod Saying

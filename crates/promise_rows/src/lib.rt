@@ -10,6 +10,7 @@ pub mod transfers;
 ghost use Rattle.promise_rows.specs.Playing.{AlwaysAFault, AnswersKeptBack, BlockBeforeItsEvent, BlockBehindAStop, BlockOfNoUnit, NoiseLineUncounted, ShortLastBlockWhole};
 ghost use Rattle.promise_rows.specs.Naming.{LaterUnitNamed, FittingLengthNamed, FirstEventUntold, OtherRunByOtherTables, ReadsLengthen, NotAsLongAsWritten, MarkGoneBehindAFailure};
 ghost use Rattle.promise_rows.specs.Stopping.{AnswerBeforeItsLine, AnswersDroppedAtARead, TextDropped, TextSentTwice, TwoBlocksAhead};
+ghost use Rattle.promise_rows.specs.Saying.{AnswersBeforeLines, TextNotSaid, LinesDropped, RestNotSent};
 ghost use Rattle.promise_rows.specs.Strikes.{FailedByFewStrikes};
 ghost use Rattle.promise_rows.specs.Headers.{HeadersAreAsTheDriveHasThem};
 ghost use Rattle.promise_rows.specs.Others.{DoneWhereTheTextWasNotTaken, FaultThatPrints, HandedInPacksPlayed, ListOfAnotherTable, PlayedAsRefusedByTheTool};
@@ -68,6 +69,15 @@ pub fn stop_rows()
     ensures text_dropped_at_a_stop { TextDropped }
     ensures text_sent_twice { TextSentTwice }
     ensures answers_dropped_at_a_read { AnswersDroppedAtARead }
+{}
+
+/// What holds of text that is kept and sent: lines go out before answers, no text or line is lost, and behind a failure of the packs the
+/// rest is sent.
+pub fn saying_rows()
+    ensures answers_before_lines { AnswersBeforeLines }
+    ensures text_not_said { TextNotSaid }
+    ensures lines_dropped { LinesDropped }
+    ensures rest_not_sent { RestNotSent }
 {}
 
 /// What holds of the words of the command line, which name a command before its number; of statuses, each of which belongs to one end;

@@ -1,0 +1,19 @@
+-- What wrong bodies would leave of the entries of noise and of a cache, refused by the words of their contracts.
+use Rattle.std.specs.Prelude.{ℕ, ◌≡◌, ◌≢◌, true, false, List, [], ◌∷◌, Option, Some}
+use Rattle.live_noise.specs.declared.entries.Entry.{Entry}
+use Rattle.live_noise.specs.Book.{number_of, with_entry}
+use Rattle.driver_laws.specs.declared.rules.cached.Entry.{Entry as Cached}
+use Rattle.driver_laws.specs.rules.Entries.{State, changed_in_front}
+
+-- noise of a sector that was armed later strikes first
+abbrev pub NewNoiseInFrontOfItsSector : Type 0
+NewNoiseInFrontOfItsSector = (first later : Entry) → first ≢ later → number_of first ≡ number_of later → with_entry later (first ∷ []) ≡ later ∷ first ∷ [] → ⊥
+
+-- a block of the cache was changed, and the entry has the bytes that it had, though they are others,
+abbrev pub ChangedBytesHeldBack : Type 0
+ChangedBytesHeldBack = (e : Cached) (bytes : List ℕ) (s : State) → s.entries ≡ e ∷ [] → bytes ≢ e.bytes
+    → (changed_in_front e.unit e.block bytes s).entries ≡ record e { changed = true } ∷ [] → ⊥
+
+-- or it does not count as changed
+abbrev pub ChangeNotNoted : Type 0
+ChangeNotNoted = (e : Cached) (bytes : List ℕ) (s : State) → s.entries ≡ e ∷ [] → (changed_in_front e.unit e.block bytes s).entries ≡ record e { bytes = bytes; changed = false } ∷ [] → ⊥
