@@ -1,3 +1,3 @@
-mod Narrow
+pub mod Narrow
 mod Wrongs
 mod Wells

@@ -26,15 +26,15 @@ narrow_said other = refl
 
 narrow_lines : (lines : List Line) → map narrowed_line (map as_line lines) ≡ lines
 narrow_lines [] = refl
-narrow_lines (line ∷ lines) i = record { number = line.number; statement = narrow_said line.statement i } ∷ narrow_lines lines i
+narrow_lines (line ∷ lines) = λ i. record { number = line.number; statement = narrow_said line.statement i } ∷ narrow_lines lines i
 
 said_back : (s : Said) → IsOfCache s → as_said (narrowed s) ≡ s
-said_back s of =
-    ap (λ (x : Said). as_said (narrowed x)) of.1 ∙ ap as_said (narrow_said of.0) ∙ sym of.1
+said_back s cached =
+    ap (λ (x : Said). as_said (narrowed x)) cached.1 ∙ ap as_said (narrow_said cached.0) ∙ sym cached.1
 
 lines_back : (known : Known) (lines : List Numbered) → AreWellIn Cached known (map (λ line. line.statement) lines) → map as_line (map narrowed_line lines) ≡ lines
 lines_back known [] w = refl
-lines_back known (line ∷ lines) w i =
+lines_back known (line ∷ lines) w = λ i.
     record { number = line.number; statement = said_back line.statement w.0.1 i } ∷ lines_back (learned known line.statement) lines w.1 i
 
 -- WHAT IS STORED
@@ -47,7 +47,7 @@ narrow_seen text other = refl
 
 narrow_stored : (text : List ℕ) (lines : List Kept) → map narrowed_line (map (seen text) lines) ≡ map narrowed_line lines
 narrow_stored text [] = refl
-narrow_stored text (line ∷ lines) i = record { number = line.number; statement = narrow_seen text line.statement i } ∷ narrow_stored text lines i
+narrow_stored text (line ∷ lines) = λ i. record { number = line.number; statement = narrow_seen text line.statement i } ∷ narrow_stored text lines i
 
 pub spelled_narrow : (bytes text : List ℕ) (stored : List Kept) (lines : List Line) (count : ℕ) → grammar.Spells Cached bytes (map (seen text) stored) count → lines ≡ map narrowed_line stored → Spells bytes lines count
 spelled_narrow bytes text stored lines count s is =
