@@ -1,6 +1,7 @@
 -- A script that is too long is refused by its front.
 use Rattle.std.proofs.Common.{◌≡◌, ◌⊎◌, inl, inr, ℕ, ◌+◌, ◌<◌, ◌≤◌, List, [], ◌++◌, length, subst, sym, ap, ◌∙◌, arith, append-nil, length-append, Result, Ok, Err, IfErr, IsErrAnd}
 use Rattle.script_lines.specs.Script.{Script}
+use Rattle.script_lines.specs.declared.dialect.Dialect.TheVariants.{Cached}
 use Rattle.script_lines.specs.declared.kinds.ScriptKind.{ScriptKind}
 use Rattle.script_lines.specs.declared.kinds.ScriptKind.TheVariants.{ScriptLong}
 use Rattle.script_lines.specs.Words.{all_verbs}
@@ -40,7 +41,7 @@ pub play_by_front : ByFront (play.IsRefused all_verbs)
 play_by_front = by_front (λ bytes number kind. play.FirstFault all_verbs (lines_of bytes) number kind)
 
 pub cached_by_front : ByFront cached.IsRefused
-cached_by_front = by_front (λ bytes number kind. cached.FirstFault (lines_of bytes) number kind)
+cached_by_front = by_front (λ bytes number kind. play.FirstFault Cached (lines_of bytes) number kind)
 
 -- bytes that have a fault mean no script
 abbrev pub NoFault : (List ℕ → Script → Type 0) → (List ℕ → ℕ → ScriptKind → Type 0) → Type 0

@@ -6,7 +6,7 @@ use Rattle.outside_traits.specs.Causes.{Rose}
 use Rattle.trace_replay.specs.Script.{Script}
 use Rattle.script_reader.specs.declared.cached.statement.Line.{Line}
 use Rattle.script_reader.specs.cached.Scripts.{IsRefused}
-use Rattle.script_reader.proofs.cached.ReadingLaws.{one_script}
+use Rattle.script_reader.proofs.cached.Narrow.{one_script}
 use Rattle.script_commands.specs.Faults.{IsBefore, IsLongFor, IsPlaying}
 use Rattle.script_reader.specs.cached.Meaning.{meaning_of}
 use Rattle.cached_run.specs.Theorem.{CachedLeaves}

@@ -33,6 +33,6 @@ pub done_is_that_run : {source_tells : Bool} {left left_after : List ℕ} {tells
     → IsThatRun lines count old new out_tells said said' trace_tells taken taken'
 done_is_that_run {source_tells} {left} {left_after} {tells} {old} {new} {out_tells} {said} {said'} {trace_tells} {taken} {taken'} h lines count source told spelled =
     let same : (h.lines ≡ lines) × (h.count ≡ count) = one_script all_verbs left h.lines lines h.count count (h.spelled source) spelled in
-    that_run lines count old new out_tells said said' trace_tells taken taken' (bytes_have_one_run all_verbs left lines count old spelled)
+    that_run lines count old new out_tells said said' trace_tells taken taken' (bytes_have_one_run left lines count old spelled)
     (subst (λ (ls : List Numbered). Plays (meaning ls count) old new out_tells said said' trace_tells taken taken') same.0
     (subst (λ (n : ℕ). Plays (meaning h.lines n) old new out_tells said said' trace_tells taken taken') same.1 (h.plays told)))

@@ -5,7 +5,7 @@ use Rattle.script_lines.specs.declared.fault.LineFault.{LineFault}
 use Rattle.script_lines.specs.declared.fault.LineFault.TheVariants.{Memory, Kind}
 use Rattle.script_lines.specs.declared.kinds.ScriptKind.{ScriptKind}
 use Rattle.script_lines.specs.Fields.{and_then, changed}
-use Rattle.script_lines.specs.Forms.{Form, mapped, none_left, whole, Parses, said}
+use Rattle.script_lines.specs.Forms.{Form, mapped, none_left, whole, Parses}
 use Rattle.script_lines.specs.Struck.{Answers}
 use Rattle.script_lines.proofs.Results.{same_Ok, same_Err, err-ok}
 

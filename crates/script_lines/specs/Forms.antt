@@ -186,7 +186,3 @@ too_late known verb = if declares verb && known.later then Some LateUnit else if
 abbrev pub unless : {A : Type 0} → Option ScriptKind → Result A ScriptKind → Result A ScriptKind
 unless (Some kind) result = Err kind
 unless None result = result
-
--- what a line with this word says
-abbrev pub said : Known → Verb → List (List ℕ) → Result Said ScriptKind
-said known verb fields = unless (too_late known verb) (whole (form_of known verb) fields)

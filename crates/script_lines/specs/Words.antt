@@ -11,6 +11,8 @@ use Rattle.drive_registers.specs.declared.OffsetCode.{OffsetCode}
 use Rattle.drive_registers.specs.declared.OffsetCode.TheVariants.{Plus400, Minus400, Plus800, Minus800, Plus1200, Minus1200}
 use Rattle.trace_replay.specs.FaultKind.{FaultKind}
 use Rattle.trace_replay.specs.FaultKind.TheVariants.{Seek, Opi, Dte, Hcrc, Late}
+use Rattle.script_lines.specs.declared.dialect.Dialect.{Dialect}
+use Rattle.script_lines.specs.declared.dialect.Dialect.TheVariants.{Events}
 use Rattle.script_lines.specs.declared.verbs.Verb.{Verb}
 use Rattle.script_lines.specs.declared.verbs.Verb.TheVariants as verbs
 
@@ -34,11 +36,15 @@ verb_word verbs.Lock = codes "lock"
 verb_word verbs.Unlock = codes "unlock"
 verb_word verbs.Drain = codes "drain"
 
--- every word
-abbrev pub all_verbs : List Verb
-all_verbs =
+-- the words of a script of events
+abbrev pub event_verbs : List Verb
+event_verbs =
     verbs.Unit ∷ verbs.Read ∷ verbs.Write ∷ verbs.Arrive ∷ verbs.Turn ∷ verbs.Move ∷ verbs.Attend
     ∷ verbs.Noise ∷ verbs.Fault ∷ verbs.Offline ∷ verbs.Online ∷ verbs.Lock ∷ verbs.Unlock ∷ verbs.Drain ∷ []
+
+-- the dialect that has all these
+abbrev pub all_verbs : Dialect
+all_verbs = Events
 
 -- the first seven of them, and the others
 abbrev pub first_verbs : List Verb

@@ -1,11 +1,14 @@
 ghost use Rattle.std.specs.Prelude.{◌≡◌, ◌≢◌, ◌∷◌, ℕ, List, IfOk, MatchResult, ◌≤◌, codes};
 ghost use Rattle.script_lines.specs.Fields.{changed, number_field, digits_field};
 ghost use Rattle.script_lines.specs.Struck.{struck_as, Answers};
-ghost use Rattle.script_lines.specs.Forms.{gives, ends, mapped, next, field, option, both_form, start_form, last_form, tail_form, content_form, span_form, unit_form, read_form, write_form, turn_form, noise_form, fault_form, form_of, unit_number_form, adapter_form, of_unit, of_adapter, Parses, none_left, whole, too_late, said};
+ghost use Rattle.script_lines.specs.Forms.{gives, ends, mapped, next, field, option, both_form, start_form, last_form, tail_form, content_form, span_form, unit_form, read_form, write_form, turn_form, noise_form, fault_form, form_of, unit_number_form, adapter_form, of_unit, of_adapter, Parses, none_left, whole, too_late};
+ghost use Rattle.script_lines.specs.Dialects.{said};
 ghost use Rattle.script_lines.specs.Knowing.{known_in};
 ghost use Rattle.script_lines.specs.declared.statement.Span.{Span};
 ghost use Rattle.script_lines.specs.Renamed.{content_by, read_of};
 
+use crate::cached::cached_fields;
+use crate::dialect::Dialect;
 use crate::fault::LineFault;
 use crate::held::Held;
 use crate::known::Known;
@@ -186,7 +189,7 @@ fn noise_span(fields: &mut Fields) -> Result<NoiseSpan, ScriptKind>
     }
 }
 
-fn unit_line(known: &Known, fields: &mut Fields) -> Result<Read, ScriptKind>
+pub(crate) fn unit_line(known: &Known, fields: &mut Fields) -> Result<Read, ScriptKind>
     ensures { (span : Span) → Parses (mapped (read_of span) (unit_form (known_in known.now))) fields.old result fields.new }
 {
     let unit = new_unit(known, fields)?;
@@ -320,7 +323,7 @@ fn too_late(known: &Known, verb: Verb) -> Option<ScriptKind>
 }
 
 /// What was read, if no field is left.
-fn ended(read: Read, fields: &mut Fields) -> Result<Read, LineFault>
+pub(crate) fn ended(read: Read, fields: &mut Fields) -> Result<Read, LineFault>
     ensures { Answers result (none_left (read, fields.old)) }
 {
     match fields.next() {
@@ -390,15 +393,19 @@ fn all_fields(
 /// Reads what a line with this word says. Otherwise answers the kind of the line's first fault, or that there was no memory.
 pub fn said(
     alloc: Global,
+    dialect: Dialect,
     known: &Known,
     verb: Verb,
     span: Span,
     fields: &mut Fields,
 ) -> Result<Read, LineFault>
-    ensures { Answers result (changed (read_of span) (said (known_in known.now) verb fields.old)) }
+    ensures { Answers result (changed (read_of span) (said dialect (known_in known.now) verb fields.old)) }
 {
-    match too_late(known, verb) {
-        Some(kind) => Err(LineFault::Kind(kind)),
-        None => all_fields(alloc, known, verb, span, fields),
+    if let Some(kind) = too_late(known, verb) {
+        return Err(LineFault::Kind(kind));
+    }
+    match dialect {
+        Dialect::Events => all_fields(alloc, known, verb, span, fields),
+        Dialect::Cached => cached_fields(known, verb, span, fields),
     }
 }

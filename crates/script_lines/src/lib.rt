@@ -13,6 +13,8 @@
 //! Only tested, in `hpsim_rows`: worked values, in addition to their proofs.
 #![tactic(auto)]
 
+mod cached;
+mod dialect;
 mod fault;
 mod fields;
 mod forms;
@@ -26,6 +28,7 @@ mod statement;
 mod verbs;
 mod words;
 
+pub use dialect::Dialect;
 pub use fault::LineFault;
 pub use fields::{
     byte_field, check_digits, count_field, need, number_field, place_field, seq_field,

@@ -1,9 +1,11 @@
 ghost use Rattle.std.specs.Prelude.{◌≡◌};
 ghost use Rattle.std.specs.Str.{bytes_eq};
 ghost use Rattle.script_lines.specs.Fields.{some_or, kind_field, part_field, offset_field, fault_field};
-ghost use Rattle.script_lines.specs.Words.{named, verb_word, all_verbs, first_verbs, later_verbs, offsets, faults};
+ghost use Rattle.script_lines.specs.Dialects.{cached_word, cached_verbs, word_of, verbs_of};
+ghost use Rattle.script_lines.specs.Words.{named, verb_word, event_verbs, first_verbs, later_verbs, offsets, faults};
 ghost use Rattle.trace_replay.specs.Text.{offset_word, fault_word};
 
+use crate::dialect::Dialect;
 use crate::kinds::ScriptKind;
 use crate::verbs::Verb;
 use drive_registers::OffsetCode;
@@ -64,14 +66,42 @@ fn later_verb(word: &[u8]) -> Option<Verb>
     }
 }
 
-/// Reads the word at the front of a line. `Word` if it is not one of them.
-pub fn verb(word: &[u8]) -> Result<Verb, ScriptKind>
-    ensures { result ≡ some_or ScriptKind.Word (named verb_word all_verbs word.now) }
+/// The word at the front of a line of a script of events.
+fn event_verb(word: &[u8]) -> Option<Verb>
+    ensures { result ≡ named verb_word event_verbs word.now }
 {
     match first_verb(word) {
-        Some(verb) => Ok(verb),
-        None => later_verb(word).ok_or(ScriptKind::Word),
+        Some(verb) => Some(verb),
+        None => later_verb(word),
     }
+}
+
+/// The word at the front of a line of a script of the cache.
+fn cached_verb(word: &[u8]) -> Option<Verb>
+    ensures { result ≡ named cached_word cached_verbs word.now }
+{
+    if is_word(word, b"unit".as_slice()) {
+        Some(Verb::Unit)
+    } else if is_word(word, b"read".as_slice()) {
+        Some(Verb::Read)
+    } else if is_word(word, b"write".as_slice()) {
+        Some(Verb::Write)
+    } else if is_word(word, b"sync".as_slice()) {
+        Some(Verb::Drain)
+    } else {
+        None
+    }
+}
+
+/// Reads the word at the front of a line. `Word` if the dialect has no such word.
+pub fn verb(dialect: Dialect, word: &[u8]) -> Result<Verb, ScriptKind>
+    ensures { result ≡ some_or ScriptKind.Word (named (word_of dialect) (verbs_of dialect) word.now) }
+{
+    let verb = match dialect {
+        Dialect::Events => event_verb(word),
+        Dialect::Cached => cached_verb(word),
+    };
+    verb.ok_or(ScriptKind::Word)
 }
 
 /// Reads a kind of drive. `Word` if the field names none.

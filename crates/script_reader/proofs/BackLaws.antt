@@ -32,12 +32,13 @@ use Rattle.script_lines.specs.declared.verbs.Verb.{Verb}
 use Rattle.script_lines.specs.declared.verbs.Verb.TheVariants as verbs
 use Rattle.script_lines.specs.Fields.{and_then, some_or}
 use Rattle.script_reader.specs.Formed.{IsDeclared, IsAsked, IsWritten, IsSpan, IsInRange, IsWell, AreWell, learned}
-use Rattle.script_lines.specs.Forms.{none_left, whole, form_of, unless, said}
+use Rattle.script_lines.specs.Forms.{none_left, whole, form_of, unless}
+use Rattle.script_lines.specs.Dialects.{said}
 use Rattle.script_reader.specs.Grammar.{entry, is_comment, line_says, SayTheRest, Spells}
 use Rattle.script_lines.specs.Known.{Known, Said, Numbered, verb_of, known_of}
 use Rattle.script_reader.specs.Lines.{lines_of, without_cr}
 use Rattle.script_reader.specs.Printing.{number, start_fields, tail_fields, content_fields, span_fields, fields_of, spaced, line_text, text_of, numbered}
-use Rattle.script_lines.specs.Words.{named, verb_word, all_verbs, part_word}
+use Rattle.script_lines.specs.Words.{named, verb_word, all_verbs, event_verbs, part_word}
 use Rattle.script_lines.specs.Text.{offset_word, fault_word}
 use Rattle.script_reader.proofs.FormLaws.{form_back, last_fields}
 use Rattle.script_lines.proofs.KnownLaws.{known_more}
@@ -281,7 +282,7 @@ line_fits known s w =
     omega (arith, e, verb_wide (verb_of s), all_wide known s w)
 
 -- ONE LINE
-named_back : (verb : Verb) → named verb_word all_verbs (verb_word verb) ≡ Some verb
+named_back : (verb : Verb) → named verb_word event_verbs (verb_word verb) ≡ Some verb
 named_back verbs.Unit = refl
 named_back other = refl
 
@@ -293,14 +294,14 @@ if_no : {X : Type 0} (t : Bool) (x y : X) → t ≡ false → (if t then x else 
 if_no true x y e = absurd (false≢true (sym e))
 if_no false x y e = refl
 
-said_back : (known : Known) (s : Said) → IsWell known s → said known (verb_of s) (fields_of s) ≡ Ok s
+said_back : (known : Known) (s : Said) → IsWell known s → said all_verbs known (verb_of s) (fields_of s) ≡ Ok s
 said_back known s w =
     ap (λ (o : Option ScriptKind). unless o (whole (form_of known (verb_of s)) (fields_of s))) w.in_time
     ∙ ap (λ (r : Result (Said × List (List ℕ)) ScriptKind). and_then r none_left) (form_back known s w.in_range)
 
 entry_back : (known : Known) (s : Said) → IsWell known s → entry all_verbs known (verb_word (verb_of s) ∷ fields_of s) ≡ Ok (Some s)
 entry_back known s w =
-    ap (λ (o : Option Verb). and_then (some_or Word o) (λ verb. and_then (said known verb (fields_of s)) (λ x. Ok (Some x)))) (named_back (verb_of s))
+    ap (λ (o : Option Verb). and_then (some_or Word o) (λ verb. and_then (said all_verbs known verb (fields_of s)) (λ x. Ok (Some x)))) (named_back (verb_of s))
     ∙ ap (λ (r : Result Said ScriptKind). and_then {B = Option Said} r (λ x. Ok (Some x))) (said_back known s w)
 
 line_back : (known : Known) (n : ℕ) (s : Said) → n ≤ 1000000 → IsWell known s → line_says all_verbs known n (line_text s) ≡ Ok (Some s)

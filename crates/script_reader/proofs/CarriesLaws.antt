@@ -14,10 +14,13 @@ use Rattle.script_lines.specs.declared.statement.Content.TheVariants as contents
 use Rattle.script_lines.specs.declared.statement.Request.{Request}
 use Rattle.script_lines.specs.declared.statement.Statement.TheVariants as says
 use Rattle.script_lines.specs.declared.verbs.Verb.{Verb}
+use Rattle.script_lines.specs.declared.dialect.Dialect.{Dialect}
+use Rattle.script_lines.specs.declared.dialect.Dialect.TheVariants.{Events, Cached}
 use Rattle.script_lines.specs.declared.verbs.Verb.TheVariants as verbs
 use Rattle.script_lines.specs.Fields.{some_or, number_field, kind_field, part_field, fault_field, count_field, byte_field, seq_field, digits_field}
 use Rattle.script_lines.specs.Known.{new_unit_field, unit_field, id_field, Known, Said}
-use Rattle.script_lines.specs.Forms.{Form, gives, next, field, whole, none_left, content_by, content_form, start_form, tail_form, span_form, places_form, write_form, form_of, unit_number_form, adapter_form, unless, too_late, said}
+use Rattle.script_lines.specs.Forms.{Form, gives, next, field, whole, none_left, content_by, content_form, start_form, tail_form, span_form, places_form, write_form, form_of, unit_number_form, adapter_form, unless, too_late}
+use Rattle.script_lines.specs.Dialects.{blocks_form, fill_form, cached_form, form_in, said, word_of, verbs_of}
 use Rattle.script_reader.specs.Grammar.{entry, is_comment, line_says}
 use Rattle.script_lines.specs.Words.{named, verb_word}
 use Rattle.script_lines.proofs.Results.{same_Ok, err-ok, then_ok}
@@ -170,15 +173,28 @@ verb_carries known verbs.Lock fields p e = gives_next Free (unit_number_form kno
 verb_carries known verbs.Unlock fields p e = gives_next Free (unit_number_form known) _ (λ u. gives_it Free (says.Unlock u) (λ d. tt)) fields p.0 p.1 e (get_or fields 6 [])
 verb_carries known verbs.Drain fields p e = gives_it Free says.Drain (λ d. tt) fields p.0 p.1 e (get_or fields 6 [])
 
+-- in a script of the cache no write has digits
+cached_carries : (known : Known) (verb : Verb) (fields : List (List ℕ)) (p : Said × List (List ℕ)) → cached_form known verb fields ≡ Ok p → Carries (get_or fields 6 []) p.0
+cached_carries known verbs.Unit fields p e = verb_carries known verbs.Unit fields p e
+cached_carries known verbs.Read fields p e = gives_next Free (blocks_form known) _ (λ r. gives_it Free (says.Read r) (λ d. tt)) fields p.0 p.1 e (get_or fields 6 [])
+cached_carries known verbs.Write fields p e =
+    gives_next Free (blocks_form known) _ (λ r. gives_next Free fill_form _ (λ b. gives_it Free (says.Write r (contents.Fill b)) (λ d. tt))) fields p.0 p.1 e (get_or fields 6 [])
+cached_carries known verbs.Drain fields p e = verb_carries known verbs.Drain fields p e
+cached_carries known other fields p e = absurd (err-ok Word p e)
+
+form_carries_in : (dialect : Dialect) (known : Known) (verb : Verb) (fields : List (List ℕ)) (p : Said × List (List ℕ)) → form_in dialect known verb fields ≡ Ok p → Carries (get_or fields 6 []) p.0
+form_carries_in Events known verb fields p e = verb_carries known verb fields p e
+form_carries_in Cached known verb fields p e = cached_carries known verb fields p e
+
 pub whole_ok : (p : Said × List (List ℕ)) (s : Said) → none_left p ≡ Ok s → p.0 ≡ s
 whole_ok (a, []) s e = same_Ok a s e
 whole_ok (a, text ∷ fields) s e = absurd (err-ok Word s e)
 
-said_carries : (known : Known) (verb : Verb) (fields : List (List ℕ)) (s : Said) → said known verb fields ≡ Ok s → Carries (get_or fields 6 []) s
-said_carries known verb fields s e =
-    let few = unless_ok (too_late known verb) (whole (form_of known verb) fields) s e in
-    let found = then_ok (form_of known verb fields) none_left s few in
-    subst (Carries (get_or fields 6 [])) (whole_ok found.0 s found.2) (verb_carries known verb fields found.0 found.1)
+said_carries : (dialect : Dialect) (known : Known) (verb : Verb) (fields : List (List ℕ)) (s : Said) → said dialect known verb fields ≡ Ok s → Carries (get_or fields 6 []) s
+said_carries dialect known verb fields s e =
+    let few = unless_ok (too_late known verb) (whole (form_in dialect known verb) fields) s e in
+    let found = then_ok (form_in dialect known verb fields) none_left s few in
+    subst (Carries (get_or fields 6 [])) (whole_ok found.0 s found.2) (form_carries_in dialect known verb fields found.0 found.1)
 
 pub same_Some : (x y : Said) → ◌≡◌ {A = Option Said} (Some x) (Some y) → x ≡ y
 same_Some x y e = cc
@@ -186,19 +202,19 @@ same_Some x y e = cc
 pub none-some : (y : Said) → ◌≡◌ {A = Option Said} None (Some y) → ⊥
 none-some y e = cc
 
-entry_carries : (played : List Verb) (known : Known) (fields : List (List ℕ)) (s : Said) → entry played known fields ≡ Ok (Some s) → Carries (get_or fields 7 []) s
-entry_carries played known [] s e = absurd (none-some s (same_Ok None (Some s) e))
-entry_carries played known (word ∷ fields) s e =
-    let verb = then_ok (some_or Word (named verb_word played word)) _ (Some s) e in
-    let found = then_ok (said known verb.0 fields) (λ x. Ok (Some x)) (Some s) verb.2 in
-    subst (Carries (get_or fields 6 [])) (same_Some found.0 s (same_Ok (Some found.0) (Some s) found.2)) (said_carries known verb.0 fields found.0 found.1)
+entry_carries : (dialect : Dialect) (known : Known) (fields : List (List ℕ)) (s : Said) → entry dialect known fields ≡ Ok (Some s) → Carries (get_or fields 7 []) s
+entry_carries dialect known [] s e = absurd (none-some s (same_Ok None (Some s) e))
+entry_carries dialect known (word ∷ fields) s e =
+    let verb = then_ok (some_or Word (named (word_of dialect) (verbs_of dialect) word)) _ (Some s) e in
+    let found = then_ok (said dialect known verb.0 fields) (λ x. Ok (Some x)) (Some s) verb.2 in
+    subst (Carries (get_or fields 6 [])) (same_Some found.0 s (same_Ok (Some found.0) (Some s) found.2)) (said_carries dialect known verb.0 fields found.0 found.1)
 
 pub comment : (test : Bool) (x : Result (Option Said) ScriptKind) (s : Said) → (if test then Ok None else x) ≡ Ok (Some s) → x ≡ Ok (Some s)
 comment true x s e = absurd (none-some s (same_Ok None (Some s) e))
 comment false x s e = e
 
-pub line_carries : (played : List Verb) (known : Known) (n : ℕ) (text : List ℕ) (s : Said) → line_says played known n text ≡ Ok (Some s) → Carries (get_or (pieces text) 7 []) s
-line_carries played known n text s e =
+pub line_carries : (dialect : Dialect) (known : Known) (n : ℕ) (text : List ℕ) (s : Said) → line_says dialect known n text ≡ Ok (Some s) → Carries (get_or (pieces text) 7 []) s
+line_carries dialect known n text s e =
     let early = if_err (nat_lt 1000000 n) TooMany _ (Some s) e in
     let short = if_err (nat_lt 140000 (length text)) LineLong _ (Some s) early in
-    entry_carries played known (pieces text) s (comment (is_comment text) (entry played known (pieces text)) s short)
+    entry_carries dialect known (pieces text) s (comment (is_comment text) (entry dialect known (pieces text)) s short)

@@ -8,6 +8,7 @@ use Rattle.pack_geometry.specs.declared.DriveKind.{DriveKind}
 use Rattle.script_lines.specs.declared.statement.Statement.TheVariants as says
 use Rattle.script_reader.specs.Formed.{AreWell, learned}
 use Rattle.script_lines.specs.Known.{Known, Said, Numbered}
+use Rattle.script_lines.specs.Words.{all_verbs}
 use Rattle.script_reader.proofs.WellLaws.{spelled_well}
 use Rattle.script_lines.specs.Script.{Statement, declared_by, drives_in, drives_of}
 use Rattle.script_reader.specs.Meaning.{statement_of, line_of, meaning}
@@ -58,10 +59,10 @@ are_drives drives known (line ∷ rest) w a =
     (are_drives drives (learned known line.statement) rest w.1 next)
 
 pub declares_units : DeclaresUnits
-declares_units played bytes lines count s u kind = (
+declares_units bytes lines count s u kind = (
   has_line u kind lines,
   λ c. All-contains (IsDrive (drives_of (meaning lines count))) (said_in lines) (says.Unit u kind)
-      (are_drives (drives_of (meaning lines count)) nothing_known lines (spelled_well played bytes lines count s) (λ v. refl)) c u kind refl,
+      (are_drives (drives_of (meaning lines count)) nothing_known lines (spelled_well all_verbs bytes lines count s) (λ v. refl)) c u kind refl,
 )
 
 -- WHAT IS SAID ALIKE means the same

@@ -1,6 +1,6 @@
 -- The lines that bytes spell are numbered upwards.
 use Rattle.std.proofs.Common.{◌≡◌, ℕ, ◌+◌, ◌≤◌, List, [], ◌∷◌, ◌++◌, length, map, sym, subst, ◌∙◌, arith, append_assoc, append-nil, Option, None, Some}
-use Rattle.script_lines.specs.declared.verbs.Verb.{Verb}
+use Rattle.script_lines.specs.declared.dialect.Dialect.{Dialect}
 use Rattle.script_reader.specs.Grammar.{more, SayTheRest, Spells}
 use Rattle.script_lines.specs.Known.{Said, Numbered}
 use Rattle.script_reader.specs.Lines.{lines_of}
@@ -31,16 +31,16 @@ with_entry lines all before count (Some s) r =
       numbers = (omega arith, r.numbers);
     }
 
-rest_numbered : (played : List Verb) (lines : List Numbered) (before : ℕ) (texts : List (List ℕ)) (all : List Numbered) → SayTheRest played lines (before + 1) texts all → IsRest lines all before (before + length texts)
-rest_numbered played lines before [] all s = record { rest = []; is = sym s ∙ sym (append-nil lines); numbers = omega arith }
-rest_numbered played lines before (text ∷ texts) all s =
+rest_numbered : (dialect : Dialect) (lines : List Numbered) (before : ℕ) (texts : List (List ℕ)) (all : List Numbered) → SayTheRest dialect lines (before + 1) texts all → IsRest lines all before (before + length texts)
+rest_numbered dialect lines before [] all s = record { rest = []; is = sym s ∙ sym (append-nil lines); numbers = omega arith }
+rest_numbered dialect lines before (text ∷ texts) all s =
     let e : before + 1 + length texts ≡ before + length (text ∷ texts) = omega arith in
-    let r = rest_numbered played (more lines (before + 1) s.0) (before + 1) texts all s.2 in
+    let r = rest_numbered dialect (more lines (before + 1) s.0) (before + 1) texts all s.2 in
     with_entry lines all before (before + length (text ∷ texts)) s.0 (subst (λ (k : ℕ). IsRest (more lines (before + 1) s.0) all (before + 1) k) e r)
 
-pub spelled_numbered : (played : List Verb) (bytes : List ℕ) (lines : List Numbered) (count : ℕ) → Spells played bytes lines count → AreNumbered 0 count (map line_of lines)
-spelled_numbered played bytes lines count s =
-    let r = rest_numbered played [] 0 (lines_of bytes) lines s.says in
+pub spelled_numbered : (dialect : Dialect) (bytes : List ℕ) (lines : List Numbered) (count : ℕ) → Spells dialect bytes lines count → AreNumbered 0 count (map line_of lines)
+spelled_numbered dialect bytes lines count s =
+    let r = rest_numbered dialect [] 0 (lines_of bytes) lines s.says in
     let e : 0 + length (lines_of bytes) ≡ length (lines_of bytes) = omega arith in
     let numbers : AreNumbered 0 (0 + length (lines_of bytes)) (map line_of lines) = subst (λ (ls : List Numbered). AreNumbered 0 (0 + length (lines_of bytes)) (map line_of ls)) (sym r.is) r.numbers in
     subst (λ (k : ℕ). AreNumbered 0 k (map line_of lines)) (e ∙ sym s.counted) numbers

@@ -7,7 +7,7 @@ use Rattle.mass_text.specs.Pieces.{pieces}
 use Rattle.script_lines.specs.declared.kinds.ScriptKind.{ScriptKind}
 use Rattle.script_lines.specs.declared.statement.Span.{Span}
 use Rattle.script_lines.specs.declared.statement.Statement.{Statement}
-use Rattle.script_lines.specs.declared.verbs.Verb.{Verb}
+use Rattle.script_lines.specs.declared.dialect.Dialect.{Dialect}
 use Rattle.script_lines.specs.Fields.{changed}
 use Rattle.script_reader.specs.Grammar.{line_says, more}
 use Rattle.script_lines.specs.Known.{Known, Said, Numbered, known_of}
@@ -60,61 +60,61 @@ behind text rest after r a short shorter =
 pub first_line : (rest piece after line : List ℕ) → pieces_of rest ≡ piece ∷ pieces_of after → line ≡ without_cr piece → lines_of rest ≡ line ∷ lines_of after
 first_line rest piece after line p l = ap (λ (ps : List (List ℕ)). map without_cr ps) p ∙ ap (λ (x : List ℕ). x ∷ lines_of after) (sym l)
 
-abbrev step : List Verb → List Numbered → ℕ → List (List ℕ) → Result (Option Said) ScriptKind → Result Read Refusal
-step played lines n texts res = on res (λ entry. reading played (more lines n entry) (n + 1) texts) (λ kind. Err (record { line = n; kind = kind }))
+abbrev step : Dialect → List Numbered → ℕ → List (List ℕ) → Result (Option Said) ScriptKind → Result Read Refusal
+step dialect lines n texts res = on res (λ entry. reading dialect (more lines n entry) (n + 1) texts) (λ kind. Err (record { line = n; kind = kind }))
 
-pub passed : (played : List Verb) (known : Known) (lines : List Numbered) (n : ℕ) (span : Span) (rest piece after line : List ℕ) (all : Result Read Refusal)
-    → reading played lines n (lines_of rest) ≡ all → known ≡ known_of lines → pieces_of rest ≡ piece ∷ pieces_of after → line ≡ without_cr piece
-    → changed (option_map (read_of span)) (line_says played known n line) ≡ Ok None
-    → reading played lines (n + 1) (lines_of after) ≡ all
-passed played known lines n span rest piece after line all same k p l e =
-    let is : line_says played (known_of lines) n line ≡ Ok None = ap (λ (x : Known). line_says played x n line) (sym k) ∙ changed_none (read_of span) (line_says played known n line) e in
-    sym (ap (reading played lines n) (first_line rest piece after line p l) ∙ ap (step played lines n (lines_of after)) is) ∙ same
+pub passed : (dialect : Dialect) (known : Known) (lines : List Numbered) (n : ℕ) (span : Span) (rest piece after line : List ℕ) (all : Result Read Refusal)
+    → reading dialect lines n (lines_of rest) ≡ all → known ≡ known_of lines → pieces_of rest ≡ piece ∷ pieces_of after → line ≡ without_cr piece
+    → changed (option_map (read_of span)) (line_says dialect known n line) ≡ Ok None
+    → reading dialect lines (n + 1) (lines_of after) ≡ all
+passed dialect known lines n span rest piece after line all same k p l e =
+    let is : line_says dialect (known_of lines) n line ≡ Ok None = ap (λ (x : Known). line_says dialect x n line) (sym k) ∙ changed_none (read_of span) (line_says dialect known n line) e in
+    sym (ap (reading dialect lines n) (first_line rest piece after line p l) ∙ ap (step dialect lines n (lines_of after)) is) ∙ same
 
 -- a line goes behind those that are stored
-pub record Goes (played : List Verb) (new : Known) (text : List ℕ) (lines : List Kept) (n : ℕ) (after : List ℕ) (all : Result Read Refusal) : Type 0 where
-  pub same : reading played (map (seen text) lines) n (lines_of after) ≡ all
+pub record Goes (dialect : Dialect) (new : Known) (text : List ℕ) (lines : List Kept) (n : ℕ) (after : List ℕ) (all : Result Read Refusal) : Type 0 where
+  pub same : reading dialect (map (seen text) lines) n (lines_of after) ≡ all
   pub known : new ≡ known_of (map (seen text) lines)
 
-spoken : (played : List Verb) (known new : Known) (text : List ℕ) (lines stored : List Kept) (n : ℕ) (span : Span) (rest piece after line : List ℕ) (read : Statement Span (List ℕ)) (all : Result Read Refusal)
-    → reading played (map (seen text) lines) n (lines_of rest) ≡ all → known ≡ known_of (map (seen text) lines) → pieces_of rest ≡ piece ∷ pieces_of after → line ≡ without_cr piece
-    → changed (option_map (read_of span)) (line_says played known n line) ≡ Ok (Some read)
+spoken : (dialect : Dialect) (known new : Known) (text : List ℕ) (lines stored : List Kept) (n : ℕ) (span : Span) (rest piece after line : List ℕ) (read : Statement Span (List ℕ)) (all : Result Read Refusal)
+    → reading dialect (map (seen text) lines) n (lines_of rest) ≡ all → known ≡ known_of (map (seen text) lines) → pieces_of rest ≡ piece ∷ pieces_of after → line ≡ without_cr piece
+    → changed (option_map (read_of span)) (line_says dialect known n line) ≡ Ok (Some read)
     → slice_range text span.start span.end ≡ line → Learns known new read → StoresRead n read lines stored
-    → Goes played new text stored (n + 1) after all
-spoken played known new text lines stored n span rest piece after line read all same k p l e here learns stores =
-    let found = changed_some (read_of span) (line_says played known n line) read e in
+    → Goes dialect new text stored (n + 1) after all
+spoken dialect known new text lines stored n span rest piece after line read all same k p l e here learns stores =
+    let found = changed_some (read_of span) (line_says dialect known n line) read e in
     let s : Said = found.0 in
     let carries : Carries (digits_at text span) s =
-    subst (λ (t : List ℕ). Carries (get_or (pieces t) 7 []) s) (sym here) (line_carries played known n line s found.1) in
-    let is : line_says played (known_of (map (seen text) lines)) n line ≡ Ok (Some s) = ap (λ (x : Known). line_says played x n line) (sym k) ∙ found.1 in
+    subst (λ (t : List ℕ). Carries (get_or (pieces t) 7 []) s) (sym here) (line_carries dialect known n line s found.1) in
+    let is : line_says dialect (known_of (map (seen text) lines)) n line ≡ Ok (Some s) = ap (λ (x : Known). line_says dialect x n line) (sym k) ∙ found.1 in
     let told : Numbered = record { number = n; statement = s } in
     let lines_are : map (seen text) stored ≡ map (seen text) lines ++ told ∷ [] =
     stores text ∙ ap (λ (x : Said). map (seen text) lines ++ record { number = n; statement = x } ∷ []) (stands text span read s found.2 carries) in
-    let goes : reading played (map (seen text) lines ++ told ∷ []) (n + 1) (lines_of after) ≡ all =
-    sym (ap (reading played (map (seen text) lines) n) (first_line rest piece after line p l) ∙ ap (step played (map (seen text) lines) n (lines_of after)) is) ∙ same in
+    let goes : reading dialect (map (seen text) lines ++ told ∷ []) (n + 1) (lines_of after) ≡ all =
+    sym (ap (reading dialect (map (seen text) lines) n) (first_line rest piece after line p l) ∙ ap (step dialect (map (seen text) lines) n (lines_of after)) is) ∙ same in
     let learned : Learns (known_of (map (seen text) lines)) new s =
     learns_said span s (known_of (map (seen text) lines)) new (subst (λ (x : Known). Learns x new (read_of span s)) k (subst (λ (r : Statement Span (List ℕ)). Learns known new r) (sym found.2) learns)) in
     record {
-      same = ap (λ (ls : List Numbered). reading played ls (n + 1) (lines_of after)) lines_are ∙ goes;
+      same = ap (λ (ls : List Numbered). reading dialect ls (n + 1) (lines_of after)) lines_are ∙ goes;
       known = known_more (map (seen text) lines) told new learned ∙ ap (λ (ls : List Numbered). known_of ls) (sym lines_are);
     }
 
-pub gone : (played : List Verb) (known new : Known) (text : List ℕ) (lines stored : List Kept) (n : ℕ) (span : Span) (rest piece after line : List ℕ) (read : Option (Statement Span (List ℕ))) (all : Result Read Refusal)
-    → reading played (map (seen text) lines) n (lines_of rest) ≡ all → known ≡ known_of (map (seen text) lines) → pieces_of rest ≡ piece ∷ pieces_of after → line ≡ without_cr piece
-    → changed (option_map (read_of span)) (line_says played known n line) ≡ Ok read
+pub gone : (dialect : Dialect) (known new : Known) (text : List ℕ) (lines stored : List Kept) (n : ℕ) (span : Span) (rest piece after line : List ℕ) (read : Option (Statement Span (List ℕ))) (all : Result Read Refusal)
+    → reading dialect (map (seen text) lines) n (lines_of rest) ≡ all → known ≡ known_of (map (seen text) lines) → pieces_of rest ≡ piece ∷ pieces_of after → line ≡ without_cr piece
+    → changed (option_map (read_of span)) (line_says dialect known n line) ≡ Ok read
     → slice_range text span.start span.end ≡ line → LearnsFrom read known new → Stores n read lines stored
-    → Goes played new text stored (n + 1) after all
-gone played known new text lines stored n span rest piece after line None all same k p l e here learns stores = record {
+    → Goes dialect new text stored (n + 1) after all
+gone dialect known new text lines stored n span rest piece after line None all same k p l e here learns stores = record {
   same =
-      ap (λ (ls : List Kept). reading played (map (seen text) ls) (n + 1) (lines_of after)) stores
-      ∙ passed played known (map (seen text) lines) n span rest piece after line all same k p l e;
+      ap (λ (ls : List Kept). reading dialect (map (seen text) ls) (n + 1) (lines_of after)) stores
+      ∙ passed dialect known (map (seen text) lines) n span rest piece after line all same k p l e;
   known = learns ∙ k ∙ ap (λ (ls : List Kept). known_of (map (seen text) ls)) (sym stores);
 }
-gone played known new text lines stored n span rest piece after line (Some read) all same k p l e here learns stores =
-    spoken played known new text lines stored n span rest piece after line read all same k p l e here learns stores
+gone dialect known new text lines stored n span rest piece after line (Some read) all same k p l e here learns stores =
+    spoken dialect known new text lines stored n span rest piece after line read all same k p l e here learns stores
 
 -- what is left of a text is read, where none is
-pub none_left : (played : List Verb) (lines : List Numbered) (number : ℕ) (rest : List ℕ) (found : Result Read Refusal) → length rest ≡ 0
-    → reading played lines number (lines_of rest) ≡ found → found ≡ Ok (record { lines = lines; next = number })
-none_left played lines number [] found none is = sym is
-none_left played lines number (b ∷ bs) found none is = absurd (omega (arith, none))
+pub none_left : (dialect : Dialect) (lines : List Numbered) (number : ℕ) (rest : List ℕ) (found : Result Read Refusal) → length rest ≡ 0
+    → reading dialect lines number (lines_of rest) ≡ found → found ≡ Ok (record { lines = lines; next = number })
+none_left dialect lines number [] found none is = sym is
+none_left dialect lines number (b ∷ bs) found none is = absurd (omega (arith, none))

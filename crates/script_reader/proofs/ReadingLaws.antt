@@ -6,7 +6,7 @@ use Rattle.script_lines.specs.declared.kinds.ScriptKind.{ScriptKind}
 use Rattle.script_lines.specs.declared.kinds.ScriptKind.TheVariants.{ScriptLong}
 use Rattle.script_reader.specs.declared.fault.ReadFault.{ReadFault}
 use Rattle.script_reader.specs.declared.fault.ReadFault.TheVariants.{Memory, Refused}
-use Rattle.script_lines.specs.declared.verbs.Verb.{Verb}
+use Rattle.script_lines.specs.declared.dialect.Dialect.{Dialect}
 use Rattle.script_lines.specs.Known.{Said, Numbered, known_of}
 use Rattle.script_reader.specs.Lines.{lines_of}
 use Rattle.script_reader.specs.Grammar.{line_says, more, SayTheRest, Spells, FirstFault, IsRefused}
@@ -30,43 +30,43 @@ either (inr b) f g = g b
 refusal : ℕ → ScriptKind → Refusal
 refusal n kind = record { line = n; kind = kind }
 
-abbrev step : List Verb → List Numbered → ℕ → List (List ℕ) → Result (Option Said) ScriptKind → Result Read Refusal
-step played lines n texts res = on res (λ entry. reading played (more lines n entry) (n + 1) texts) (λ kind. Err (record { line = n; kind = kind }))
+abbrev step : Dialect → List Numbered → ℕ → List (List ℕ) → Result (Option Said) ScriptKind → Result Read Refusal
+step dialect lines n texts res = on res (λ entry. reading dialect (more lines n entry) (n + 1) texts) (λ kind. Err (record { line = n; kind = kind }))
 
-pub says_read : (played : List Verb) (lines : List Numbered) (n : ℕ) (texts : List (List ℕ)) (all : List Numbered) → SayTheRest played lines n texts all → reading played lines n texts ≡ Ok (record { lines = all; next = n + length texts })
-says_read played lines n [] all s =
+pub says_read : (dialect : Dialect) (lines : List Numbered) (n : ℕ) (texts : List (List ℕ)) (all : List Numbered) → SayTheRest dialect lines n texts all → reading dialect lines n texts ≡ Ok (record { lines = all; next = n + length texts })
+says_read dialect lines n [] all s =
     let here : n ≡ n + length {A = List ℕ} [] = omega arith in
     ap (λ (ls : List Numbered). Ok (record { lines = ls; next = n })) s ∙ ap (λ (k : ℕ). Ok (record { lines = all; next = k })) here
-says_read played lines n (text ∷ texts) all s =
+says_read dialect lines n (text ∷ texts) all s =
     let here : (n + 1) + length texts ≡ n + length (text ∷ texts) = omega arith in
-    ap (step played lines n texts) s.1
-    ∙ says_read played (more lines n s.0) (n + 1) texts all s.2
+    ap (step dialect lines n texts) s.1
+    ∙ says_read dialect (more lines n s.0) (n + 1) texts all s.2
     ∙ ap (λ (k : ℕ). Ok (record { lines = all; next = k })) here
 
-pub read_says : (played : List Verb) (lines : List Numbered) (n : ℕ) (texts : List (List ℕ)) (r : Read) → reading played lines n texts ≡ Ok r → SayTheRest played lines n texts r.lines × (r.next ≡ n + length texts)
-read_says played lines n [] r e =
+pub read_says : (dialect : Dialect) (lines : List Numbered) (n : ℕ) (texts : List (List ℕ)) (r : Read) → reading dialect lines n texts ≡ Ok r → SayTheRest dialect lines n texts r.lines × (r.next ≡ n + length texts)
+read_says dialect lines n [] r e =
     let same : ◌≡◌ {A = Read} (record { lines = lines; next = n }) r = same_Ok _ r e in
     let here : n ≡ n + length {A = List ℕ} [] = omega arith in
     (ap (λ (x : Read). x.lines) same, sym (ap (λ (x : Read). x.next) same) ∙ here)
-read_says played lines n (text ∷ texts) r e =
-    let found = on_ok (line_says played (known_of lines) n text) (λ entry. reading played (more lines n entry) (n + 1) texts) (λ kind. record { line = n; kind = kind }) r e in
-    let rest = read_says played (more lines n found.0) (n + 1) texts r found.2 in
+read_says dialect lines n (text ∷ texts) r e =
+    let found = on_ok (line_says dialect (known_of lines) n text) (λ entry. reading dialect (more lines n entry) (n + 1) texts) (λ kind. record { line = n; kind = kind }) r e in
+    let rest = read_says dialect (more lines n found.0) (n + 1) texts r found.2 in
     let here : (n + 1) + length texts ≡ n + length (text ∷ texts) = omega arith in
     ((found.0, found.1, rest.0), rest.1 ∙ here)
 
 -- FAULTS. Behind some lines, these texts have a first faulty one.
-pub record StopsAt (played : List Verb) (lines : List Numbered) (n : ℕ) (texts : List (List ℕ)) (number : ℕ) (kind : ScriptKind) : Type 0 where
+pub record StopsAt (dialect : Dialect) (lines : List Numbered) (n : ℕ) (texts : List (List ℕ)) (number : ℕ) (kind : ScriptKind) : Type 0 where
   pub before : List (List ℕ)
   pub text : List ℕ
   pub behind : List (List ℕ)
   pub reached : List Numbered
   pub place : texts ≡ before ++ text ∷ behind
-  pub good : SayTheRest played lines n before reached
+  pub good : SayTheRest dialect lines n before reached
   pub number_is : number ≡ n + length before
-  pub faulty : line_says played (known_of reached) number text ≡ Err kind
+  pub faulty : line_says dialect (known_of reached) number text ≡ Err kind
 
-stops_here : (played : List Verb) (lines : List Numbered) (n : ℕ) (text : List ℕ) (texts : List (List ℕ)) (kind : ScriptKind) (r : Refusal) → line_says played (known_of lines) n text ≡ Err kind → ◌≡◌ {A = Refusal} (record { line = n; kind = kind }) r → StopsAt played lines n (text ∷ texts) r.line r.kind
-stops_here played lines n text texts kind r is same =
+stops_here : (dialect : Dialect) (lines : List Numbered) (n : ℕ) (text : List ℕ) (texts : List (List ℕ)) (kind : ScriptKind) (r : Refusal) → line_says dialect (known_of lines) n text ≡ Err kind → ◌≡◌ {A = Refusal} (record { line = n; kind = kind }) r → StopsAt dialect lines n (text ∷ texts) r.line r.kind
+stops_here dialect lines n text texts kind r is same =
     let number : n ≡ r.line = ap (λ (x : Refusal). x.line) same in
     let kind_is : kind ≡ r.kind = ap (λ (x : Refusal). x.kind) same in
     let here : n ≡ n + length {A = List ℕ} [] = omega arith in record {
@@ -77,11 +77,11 @@ stops_here played lines n text texts kind r is same =
       place = refl;
       good = refl;
       number_is = sym number ∙ here;
-      faulty = ap (λ (k : ℕ). line_says played (known_of lines) k text) (sym number) ∙ is ∙ ap (λ (k : ScriptKind). Err k) kind_is;
+      faulty = ap (λ (k : ℕ). line_says dialect (known_of lines) k text) (sym number) ∙ is ∙ ap (λ (k : ScriptKind). Err k) kind_is;
     }
 
-stops_later : (played : List Verb) (lines : List Numbered) (n : ℕ) (text : List ℕ) (texts : List (List ℕ)) (number : ℕ) (kind : ScriptKind) (entry : Option Said) → line_says played (known_of lines) n text ≡ Ok entry → StopsAt played (more lines n entry) (n + 1) texts number kind → StopsAt played lines n (text ∷ texts) number kind
-stops_later played lines n text texts number kind entry is s =
+stops_later : (dialect : Dialect) (lines : List Numbered) (n : ℕ) (text : List ℕ) (texts : List (List ℕ)) (number : ℕ) (kind : ScriptKind) (entry : Option Said) → line_says dialect (known_of lines) n text ≡ Ok entry → StopsAt dialect (more lines n entry) (n + 1) texts number kind → StopsAt dialect lines n (text ∷ texts) number kind
+stops_later dialect lines n text texts number kind entry is s =
     let here : (n + 1) + length s.before ≡ n + length (text ∷ s.before) = omega arith in record {
       before = text ∷ s.before;
       text = s.text;
@@ -93,37 +93,37 @@ stops_later played lines n text texts number kind entry is s =
       faulty = s.faulty;
     }
 
-pub read_stops : (played : List Verb) (lines : List Numbered) (n : ℕ) (texts : List (List ℕ)) (r : Refusal) → reading played lines n texts ≡ Err r → StopsAt played lines n texts r.line r.kind
-read_stops played lines n [] r e = absurd (err-ok r _ (sym e))
-read_stops played lines n (text ∷ texts) r e =
-    either (on_err (line_says played (known_of lines) n text) (λ entry. reading played (more lines n entry) (n + 1) texts) (λ kind. record { line = n; kind = kind }) r e)
-    (λ at. stops_here played lines n text texts at.0 r at.1 at.2)
-    (λ at. stops_later played lines n text texts r.line r.kind at.0 at.1 (read_stops played (more lines n at.0) (n + 1) texts r at.2))
+pub read_stops : (dialect : Dialect) (lines : List Numbered) (n : ℕ) (texts : List (List ℕ)) (r : Refusal) → reading dialect lines n texts ≡ Err r → StopsAt dialect lines n texts r.line r.kind
+read_stops dialect lines n [] r e = absurd (err-ok r _ (sym e))
+read_stops dialect lines n (text ∷ texts) r e =
+    either (on_err (line_says dialect (known_of lines) n text) (λ entry. reading dialect (more lines n entry) (n + 1) texts) (λ kind. record { line = n; kind = kind }) r e)
+    (λ at. stops_here dialect lines n text texts at.0 r at.1 at.2)
+    (λ at. stops_later dialect lines n text texts r.line r.kind at.0 at.1 (read_stops dialect (more lines n at.0) (n + 1) texts r at.2))
 
-stopped : (played : List Verb) (lines : List Numbered) (n : ℕ) (before : List (List ℕ)) (text : List ℕ) (behind : List (List ℕ)) (reached : List Numbered) (number : ℕ) (kind : ScriptKind)
-    → SayTheRest played lines n before reached → number ≡ n + length before → line_says played (known_of reached) number text ≡ Err kind
-    → reading played lines n (before ++ text ∷ behind) ≡ Err (record { line = number; kind = kind })
-stopped played lines n [] text behind reached number kind good number_is faulty =
+stopped : (dialect : Dialect) (lines : List Numbered) (n : ℕ) (before : List (List ℕ)) (text : List ℕ) (behind : List (List ℕ)) (reached : List Numbered) (number : ℕ) (kind : ScriptKind)
+    → SayTheRest dialect lines n before reached → number ≡ n + length before → line_says dialect (known_of reached) number text ≡ Err kind
+    → reading dialect lines n (before ++ text ∷ behind) ≡ Err (record { line = number; kind = kind })
+stopped dialect lines n [] text behind reached number kind good number_is faulty =
     let here : number ≡ n = omega (arith, number_is) in
-    let is : line_says played (known_of lines) n text ≡ Err kind =
-    ap (λ (ls : List Numbered). line_says played (known_of ls) n text) good ∙ ap (λ (k : ℕ). line_says played (known_of reached) k text) (sym here) ∙ faulty in
-    ap (step played lines n behind) is ∙ ap (λ (k : ℕ). Err (record { line = k; kind = kind })) (sym here)
-stopped played lines n (t ∷ ts) text behind reached number kind good number_is faulty =
+    let is : line_says dialect (known_of lines) n text ≡ Err kind =
+    ap (λ (ls : List Numbered). line_says dialect (known_of ls) n text) good ∙ ap (λ (k : ℕ). line_says dialect (known_of reached) k text) (sym here) ∙ faulty in
+    ap (step dialect lines n behind) is ∙ ap (λ (k : ℕ). Err (record { line = k; kind = kind })) (sym here)
+stopped dialect lines n (t ∷ ts) text behind reached number kind good number_is faulty =
     let here : number ≡ (n + 1) + length ts = omega (arith, number_is) in
-    ap (step played lines n (ts ++ text ∷ behind)) good.1
-    ∙ stopped played (more lines n good.0) (n + 1) ts text behind reached number kind good.2 here faulty
+    ap (step dialect lines n (ts ++ text ∷ behind)) good.1
+    ∙ stopped dialect (more lines n good.0) (n + 1) ts text behind reached number kind good.2 here faulty
 
 -- SCRIPTS
 -- a whole script
-abbrev script_of : List Verb → List ℕ → Result Read Refusal
-script_of played bytes =
-    if nat_lt 16777216 (length bytes) then Err (record { line = 0; kind = ScriptLong }) else reading played [] 1 (lines_of bytes)
+abbrev script_of : Dialect → List ℕ → Result Read Refusal
+script_of dialect bytes =
+    if nat_lt 16777216 (length bytes) then Err (record { line = 0; kind = ScriptLong }) else reading dialect [] 1 (lines_of bytes)
 
-short_script : (played : List Verb) (bytes : List ℕ) → length bytes ≤ 16777216 → script_of played bytes ≡ reading played [] 1 (lines_of bytes)
-short_script played bytes short = grind (arith, nat_tests)
+short_script : (dialect : Dialect) (bytes : List ℕ) → length bytes ≤ 16777216 → script_of dialect bytes ≡ reading dialect [] 1 (lines_of bytes)
+short_script dialect bytes short = grind (arith, nat_tests)
 
-long_script : (played : List Verb) (bytes : List ℕ) → 16777216 < length bytes → script_of played bytes ≡ Err (record { line = 0; kind = ScriptLong })
-long_script played bytes long = grind (arith, nat_tests)
+long_script : (dialect : Dialect) (bytes : List ℕ) → 16777216 < length bytes → script_of dialect bytes ≡ Err (record { line = 0; kind = ScriptLong })
+long_script dialect bytes long = grind (arith, nat_tests)
 
 lengths : (n : ℕ) → (n ≤ 16777216) ⊎ (16777216 < n)
 lengths n = grind arith
@@ -131,31 +131,31 @@ lengths n = grind arith
 count_is : (n k : ℕ) → n ≡ k → 1 + n ≡ k + 1
 count_is n k e = omega (arith, e)
 
-spells_read : (played : List Verb) (bytes : List ℕ) (lines : List Numbered) (count : ℕ) → Spells played bytes lines count → script_of played bytes ≡ Ok (record { lines = lines; next = count + 1 })
-spells_read played bytes lines count s =
+spells_read : (dialect : Dialect) (bytes : List ℕ) (lines : List Numbered) (count : ℕ) → Spells dialect bytes lines count → script_of dialect bytes ≡ Ok (record { lines = lines; next = count + 1 })
+spells_read dialect bytes lines count s =
     let here : 1 + length (lines_of bytes) ≡ count + 1 = count_is (length (lines_of bytes)) count (sym s.counted) in
-    short_script played bytes s.short ∙ says_read played [] 1 (lines_of bytes) lines s.says ∙ ap (λ (k : ℕ). Ok (record { lines = lines; next = k })) here
+    short_script dialect bytes s.short ∙ says_read dialect [] 1 (lines_of bytes) lines s.says ∙ ap (λ (k : ℕ). Ok (record { lines = lines; next = k })) here
 
-refused_read : (played : List Verb) (bytes : List ℕ) (number : ℕ) (kind : ScriptKind) → IsRefused played bytes number kind → script_of played bytes ≡ Err (record { line = number; kind = kind })
-refused_read played bytes number kind (inl long) =
-    long_script played bytes long.0 ∙ ap (λ (n : ℕ). Err (record { line = n; kind = ScriptLong })) (sym long.1) ∙ ap (λ (k : ScriptKind). Err (record { line = number; kind = k })) (sym long.2)
-refused_read played bytes number kind (inr (short, f)) =
+refused_read : (dialect : Dialect) (bytes : List ℕ) (number : ℕ) (kind : ScriptKind) → IsRefused dialect bytes number kind → script_of dialect bytes ≡ Err (record { line = number; kind = kind })
+refused_read dialect bytes number kind (inl long) =
+    long_script dialect bytes long.0 ∙ ap (λ (n : ℕ). Err (record { line = n; kind = ScriptLong })) (sym long.1) ∙ ap (λ (k : ScriptKind). Err (record { line = number; kind = k })) (sym long.2)
+refused_read dialect bytes number kind (inr (short, f)) =
     let here : number ≡ 1 + length f.before = omega (arith, f.number_is) in
-    short_script played bytes short
-    ∙ ap (reading played [] 1) f.place
-    ∙ stopped played [] 1 f.before f.text f.behind f.lines number kind f.good here f.faulty
+    short_script dialect bytes short
+    ∙ ap (reading dialect [] 1) f.place
+    ∙ stopped dialect [] 1 f.before f.text f.behind f.lines number kind f.good here f.faulty
 
 -- what was read of a text that is not too long
-pub spelled : (played : List Verb) (bytes : List ℕ) (lines : List Numbered) (next count : ℕ) → length bytes ≤ 16777216 → reading played [] 1 (lines_of bytes) ≡ Ok (record { lines = lines; next = next }) → next ≡ count + 1 → Spells played bytes lines count
-spelled played bytes lines next count short e is =
-    let all = read_says played [] 1 (lines_of bytes) (record { lines = lines; next = next }) e in record {
+pub spelled : (dialect : Dialect) (bytes : List ℕ) (lines : List Numbered) (next count : ℕ) → length bytes ≤ 16777216 → reading dialect [] 1 (lines_of bytes) ≡ Ok (record { lines = lines; next = next }) → next ≡ count + 1 → Spells dialect bytes lines count
+spelled dialect bytes lines next count short e is =
+    let all = read_says dialect [] 1 (lines_of bytes) (record { lines = lines; next = next }) e in record {
       short = short;
       says = all.0;
       counted = omega (arith, all.1, is);
     }
 
-first_fault : (played : List Verb) (bytes : List ℕ) (number : ℕ) (kind : ScriptKind) → StopsAt played [] 1 (lines_of bytes) number kind → FirstFault played (lines_of bytes) number kind
-first_fault played bytes number kind s =
+first_fault : (dialect : Dialect) (bytes : List ℕ) (number : ℕ) (kind : ScriptKind) → StopsAt dialect [] 1 (lines_of bytes) number kind → FirstFault dialect (lines_of bytes) number kind
+first_fault dialect bytes number kind s =
     let here : number ≡ length s.before + 1 = omega (arith, s.number_is) in record {
       before = s.before;
       text = s.text;
@@ -167,48 +167,48 @@ first_fault played bytes number kind s =
       faulty = s.faulty;
     }
 
-pub refused : (played : List Verb) (bytes : List ℕ) (fault : ReadFault) → length bytes ≤ 16777216 → Finds fault (reading played [] 1 (lines_of bytes)) → Refuses played fault bytes
-refused played bytes Memory short f = tt
-refused played bytes (Refused line kind) short f = inr (short, first_fault played bytes line kind (read_stops played [] 1 (lines_of bytes) (record { line = line; kind = kind }) f))
+pub refused : (dialect : Dialect) (bytes : List ℕ) (fault : ReadFault) → length bytes ≤ 16777216 → Finds fault (reading dialect [] 1 (lines_of bytes)) → Refuses dialect fault bytes
+refused dialect bytes Memory short f = tt
+refused dialect bytes (Refused line kind) short f = inr (short, first_fault dialect bytes line kind (read_stops dialect [] 1 (lines_of bytes) (record { line = line; kind = kind }) f))
 
 -- THE LAW of the grammar.
-one_read : (played : List Verb) (bytes : List ℕ) (lines others : List Numbered) (count other : ℕ) → Spells played bytes lines count → Spells played bytes others other →
+one_read : (dialect : Dialect) (bytes : List ℕ) (lines others : List Numbered) (count other : ℕ) → Spells dialect bytes lines count → Spells dialect bytes others other →
     ◌≡◌ {A = Read} (record { lines = lines; next = count + 1 }) (record { lines = others; next = other + 1 })
-one_read played bytes lines others count other s t = same_Ok _ _ (sym (spells_read played bytes lines count s) ∙ spells_read played bytes others other t)
+one_read dialect bytes lines others count other s t = same_Ok _ _ (sym (spells_read dialect bytes lines count s) ∙ spells_read dialect bytes others other t)
 
 less_one : (n k : ℕ) → n + 1 ≡ k + 1 → n ≡ k
 less_one n k e = omega (arith, e)
 
-pub one_script : (played : List Verb) (bytes : List ℕ) (lines others : List Numbered) (count other : ℕ) → Spells played bytes lines count → Spells played bytes others other → (lines ≡ others) × (count ≡ other)
-one_script played bytes lines others count other s t =
-    let same = one_read played bytes lines others count other s t in
+pub one_script : (dialect : Dialect) (bytes : List ℕ) (lines others : List Numbered) (count other : ℕ) → Spells dialect bytes lines count → Spells dialect bytes others other → (lines ≡ others) × (count ≡ other)
+one_script dialect bytes lines others count other s t =
+    let same = one_read dialect bytes lines others count other s t in
     (ap (λ (x : Read). x.lines) same, less_one count other (ap (λ (x : Read). x.next) same))
 
-pub no_fault : (played : List Verb) (bytes : List ℕ) (lines : List Numbered) (count : ℕ) → Spells played bytes lines count → (number : ℕ) (kind : ScriptKind) → ¬ IsRefused played bytes number kind
-no_fault played bytes lines count s number kind r = err-ok _ _ (sym (refused_read played bytes number kind r) ∙ spells_read played bytes lines count s)
+pub no_fault : (dialect : Dialect) (bytes : List ℕ) (lines : List Numbered) (count : ℕ) → Spells dialect bytes lines count → (number : ℕ) (kind : ScriptKind) → ¬ IsRefused dialect bytes number kind
+no_fault dialect bytes lines count s number kind r = err-ok _ _ (sym (refused_read dialect bytes number kind r) ∙ spells_read dialect bytes lines count s)
 
-one_refusal : (played : List Verb) (bytes : List ℕ) (number other : ℕ) (kind kind_other : ScriptKind) → IsRefused played bytes number kind → IsRefused played bytes other kind_other →
+one_refusal : (dialect : Dialect) (bytes : List ℕ) (number other : ℕ) (kind kind_other : ScriptKind) → IsRefused dialect bytes number kind → IsRefused dialect bytes other kind_other →
     ◌≡◌ {A = Refusal} (record { line = number; kind = kind }) (record { line = other; kind = kind_other })
-one_refusal played bytes number other kind kind_other r s = same_Err _ _ (sym (refused_read played bytes number kind r) ∙ refused_read played bytes other kind_other s)
+one_refusal dialect bytes number other kind kind_other r s = same_Err _ _ (sym (refused_read dialect bytes number kind r) ∙ refused_read dialect bytes other kind_other s)
 
-pub one_fault : (played : List Verb) (bytes : List ℕ) (number other : ℕ) (kind kind_other : ScriptKind) → IsRefused played bytes number kind → IsRefused played bytes other kind_other → (number ≡ other) × (kind ≡ kind_other)
-one_fault played bytes number other kind kind_other r s =
-    let same = one_refusal played bytes number other kind kind_other r s in
+pub one_fault : (dialect : Dialect) (bytes : List ℕ) (number other : ℕ) (kind kind_other : ScriptKind) → IsRefused dialect bytes number kind → IsRefused dialect bytes other kind_other → (number ≡ other) × (kind ≡ kind_other)
+one_fault dialect bytes number other kind kind_other r s =
+    let same = one_refusal dialect bytes number other kind kind_other r s in
     (ap (λ (x : Refusal). x.line) same, ap (λ (x : Refusal). x.kind) same)
 
-abbrev IsRead : List Verb → List ℕ → Type 0
-IsRead played bytes = ((lines : List Numbered) × (count : ℕ) × Spells played bytes lines count) ⊎ ((number : ℕ) × (kind : ScriptKind) × IsRefused played bytes number kind)
+abbrev IsRead : Dialect → List ℕ → Type 0
+IsRead dialect bytes = ((lines : List Numbered) × (count : ℕ) × Spells dialect bytes lines count) ⊎ ((number : ℕ) × (kind : ScriptKind) × IsRefused dialect bytes number kind)
 
 result_cases : {A E : Type 0} (res : Result A E) → ((a : A) × (res ≡ Ok a)) ⊎ ((e : E) × (res ≡ Err e))
 result_cases (Ok a) = inl (a, refl)
 result_cases (Err e) = inr (e, refl)
 
-read_short : (played : List Verb) (bytes : List ℕ) → length bytes ≤ 16777216 → IsRead played bytes
-read_short played bytes short =
-    either (result_cases (reading played [] 1 (lines_of bytes)))
+read_short : (dialect : Dialect) (bytes : List ℕ) → length bytes ≤ 16777216 → IsRead dialect bytes
+read_short dialect bytes short =
+    either (result_cases (reading dialect [] 1 (lines_of bytes)))
     (λ at.
-    let all = read_says played [] 1 (lines_of bytes) at.0 at.1 in inl (at.0.lines, length (lines_of bytes), record { short = short; says = all.0; counted = refl }))
-    (λ at. inr (at.0.line, at.0.kind, inr (short, first_fault played bytes at.0.line at.0.kind (read_stops played [] 1 (lines_of bytes) at.0 at.1))))
+    let all = read_says dialect [] 1 (lines_of bytes) at.0 at.1 in inl (at.0.lines, length (lines_of bytes), record { short = short; says = all.0; counted = refl }))
+    (λ at. inr (at.0.line, at.0.kind, inr (short, first_fault dialect bytes at.0.line at.0.kind (read_stops dialect [] 1 (lines_of bytes) at.0 at.1))))
 
-pub some : (played : List Verb) (bytes : List ℕ) → IsRead played bytes
-some played bytes = either (lengths (length bytes)) (λ short. read_short played bytes short) (λ long. inr (0, ScriptLong, inl (long, refl, refl)))
+pub some : (dialect : Dialect) (bytes : List ℕ) → IsRead dialect bytes
+some dialect bytes = either (lengths (length bytes)) (λ short. read_short dialect bytes short) (λ long. inr (0, ScriptLong, inl (long, refl, refl)))

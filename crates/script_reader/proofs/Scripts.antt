@@ -238,13 +238,13 @@ abbrev pub nothing_known : Known
 nothing_known = known_of {D = List ℕ} {N = List ℕ} []
 
 pub means_script : MeansScript
-means_script played bytes lines count s =
-    let w = spelled_well played bytes lines count s in record {
-      numbers = spelled_numbered played bytes lines count s;
+means_script bytes lines count s =
+    let w = spelled_well all_verbs bytes lines count s in record {
+      numbers = spelled_numbered all_verbs bytes lines count s;
       units = units_first nothing_known lines w;
       ids = ids_apart nothing_known lines w;
       inputs = are_statements (drives_of (meaning lines count)) nothing_known lines w (λ u. refl);
     }
 
 pub means_read : ReadMeansScript
-means_read bytes script s = means_script all_verbs bytes (lines_in script) script.count s
+means_read bytes script s = means_script bytes (lines_in script) script.count s

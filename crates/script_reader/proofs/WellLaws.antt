@@ -25,15 +25,21 @@ use Rattle.script_lines.specs.declared.statement.Content.TheVariants as contents
 use Rattle.script_lines.specs.declared.statement.Request.{Request}
 use Rattle.script_lines.specs.declared.statement.Statement.TheVariants as says
 use Rattle.script_lines.specs.declared.verbs.Verb.{Verb}
+use Rattle.script_lines.specs.declared.dialect.Dialect.{Dialect}
+use Rattle.script_lines.specs.declared.dialect.Dialect.TheVariants.{Events, Cached}
 use Rattle.script_lines.specs.declared.verbs.Verb.TheVariants as verbs
 use Rattle.script_lines.specs.Fields.{and_then, changed, or_kind, some_or, number_field, kind_field, part_field, offset_field, fault_field, counted, count_field, byte_field, seq_field, digits_field, place_field}
 use Rattle.script_lines.specs.Known.{fresh, new_unit_field, old, unit_field, id_field, Known, Said, Numbered, verb_of, known_of}
 use Rattle.script_lines.specs.Places.{numbers_of, are_noise}
-use Rattle.script_reader.specs.Formed.{IsDrive, IsDeclared, AreTimes, IsAsked, IsWritten, IsSpan, IsInRange, IsWell, AreWell}
-use Rattle.script_lines.specs.Forms.{Form, gives, ends, fails, next, field, option, mapped, last_form, tail_form, start_form, content_by, content_form, span_form, noise_or, places_form, unit_number_form, adapter_form, form_of, none_left, whole, unless, too_late, said}
+use Rattle.script_reader.specs.Formed.{IsDrive, IsDeclared, AreTimes, IsAsked, IsWritten, IsSpan, IsInRange, IsWell, without_ids, IsWellIn, AreWellIn}
+use Rattle.script_reader.specs.declared.cached.statement.Asked.{Asked}
+use Rattle.script_reader.specs.declared.cached.statement.Statement.TheVariants as cached
+use Rattle.script_reader.specs.cached.Scripts.{whole_blocks, IsOfCache}
+use Rattle.script_lines.specs.Forms.{Form, gives, ends, fails, next, field, option, mapped, last_form, tail_form, start_form, content_by, content_form, span_form, noise_or, places_form, unit_number_form, adapter_form, form_of, none_left, whole, unless, too_late}
+use Rattle.script_lines.specs.Dialects.{blocks_form, fill_by, fill_form, cached_form, form_in, said, word_of, verbs_of}
 use Rattle.script_reader.specs.Grammar.{entry, is_comment, line_says, more, SayTheRest, Spells}
 use Rattle.script_reader.specs.Lines.{lines_of}
-use Rattle.script_lines.specs.Words.{named, verb_word}
+use Rattle.script_lines.specs.Words.{named}
 use Rattle.script_reader.proofs.BackLaws.{learned_more}
 use Rattle.script_lines.proofs.Results.{same_Ok, err-ok, then_ok}
 use Rattle.script_reader.proofs.CarriesLaws.{if_err, Gives, gives_it, whole_ok, same_Some, none-some, comment}
@@ -335,51 +341,99 @@ form_gives known verbs.Lock = unit_said known verbs.Lock (λ u. says.Lock u) (λ
 form_gives known verbs.Unlock = unit_said known verbs.Unlock (λ u. says.Unlock u) (λ u d. (d, refl))
 form_gives known verbs.Drain = gives_it (IsSaid known verbs.Drain) says.Drain (tt, refl)
 
+-- LINES OF THE CACHE
+record IsBlocks (known : Known) (r : Request) : Type 0 where
+  pub asked : IsAsked (without_ids known) r
+  pub narrow : Asked
+  pub is : r ≡ whole_blocks narrow
+
+blocks_gives : (known : Known) → Gives (IsBlocks known) (blocks_form known)
+unfolding blocks_form
+blocks_gives known =
+    gives_that (λ id. (0 ≤ id) × (id ≤ 4294967295)) (IsBlocks known) (field (number_field 0 4294967295)) _ (field_gives _ (number_field 0 4294967295) (number_in 0 4294967295)) (λ id low.
+    gives_that (λ p. IsDrive known p.0 p.1) (IsBlocks known) (field (unit_field known)) _ (field_gives _ (unit_field known) (unit_in known)) (λ p drive.
+    gives_that (λ block. (0 ≤ block) × (block ≤ 4294967295)) (IsBlocks known) (field (number_field 0 4294967295)) _ (field_gives _ (number_field 0 4294967295) (number_in 0 4294967295)) (λ block within.
+    gives_that (λ count. (1 ≤ count) × (count ≤ 127)) (IsBlocks known) (field count_field) _ (field_gives _ count_field count_in) (λ count few.
+    let asked : Asked = record { id = id; unit = p.0; block = block; count = count } in
+    gives_it (IsBlocks known) (whole_blocks asked) (record {
+      asked = record { id = low.1; new = refl; declared = (p.1, drive); block = within.1; some = few.0; count = few.1; offset = omega arith; byte = omega arith; last = omega arith };
+      narrow = asked;
+      is = refl;
+    })))))
+
+fill_gives : Gives (λ b. b ≤ 255) fill_form
+unfolding fill_form
+fill_gives = gives_that (λ word. Unit {0}) (λ b. b ≤ 255) (field (λ text. Ok text)) fill_by (any_gives (field (λ text. Ok text))) (λ word none.
+    if_gives (Gives (λ b. b ≤ 255)) (bytes_eq word (codes "fill")) (field byte_field) (fails Word) (field_gives _ byte_field byte_in) (fails_gives (λ b. b ≤ 255) Word))
+
+abbrev IsSaidCached : Known → Verb → Said → Type 0
+IsSaidCached known verb s = IsSaid (without_ids known) verb s × IsOfCache s
+
+cached_gives : (known : Known) (verb : Verb) → Gives (IsSaidCached known verb) (cached_form known verb)
+cached_gives known verbs.Unit =
+    gives_that (λ u. (u ≤ 31) × (known.kinds u ≡ None)) (IsSaidCached known verbs.Unit) (field (new_unit_field known)) _ (field_gives _ (new_unit_field known) (new_unit_in known)) (λ u new.
+    gives_that (λ kind. Unit {0}) (IsSaidCached known verbs.Unit) (field kind_field) _ (any_gives (field kind_field)) (λ kind t.
+    gives_it (IsSaidCached known verbs.Unit) (says.Unit u kind) ((new, refl), (cached.Unit u kind, refl))))
+cached_gives known verbs.Read =
+    gives_that (IsBlocks known) (IsSaidCached known verbs.Read) (blocks_form known) _ (blocks_gives known) (λ r b.
+    gives_it (IsSaidCached known verbs.Read) (says.Read r) ((b.asked, refl), (cached.Read b.narrow, ap (λ (x : Request). says.Read x) b.is)))
+cached_gives known verbs.Write =
+    gives_that (IsBlocks known) (IsSaidCached known verbs.Write) (blocks_form known) _ (blocks_gives known) (λ r b.
+    gives_that (λ n. n ≤ 255) (IsSaidCached known verbs.Write) fill_form _ fill_gives (λ n small.
+    gives_it (IsSaidCached known verbs.Write) (says.Write r (contents.Fill n)) (((b.asked, small), refl), (cached.Write b.narrow n, ap (λ (x : Request). says.Write x (contents.Fill n)) b.is))))
+cached_gives known verbs.Drain = gives_it (IsSaidCached known verbs.Drain) says.Drain ((tt, refl), (cached.Sync, refl))
+cached_gives known other = fails_gives (IsSaidCached known other) Word
+
 -- WHOLE LINES
 unless_in : {X : Type 0} (o : Option ScriptKind) (x : Result X ScriptKind) (a : X) → unless o x ≡ Ok a → (o ≡ None) × (x ≡ Ok a)
 unless_in (Some kind) x a e = absurd (err-ok kind a e)
 unless_in None x a e = (refl, e)
 
-said_in : (known : Known) (verb : Verb) (fields : List (List ℕ)) (s : Said) → said known verb fields ≡ Ok s → IsWell known s
-said_in known verb fields s e =
+said_in : (dialect : Dialect) (known : Known) (verb : Verb) (fields : List (List ℕ)) (s : Said) → said dialect known verb fields ≡ Ok s → IsWellIn dialect known s
+said_in Cached known verb fields s e =
+    let both = unless_in (too_late known verb) (whole (cached_form known verb) fields) s e in
+    let found = then_ok (cached_form known verb fields) none_left s both.1 in
+    let is : IsSaidCached known verb s = subst (IsSaidCached known verb) (whole_ok found.0 s found.2) (cached_gives known verb fields found.0.0 found.0.1 found.1) in
+    (record { in_time = ap (too_late known) is.0.1 ∙ both.0; in_range = is.0.0 }, is.1)
+said_in Events known verb fields s e =
     let both = unless_in (too_late known verb) (whole (form_of known verb) fields) s e in
     let found = then_ok (form_of known verb fields) none_left s both.1 in
     let is : IsSaid known verb s = subst (IsSaid known verb) (whole_ok found.0 s found.2) (form_gives known verb fields found.0.0 found.0.1 found.1) in
     record { in_time = ap (too_late known) is.1 ∙ both.0; in_range = is.0 }
 
-entry_in : (played : List Verb) (known : Known) (fields : List (List ℕ)) (s : Said) → entry played known fields ≡ Ok (Some s) → IsWell known s
-entry_in played known [] s e = absurd (none-some s (same_Ok None (Some s) e))
-entry_in played known (word ∷ fields) s e =
-    let verb = then_ok (some_or Word (named verb_word played word)) (λ v. and_then (said known v fields) (λ x. Ok (Some x))) (Some s) e in
-    let found = then_ok (said known verb.0 fields) (λ x. Ok (Some x)) (Some s) verb.2 in
-    subst (IsWell known) (same_Some found.0 s (same_Ok (Some found.0) (Some s) found.2)) (said_in known verb.0 fields found.0 found.1)
+entry_in : (dialect : Dialect) (known : Known) (fields : List (List ℕ)) (s : Said) → entry dialect known fields ≡ Ok (Some s) → IsWellIn dialect known s
+entry_in dialect known [] s e = absurd (none-some s (same_Ok None (Some s) e))
+entry_in dialect known (word ∷ fields) s e =
+    let verb = then_ok (some_or Word (named (word_of dialect) (verbs_of dialect) word)) (λ v. and_then (said dialect known v fields) (λ x. Ok (Some x))) (Some s) e in
+    let found = then_ok (said dialect known verb.0 fields) (λ x. Ok (Some x)) (Some s) verb.2 in
+    subst (IsWellIn dialect known) (same_Some found.0 s (same_Ok (Some found.0) (Some s) found.2)) (said_in dialect known verb.0 fields found.0 found.1)
 
-line_in : (played : List Verb) (known : Known) (n : ℕ) (text : List ℕ) (s : Said) → line_says played known n text ≡ Ok (Some s) → IsWell known s
-line_in played known n text s e =
+line_in : (dialect : Dialect) (known : Known) (n : ℕ) (text : List ℕ) (s : Said) → line_says dialect known n text ≡ Ok (Some s) → IsWellIn dialect known s
+line_in dialect known n text s e =
     let early = if_err (nat_lt 1000000 n) TooMany _ (Some s) e in
     let short = if_err (nat_lt 140000 (length text)) LineLong _ (Some s) early in
-    entry_in played known (pieces text) s (comment (is_comment text) (entry played known (pieces text)) s short)
+    entry_in dialect known (pieces text) s (comment (is_comment text) (entry dialect known (pieces text)) s short)
 
 -- behind some lines the rest is well formed
-record IsRest (lines all : List Numbered) : Type 0 where
+record IsRest (dialect : Dialect) (lines all : List Numbered) : Type 0 where
   pub rest : List Numbered
   pub is : all ≡ lines ++ rest
-  pub well : AreWell (known_of lines) (map (λ line. line.statement) rest)
+  pub well : AreWellIn dialect (known_of lines) (map (λ line. line.statement) rest)
 
-with_entry : (played : List Verb) (lines : List Numbered) (n : ℕ) (text : List ℕ) (all : List Numbered) (entry : Option Said) → line_says played (known_of lines) n text ≡ Ok entry → IsRest (more lines n entry) all → IsRest lines all
-with_entry played lines n text all None e r = r
-with_entry played lines n text all (Some s) e r =
+with_entry : (dialect : Dialect) (lines : List Numbered) (n : ℕ) (text : List ℕ) (all : List Numbered) (entry : Option Said) → line_says dialect (known_of lines) n text ≡ Ok entry → IsRest dialect (more lines n entry) all → IsRest dialect lines all
+with_entry dialect lines n text all None e r = r
+with_entry dialect lines n text all (Some s) e r =
     let line : Numbered = record { number = n; statement = s } in record {
       rest = line ∷ r.rest;
       is = r.is ∙ append_assoc lines (line ∷ []) r.rest;
-      well = (line_in played (known_of lines) n text s e, subst (λ (k : Known). AreWell k (map (λ l. l.statement) r.rest)) (sym (learned_more lines n s)) r.well);
+      well = (line_in dialect (known_of lines) n text s e, subst (λ (k : Known). AreWellIn dialect k (map (λ l. l.statement) r.rest)) (sym (learned_more lines n s)) r.well);
     }
 
-rest_well : (played : List Verb) (lines : List Numbered) (n : ℕ) (texts : List (List ℕ)) (all : List Numbered) → SayTheRest played lines n texts all → IsRest lines all
-rest_well played lines n [] all s = record { rest = []; is = sym s ∙ sym (append-nil lines); well = tt }
-rest_well played lines n (text ∷ texts) all s = with_entry played lines n text all s.0 s.1 (rest_well played (more lines n s.0) (n + 1) texts all s.2)
+rest_well : (dialect : Dialect) (lines : List Numbered) (n : ℕ) (texts : List (List ℕ)) (all : List Numbered) → SayTheRest dialect lines n texts all → IsRest dialect lines all
+rest_well dialect lines n [] all s = record { rest = []; is = sym s ∙ sym (append-nil lines); well = tt }
+rest_well dialect lines n (text ∷ texts) all s = with_entry dialect lines n text all s.0 s.1 (rest_well dialect (more lines n s.0) (n + 1) texts all s.2)
 
-pub spelled_well : (played : List Verb) (bytes : List ℕ) (lines : List Numbered) (count : ℕ) → Spells played bytes lines count → AreWell (known_of {D = List ℕ} {N = List ℕ} []) (map (λ line. line.statement) lines)
-spelled_well played bytes lines count s =
-    let r = rest_well played [] 1 (lines_of bytes) lines s.says in
-    subst (λ (ls : List Numbered). AreWell (known_of {D = List ℕ} {N = List ℕ} []) (map (λ line. line.statement) ls)) (sym r.is) r.well
+pub spelled_well : (dialect : Dialect) (bytes : List ℕ) (lines : List Numbered) (count : ℕ) → Spells dialect bytes lines count → AreWellIn dialect (known_of {D = List ℕ} {N = List ℕ} []) (map (λ line. line.statement) lines)
+spelled_well dialect bytes lines count s =
+    let r = rest_well dialect [] 1 (lines_of bytes) lines s.says in
+    subst (λ (ls : List Numbered). AreWellIn dialect (known_of {D = List ℕ} {N = List ℕ} []) (map (λ line. line.statement) ls)) (sym r.is) r.well

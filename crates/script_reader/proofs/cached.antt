@@ -1,6 +1,3 @@
-pub mod FieldLaws
+pub mod Narrow
 mod Wrongs
-mod Knows
-mod Passes
-pub mod ReadingLaws
 mod Wells

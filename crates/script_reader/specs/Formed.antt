@@ -7,6 +7,8 @@ use Rattle.pack_geometry.specs.declared.DriveKind.{DriveKind}
 use Rattle.pack_geometry.specs.Geometry.{block_count, sectors_of}
 use Rattle.hardware_table.specs.declared.NoiseSpan.{NoiseSpan}
 use Rattle.hardware_table.specs.declared.NoiseSpan.TheVariants.{Times, Until}
+use Rattle.script_lines.specs.declared.dialect.Dialect.{Dialect}
+use Rattle.script_lines.specs.declared.dialect.Dialect.TheVariants.{Events, Cached}
 use Rattle.script_lines.specs.declared.statement.Content.{Content}
 use Rattle.script_lines.specs.declared.statement.Content.TheVariants as contents
 use Rattle.script_lines.specs.declared.statement.Request.{Request}
@@ -14,6 +16,7 @@ use Rattle.script_lines.specs.declared.statement.Statement.TheVariants as says
 use Rattle.script_lines.specs.Forms.{too_late}
 use Rattle.script_lines.specs.Known.{Known, Said, verb_of, kind_after, has_id, declares, requests, strikes}
 use Rattle.script_lines.specs.Knowing.{one}
+use Rattle.script_reader.specs.cached.Scripts.{IsOfCache}
 
 -- a unit was declared, as a drive of this kind, and as one of any kind
 abbrev pub IsDrive : Known → ℕ → DriveKind → Type 0
@@ -88,7 +91,19 @@ learned known statement = record {
   noises = known.noises + one (strikes (verb_of statement));
 }
 
+-- In a script of the cache ids may come again, and only its own statements are there.
+abbrev pub without_ids : Known → Known
+without_ids known = record known { used = λ id. false }
+
+abbrev pub IsWellIn : Dialect → Known → Said → Type 0
+IsWellIn Events known statement = IsWell known statement
+IsWellIn Cached known statement = IsWell (without_ids known) statement × IsOfCache statement
+
 -- statements, each well formed behind those before it
+abbrev pub AreWellIn : Dialect → Known → List Said → Type 0
+AreWellIn dialect known [] = Unit {0}
+AreWellIn dialect known (statement ∷ rest) = IsWellIn dialect known statement × AreWellIn dialect (learned known statement) rest
+
+-- the same of a script of events
 abbrev pub AreWell : Known → List Said → Type 0
-AreWell known [] = Unit {0}
-AreWell known (statement ∷ rest) = IsWell known statement × AreWell (learned known statement) rest
+AreWell known statements = AreWellIn Events known statements

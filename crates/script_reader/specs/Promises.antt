@@ -3,7 +3,6 @@ use Rattle.std.specs.Prelude.{◌≡◌, ◌↔◌, ℕ, ◌*◌, Bool, true, Li
 use Rattle.pack_geometry.specs.declared.DriveKind.{DriveKind}
 use Rattle.script_lines.specs.declared.statement.Content.{Content}
 use Rattle.script_lines.specs.declared.statement.Statement.TheVariants as says
-use Rattle.script_lines.specs.declared.verbs.Verb.{Verb}
 use Rattle.script_reader.specs.Data.{IsData}
 use Rattle.script_reader.specs.Formed.{IsWritten}
 use Rattle.script_reader.specs.Grammar.{Spells}
@@ -23,7 +22,7 @@ statements_in script = map (λ (line : Line). line.statement) script.lines
 
 -- Whatever bytes spell means a script: lines numbered upwards, drives first, no id twice, and each input of units that are there.
 abbrev pub MeansScript : Type 0
-MeansScript = (played : List Verb) (bytes : List ℕ) (lines : List Numbered) (count : ℕ) → Spells played bytes lines count → IsScript (meaning lines count)
+MeansScript = (bytes : List ℕ) (lines : List Numbered) (count : ℕ) → Spells all_verbs bytes lines count → IsScript (meaning lines count)
 
 -- So what the reader gives for bytes means a script.
 abbrev pub ReadMeansScript : Type 0
@@ -31,7 +30,7 @@ ReadMeansScript = (bytes : List ℕ) (script : Stored) → Spells all_verbs byte
 
 -- Its drives are those of the `unit` lines.
 abbrev pub DeclaresUnits : Type 0
-DeclaresUnits = (played : List Verb) (bytes : List ℕ) (lines : List Numbered) (count : ℕ) → Spells played bytes lines count
+DeclaresUnits = (bytes : List ℕ) (lines : List Numbered) (count : ℕ) → Spells all_verbs bytes lines count
     → (u : ℕ) (kind : DriveKind) → drives_of (meaning lines count) u ≡ Some kind ↔ Contains (said_in lines) (says.Unit u kind)
 
 -- Texts that spell the same statements mean the same, whatever lines they pass over.

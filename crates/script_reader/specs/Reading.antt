@@ -3,7 +3,7 @@ use Rattle.std.specs.Prelude.{◌≡◌, ℕ, ◌+◌, List, [], ◌∷◌, Resu
 use Rattle.script_lines.specs.declared.kinds.ScriptKind.{ScriptKind}
 use Rattle.script_reader.specs.declared.fault.ReadFault.{ReadFault}
 use Rattle.script_reader.specs.declared.fault.ReadFault.TheVariants.{Memory, Refused}
-use Rattle.script_lines.specs.declared.verbs.Verb.{Verb}
+use Rattle.script_lines.specs.declared.dialect.Dialect.{Dialect}
 use Rattle.script_lines.specs.Known.{Numbered, known_of}
 use Rattle.script_reader.specs.Grammar.{line_says, more, IsRefused}
 
@@ -22,10 +22,10 @@ on (Ok a) f g = f a
 on (Err b) f g = g b
 
 -- the lines of a script, after those that were read
-abbrev pub reading : List Verb → List Numbered → ℕ → List (List ℕ) → Result Read Refusal
-reading played lines n [] = Ok (record { lines = lines; next = n })
-reading played lines n (text ∷ texts) =
-    on (line_says played (known_of lines) n text) (λ entry. reading played (more lines n entry) (n + 1) texts) (λ kind. Err (record { line = n; kind = kind }))
+abbrev pub reading : Dialect → List Numbered → ℕ → List (List ℕ) → Result Read Refusal
+reading dialect lines n [] = Ok (record { lines = lines; next = n })
+reading dialect lines n (text ∷ texts) =
+    on (line_says dialect (known_of lines) n text) (λ entry. reading dialect (more lines n entry) (n + 1) texts) (λ kind. Err (record { line = n; kind = kind }))
 
 -- what a reader refuses is what it found, unless memory ran out
 abbrev pub Finds : ReadFault → Result Read Refusal → Type 0
@@ -33,6 +33,6 @@ Finds Memory found = Unit {0}
 Finds (Refused line kind) found = found ≡ Err (record { line = line; kind = kind })
 
 -- a fault of reading says which line is the first faulty one, or that there was no memory
-abbrev pub Refuses : List Verb → ReadFault → List ℕ → Type 0
-Refuses played Memory bytes = Unit {0}
-Refuses played (Refused line kind) bytes = IsRefused played bytes line kind
+abbrev pub Refuses : Dialect → ReadFault → List ℕ → Type 0
+Refuses dialect Memory bytes = Unit {0}
+Refuses dialect (Refused line kind) bytes = IsRefused dialect bytes line kind

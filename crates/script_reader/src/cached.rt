@@ -4,9 +4,7 @@
 //! by line and kind. `cached_grammar_law`: any bytes have a script or a fault, and never both. What a script holds is always what some
 //! bytes spell. Only tested: that memory suffices.
 
-mod forms;
 mod kind;
-mod known;
 mod script;
 mod statement;
 

@@ -1,11 +1,11 @@
 ghost use Rattle.std.specs.Prelude.{◌≡◌, ◌⊎◌, ◌<◌, ◌≤◌, ◌+◌, ℕ, List, Ok, Some, IfOk, IfErr, OnOk, length, map, [], ◌∷◌, ◌++◌};
 ghost use Rattle.std.specs.Option.{option_map};
 ghost use Rattle.script_lines.specs.declared.kinds.ScriptKind.{ScriptKind};
-ghost use Rattle.script_lines.specs.declared.verbs.Verb.{Verb};
+ghost use Rattle.script_lines.specs.declared.dialect.Dialect.{Dialect};
 ghost use Rattle.script_reader.specs.Data.{IsData};
 ghost use Rattle.script_lines.specs.Fields.{and_then, changed};
 ghost use Rattle.script_reader.specs.Grammar.{entry, line_says, Spells, IsRefused};
-ghost use Rattle.script_reader.specs.Formed.{AreWell};
+ghost use Rattle.script_reader.specs.Formed.{AreWell, AreWellIn};
 ghost use Rattle.script_lines.specs.Known.{Said, Numbered, known_of};
 ghost use Rattle.script_lines.specs.Knowing.{known_in, Learns, LearnsFrom};
 ghost use Rattle.script_reader.specs.Lines.{lines_of};
@@ -23,7 +23,7 @@ use crate::lines::{first_piece, without_cr};
 use fire_code::Noise;
 use mass_text::Fields;
 use script_lines::{
-    Content, Known, Line, LineFault, Read, ScriptKind, Span, Statement, said, verb,
+    Content, Dialect, Known, Line, LineFault, Read, ScriptKind, Span, Statement, said, verb,
 };
 use std::alloc::Global;
 use std::marker::Model;
@@ -53,15 +53,16 @@ fn some_read(read: Result<Read, LineFault>) -> Result<Option<Read>, LineFault>
 /// What fields say, on the line at `span` of the text. None if there is no field.
 fn entry(
     alloc: Global,
+    dialect: Dialect,
     known: &Known,
     span: Span,
     fields: &mut Fields,
 ) -> Result<Option<Read>, LineFault>
-    ensures { Answers result (changed (option_map (read_of span)) (entry all_verbs (known_in known.now) fields.old)) }
+    ensures { Answers result (changed (option_map (read_of span)) (entry dialect (known_in known.now) fields.old)) }
 {
     match fields.next() {
-        Some(word) => match verb(word) {
-            Ok(verb) => some_read(said(alloc, known, verb, span, fields)),
+        Some(word) => match verb(dialect, word) {
+            Ok(verb) => some_read(said(alloc, dialect, known, verb, span, fields)),
             Err(kind) => Err(LineFault::Kind(kind)),
         },
         None => Ok(None),
@@ -71,12 +72,13 @@ fn entry(
 /// What line number `number` says, at `span` of the text. None if the line is passed over.
 fn line_says(
     alloc: Global,
+    dialect: Dialect,
     known: &Known,
     number: u32,
     span: Span,
     line: &[u8],
 ) -> Result<Option<Read>, LineFault>
-    ensures value { Answers result (changed (option_map (read_of span)) (line_says all_verbs (known_in known.now) number line.now)) }
+    ensures value { Answers result (changed (option_map (read_of span)) (line_says dialect (known_in known.now) number line.now)) }
     ensures number { OnOk result (number ≤ 1000000) }
 {
     if number > MOST_LINES {
@@ -88,7 +90,7 @@ fn line_says(
     if !line.is_empty() && line[0] == b'#' {
         return Ok(None);
     }
-    entry(alloc, known, span, &mut Fields::new(line))
+    entry(alloc, dialect, known, span, &mut Fields::new(line))
 }
 
 /// A statement as a script holds it.
@@ -190,6 +192,7 @@ struct Lines {
 /// Reads the lines of a text behind nothing, and gives the number of the line behind the last.
 fn read_into(
     alloc: Global,
+    dialect: Dialect,
     text: &[u8],
     known: &mut Known,
     lines: &mut Vec<Stored>,
@@ -197,9 +200,9 @@ fn read_into(
     requires short { length text.now ≤ 16777216 }
     requires known { known_in known.old ≡ known_of {D = List ℕ} {N = List ℕ} [] }
     requires none { lines.old.items ≡ [] }
-    ensures ok { IfOk result (λ next. reading all_verbs [] 1 (lines_of text.now) ≡ Ok (record { lines = map (seen text.now) lines.new.items; next = next })) }
+    ensures ok { IfOk result (λ next. reading dialect [] 1 (lines_of text.now) ≡ Ok (record { lines = map (seen text.now) lines.new.items; next = next })) }
     ensures some { IfOk result (λ next. 0 < next) }
-    ensures err { IfErr result (λ fault. Finds fault (reading all_verbs [] 1 (lines_of text.now))) }
+    ensures err { IfErr result (λ fault. Finds fault (reading dialect [] 1 (lines_of text.now))) }
 {
     let mut number = 1;
     let mut rest = text;
@@ -211,7 +214,7 @@ fn read_into(
             start: start as u32,
             end: (start + line.len()) as u32,
         };
-        match line_says(alloc, known, number, span, line) {
+        match line_says(alloc, dialect, known, number, span, line) {
             Ok(read) => store_some(number, read, known, lines)?,
             Err(LineFault::Kind(kind)) => {
                 return Err(ReadFault::Refused {
@@ -228,15 +231,15 @@ fn read_into(
 }
 
 /// Reads the lines of a text.
-fn read_lines(alloc: Global, text: &[u8]) -> Result<Lines, ReadFault>
+fn read_lines(alloc: Global, dialect: Dialect, text: &[u8]) -> Result<Lines, ReadFault>
     requires { length text.now ≤ 16777216 }
-    ensures ok { IfOk result (λ read. reading all_verbs [] 1 (lines_of text.now) ≡ Ok (record { lines = map (seen text.now) read.lines.items; next = read.next })) }
+    ensures ok { IfOk result (λ read. reading dialect [] 1 (lines_of text.now) ≡ Ok (record { lines = map (seen text.now) read.lines.items; next = read.next })) }
     ensures some { IfOk result (λ read. 0 < read.next) }
-    ensures err { IfErr result (λ fault. Finds fault (reading all_verbs [] 1 (lines_of text.now))) }
+    ensures err { IfErr result (λ fault. Finds fault (reading dialect [] 1 (lines_of text.now))) }
 {
     let mut lines = Vec::new(alloc);
     let mut known = Known::new(alloc);
-    match read_into(alloc, text, &mut known, &mut lines) {
+    match read_into(alloc, dialect, text, &mut known, &mut lines) {
         Ok(next) => Ok(Lines { lines, next }),
         Err(fault) => Err(fault),
     }
@@ -258,6 +261,28 @@ impl Model for Script {
     ghost view = { λ s. record { text = s.text.items; lines = s.lines.items; count = s.count } };
 }
 
+/// Reads a script of a dialect from its bytes. It is refused exactly if the bytes spell no such script.
+pub(crate) fn read_in(alloc: Global, dialect: Dialect, bytes: Vec<u8>) -> Result<Script, ReadFault>
+    ensures ok { IfOk result (λ script. Spells dialect bytes.items (lines_in script) script.count) }
+    ensures text { IfOk result (λ script. script.text ≡ bytes.items) }
+    ensures err { IfErr result (λ fault. Refuses dialect fault bytes.items) }
+{
+    if bytes.len() > LONGEST {
+        return Err(ReadFault::Refused {
+            line: 0,
+            kind: ScriptKind::ScriptLong,
+        });
+    }
+    match read_lines(alloc, dialect, bytes.as_slice()) {
+        Ok(read) => Ok(Script {
+            text: bytes,
+            lines: read.lines,
+            count: read.next - 1,
+        }),
+        Err(fault) => Err(fault),
+    }
+}
+
 /// Reads a script from its bytes. It is refused exactly if the bytes spell no script. The refusal names the first fault: `ScriptLong`
 /// at line 0 if there are more than 16 MiB, and otherwise the first faulty line with its kind. `Memory` comes only if there was no
 /// memory.
@@ -266,20 +291,7 @@ pub fn read_script(alloc: Global, bytes: Vec<u8>) -> Result<Script, ReadFault>
     ensures text { IfOk result (λ script. script.text ≡ bytes.items) }
     ensures err { IfErr result (λ fault. Refuses all_verbs fault bytes.items) }
 {
-    if bytes.len() > LONGEST {
-        return Err(ReadFault::Refused {
-            line: 0,
-            kind: ScriptKind::ScriptLong,
-        });
-    }
-    match read_lines(alloc, bytes.as_slice()) {
-        Ok(read) => Ok(Script {
-            text: bytes,
-            lines: read.lines,
-            count: read.next - 1,
-        }),
-        Err(fault) => Err(fault),
-    }
+    read_in(alloc, Dialect::Events, bytes)
 }
 
 impl Script {
@@ -315,18 +327,18 @@ impl Script {
     }
 }
 
-/// The law of the grammar, for any words that are played: any bytes spell exactly one list of lines or have exactly one first fault,
+/// The law of the grammar, for each dialect: any bytes spell exactly one list of lines or have exactly one first fault,
 /// and never both.
 pub fn grammar_law()
-    ensures one_script { (played : List Verb) (bytes : List ℕ) (lines others : List Numbered) (count other : ℕ) → Spells played bytes lines count → Spells played bytes others other → (lines ≡ others) × (count ≡ other) }
-    ensures no_fault { (played : List Verb) (bytes : List ℕ) (lines : List Numbered) (count : ℕ) → Spells played bytes lines count → (number : ℕ) (kind : ScriptKind) → ¬ IsRefused played bytes number kind }
-    ensures one_fault { (played : List Verb) (bytes : List ℕ) (number other : ℕ) (kind kind_other : ScriptKind) → IsRefused played bytes number kind → IsRefused played bytes other kind_other → (number ≡ other) × (kind ≡ kind_other) }
-    ensures some { (played : List Verb) (bytes : List ℕ) → ((lines : List Numbered) × (count : ℕ) × Spells played bytes lines count) ⊎ ((number : ℕ) × (kind : ScriptKind) × IsRefused played bytes number kind) }
+    ensures one_script { (dialect : Dialect) (bytes : List ℕ) (lines others : List Numbered) (count other : ℕ) → Spells dialect bytes lines count → Spells dialect bytes others other → (lines ≡ others) × (count ≡ other) }
+    ensures no_fault { (dialect : Dialect) (bytes : List ℕ) (lines : List Numbered) (count : ℕ) → Spells dialect bytes lines count → (number : ℕ) (kind : ScriptKind) → ¬ IsRefused dialect bytes number kind }
+    ensures one_fault { (dialect : Dialect) (bytes : List ℕ) (number other : ℕ) (kind kind_other : ScriptKind) → IsRefused dialect bytes number kind → IsRefused dialect bytes other kind_other → (number ≡ other) × (kind ≡ kind_other) }
+    ensures some { (dialect : Dialect) (bytes : List ℕ) → ((lines : List Numbered) × (count : ℕ) × Spells dialect bytes lines count) ⊎ ((number : ℕ) × (kind : ScriptKind) × IsRefused dialect bytes number kind) }
 {}
 
 /// The law of printed lines: the text of well-formed statements spells exactly those statements, one on each line; and what any text
 /// spells is well formed.
 pub fn read_back_law()
     ensures back { (statements : List Said) → AreWell (known_of {D = List ℕ} {N = List ℕ} []) statements → length statements ≤ 1000000 → length (text_of statements) ≤ 16777216 → Spells all_verbs (text_of statements) (numbered 1 statements) (length statements) }
-    ensures well { (played : List Verb) (bytes : List ℕ) (lines : List Numbered) (count : ℕ) → Spells played bytes lines count → AreWell (known_of {D = List ℕ} {N = List ℕ} []) (map (λ line. line.statement) lines) }
+    ensures well { (dialect : Dialect) (bytes : List ℕ) (lines : List Numbered) (count : ℕ) → Spells dialect bytes lines count → AreWellIn dialect (known_of {D = List ℕ} {N = List ℕ} []) (map (λ line. line.statement) lines) }
 {}

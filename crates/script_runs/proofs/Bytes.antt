@@ -24,6 +24,6 @@ short_of : (count n m : ℕ) → count ≡ n → n ≤ m → m ≤ 16777216 → 
 short_of count n m is le few = omega (arith, is, le, few)
 
 pub bytes_have_one_run : BytesHaveOneRun
-bytes_have_one_run played bytes lines count old spells =
-    one_run_exists (meaning lines count) old (means_script played bytes lines count spells)
+bytes_have_one_run bytes lines count old spells =
+    one_run_exists (meaning lines count) old (means_script bytes lines count spells)
     (short_of count (length (pieces_of bytes)) (length bytes) (spells.counted ∙ length-map (pieces_of bytes) without_cr) (few_pieces bytes) spells.short)

@@ -15,7 +15,8 @@ use Rattle.script_reader.specs.declared.cached.statement.Statement.{Statement as
 use Rattle.script_reader.specs.declared.cached.statement.Statement.TheVariants as says
 use Rattle.script_reader.specs.declared.cached.statement.Line.{Line as Said}
 use Rattle.script_reader.specs.cached.Scripts as cached
-use Rattle.script_reader.specs.cached.Scripts.{kind_after, kind_in, known_of}
+use Rattle.script_reader.specs.cached.Scripts.{as_said, as_line, known_of}
+use Rattle.script_lines.specs.Known.{kind_after, kind_in}
 use Rattle.script_reader.specs.cached.Formed.{IsWell, AreWell, IsScript}
 use Rattle.script_reader.specs.cached.Meaning.{statement_of, line_of, lines_before, meaning_of}
 
@@ -23,17 +24,17 @@ use Rattle.script_reader.specs.cached.Meaning.{statement_of, line_of, lines_befo
 abbrev pub Has : Option DriveKind → Type 0
 Has o = (k : DriveKind) × (o ≡ Some k)
 
-none_step : (u : ℕ) (st : Says) (before rest : Option DriveKind) → kind_after u st before ≡ None → rest ≡ None → (before ≡ None) × (declared_by (statement_of st) u rest ≡ None)
+none_step : (u : ℕ) (st : Says) (before rest : Option DriveKind) → kind_after u (as_said st) before ≡ None → rest ≡ None → (before ≡ None) × (declared_by (statement_of st) u rest ≡ None)
 none_step u (says.Unit v kind) before rest none also = elim (eqb_tells v u) [
   | inl same ↦ absurd (none-some kind (sym none ∙ ap (λ t. if t then Some kind else before) same.0))
   | inr other ↦ (sym (ap (λ t. if t then Some kind else before) other.0) ∙ none, ap (λ t. if t then Some kind else rest) (ne_eqb u v (λ e. other.1 (sym e))) ∙ also)
 ]
 none_step u it before rest none also = (none, also)
 
-none_declared : (u : ℕ) (xs : List Said) (before : Option DriveKind) → kind_in u xs before ≡ None → (before ≡ None) × (drives_in (map line_of xs) u ≡ None)
+none_declared : (u : ℕ) (xs : List Said) (before : Option DriveKind) → kind_in u (map as_line xs) before ≡ None → (before ≡ None) × (drives_in (map line_of xs) u ≡ None)
 none_declared u [] before none = (none, refl)
 none_declared u (x ∷ xs) before none =
-    let rest = none_declared u xs (kind_after u x.statement before) none in
+    let rest = none_declared u xs (kind_after u (as_said x.statement) before) none in
     none_step u x.statement before (drives_in (map line_of xs) u) rest.0 rest.1
 
 still_declared : (u : ℕ) (st : Says) (rest : Option DriveKind) → Has rest → Has (declared_by (statement_of st) u rest)
@@ -46,16 +47,16 @@ still_declared u (says.Read a) rest has = has
 still_declared u (says.Write a fill) rest has = has
 still_declared u says.Sync rest has = has
 
-some_step : (u : ℕ) (st : Says) (before rest : Option DriveKind) → Has (kind_after u st before) → Has before ⊎ Has (declared_by (statement_of st) u rest)
+some_step : (u : ℕ) (st : Says) (before rest : Option DriveKind) → Has (kind_after u (as_said st) before) → Has before ⊎ Has (declared_by (statement_of st) u rest)
 some_step u (says.Unit v kind) before rest has = elim (eqb_tells v u) [
   | inl same ↦ inr (kind, ap (λ t. if t then Some kind else rest) (eq-eqb u v (sym same.1)))
   | inr other ↦ inl (has.0, sym (ap (λ t. if t then Some kind else before) other.0) ∙ has.1)
 ]
 some_step u it before rest has = inl has
 
-pub some_declared : (u : ℕ) (xs : List Said) (before : Option DriveKind) → Has (kind_in u xs before) → Has before ⊎ Has (drives_in (map line_of xs) u)
+pub some_declared : (u : ℕ) (xs : List Said) (before : Option DriveKind) → Has (kind_in u (map as_line xs) before) → Has before ⊎ Has (drives_in (map line_of xs) u)
 some_declared u [] before has = inl has
-some_declared u (x ∷ xs) before has = elim (some_declared u xs (kind_after u x.statement before) has) [
+some_declared u (x ∷ xs) before has = elim (some_declared u xs (kind_after u (as_said x.statement) before) has) [
   | inl here ↦ some_step u x.statement before (drives_in (map line_of xs) u) here
   | inr later ↦ inr (still_declared u x.statement (drives_in (map line_of xs) u) later)
 ]

@@ -5,7 +5,7 @@ use Rattle.pack_geometry.specs.TableSpelling.{Table}
 use Rattle.hardware_table.specs.declared.Moved.{Moved}
 use Rattle.hardware_table.specs.Drive.{DriveState}
 use Rattle.hardware_table.specs.Moves.{IsVerdict}
-use Rattle.script_lines.specs.declared.verbs.Verb.{Verb}
+use Rattle.script_lines.specs.Words.{all_verbs}
 use Rattle.script_reader.specs.Grammar.{Spells}
 use Rattle.script_lines.specs.Known.{Numbered}
 use Rattle.script_reader.specs.Meaning.{meaning}
@@ -37,8 +37,8 @@ OneRunExists = (script : Script) (old : ℕ → Pack) → IsScript script → sc
 
 -- THE LAW. Whatever bytes spell has exactly one legal run over any packs.
 abbrev pub BytesHaveOneRun : Type 0
-BytesHaveOneRun = (played : List Verb) (bytes : List ℕ) (lines : List Numbered) (count : ℕ) (old : ℕ → Pack)
-    → Spells played bytes lines count → HasOneRun (meaning lines count) old
+BytesHaveOneRun = (bytes : List ℕ) (lines : List Numbered) (count : ℕ) (old : ℕ → Pack)
+    → Spells all_verbs bytes lines count → HasOneRun (meaning lines count) old
 
 -- A SECTOR THAT IS TRIED has a verdict, whatever places noise flips in it.
 abbrev pub VerdictsExist : Type 0

@@ -1,5 +1,5 @@
 -- What can be wrong with a line: a kind that comes here.
-use Rattle.std.proofs.Common.{◌≡◌, ℕ, ◌&&◌, Bool, true, false, List, [], ◌∷◌, length, subst, Option, None, Some, Result, Ok, Err}
+use Rattle.std.proofs.Common.{◌≡◌, inl, inr, ℕ, ◌&&◌, Bool, true, false, List, [], ◌∷◌, length, sym, subst, Option, None, Some, Result, Ok, Err}
 use Rattle.std.specs.Prelude.{if◌then◌else◌, nat_lt, codes, ◌==◌}
 use Rattle.std.specs.Str.{bytes_eq}
 use Rattle.pack_geometry.specs.declared.DriveKind.{DriveKind}
@@ -11,15 +11,15 @@ use Rattle.mass_text.specs.declared.numbers.NumberFault.TheVariants.{Empty, Digi
 use Rattle.script_lines.specs.declared.kinds.ScriptKind.{ScriptKind}
 use Rattle.script_lines.specs.declared.kinds.ScriptKind.TheVariants as kinds
 use Rattle.script_lines.specs.Fields.{and_then, changed, or_kind, some_or, number_field, kind_field, counted, count_kind, count_field, byte_field}
+use Rattle.script_lines.specs.declared.dialect.Dialect.TheVariants.{Cached}
+use Rattle.script_lines.specs.declared.verbs.Verb.{Verb}
+use Rattle.script_lines.specs.declared.verbs.Verb.TheVariants as verbs
+use Rattle.script_lines.specs.Dialects.{cached_word, cached_verbs, blocks_form, fill_by, fill_form, cached_form, said}
 use Rattle.script_lines.specs.Words.{named}
-use Rattle.script_lines.specs.Forms.{Form, gives, fails, next, field, none_left, whole, unless}
-use Rattle.script_lines.specs.Known.{Known, fresh, old, new_unit_field, unit_field}
-use Rattle.script_reader.specs.Grammar.{is_comment}
-use Rattle.script_reader.specs.declared.cached.forms.Verb.{Verb}
-use Rattle.script_reader.specs.declared.cached.forms.Verb.TheVariants as verbs
-use Rattle.script_reader.specs.declared.cached.statement.Statement.{Statement}
+use Rattle.script_lines.specs.Forms.{Form, gives, fails, next, field, none_left, whole, unless, too_late}
+use Rattle.script_lines.specs.Known.{Known, Said, declares, is_full, fresh, old, new_unit_field, unit_field}
+use Rattle.script_reader.specs.Grammar.{entry, is_comment, line_says, IsRefused}
 use Rattle.script_reader.specs.cached.Kinds.{IsCachedKind}
-use Rattle.script_reader.specs.cached.Scripts.{verb_word, all_verbs, start_form, fill_by, fill_form, form_of, too_late, is_full, declares, said, entry, line_says}
 
 -- ---- what is wrong is a kind that comes here
 abbrev Only : {A : Type 0} → Result A ScriptKind → Type 0
@@ -55,6 +55,9 @@ many = record { no_id = λ e. cc; no_bits = λ e. cc }
 
 long : IsCachedKind kinds.LineLong
 long = record { no_id = λ e. cc; no_bits = λ e. cc }
+
+script_long : IsCachedKind kinds.ScriptLong
+script_long = record { no_id = λ e. cc; no_bits = λ e. cc }
 
 -- ---- one thing and then another
 then_only : {A B : Type 0} (first : Result A ScriptKind) (rest : A → Result B ScriptKind) → Only first → ((a : A) → Only (rest a)) → Only (and_then first rest)
@@ -112,9 +115,9 @@ changed_only name (Ok a) only = tt
 changed_only name (Err kind) only = only
 
 -- ---- forms
-start_only : (known : Known) → OnlyForm (start_form known)
-unfolding start_form
-start_only known =
+blocks_only : (known : Known) → OnlyForm (blocks_form known)
+unfolding blocks_form
+blocks_only known =
     next_only (field (number_field 0 4294967295)) _ (field_only (number_field 0 4294967295) (number_only 0 4294967295)) (λ id.
     next_only (field (unit_field known)) _ (field_only (unit_field known) (unit_only known)) (λ unit_kind.
     next_only (field (number_field 0 4294967295)) _ (field_only (number_field 0 4294967295) (number_only 0 4294967295)) (λ block.
@@ -126,27 +129,28 @@ byte_only text = changed_only _ (or_kind kinds.Data _) (or_only kinds.Data _ dat
 fill_by_only : (text : List ℕ) → OnlyForm (fill_by text)
 fill_by_only text fields = by (bytes_eq text (codes "fill"))
   where
-    by : (t : Bool) → Only ((if t then next (field byte_field) (λ b. gives b) else fails kinds.Word) fields)
-    by true = next_only (field byte_field) (λ b. gives b) (field_only byte_field byte_only) (λ b. λ rest. tt) fields
+    by : (t : Bool) → Only ((if t then field byte_field else fails kinds.Word) fields)
+    by true = field_only byte_field byte_only fields
     by false = word
 
 fill_only : OnlyForm fill_form
 unfolding fill_form
 fill_only = next_only (field (λ text. Ok text)) fill_by (field_only (λ text. Ok text) (λ text. tt)) fill_by_only
 
-form_only : (known : Known) (verb : Verb) → OnlyForm (form_of known verb)
+form_only : (known : Known) (verb : Verb) → OnlyForm (cached_form known verb)
 form_only known verbs.Unit = next_only (field (new_unit_field known)) _ (field_only (new_unit_field known) (new_unit_only known)) (λ u.
     next_only (field kind_field) _ (field_only kind_field (λ text. some_only _)) (λ kind. λ fields. tt))
-form_only known verbs.Read = next_only (start_form known) _ (start_only known) (λ asked. λ fields. tt)
-form_only known verbs.Write = next_only (start_form known) _ (start_only known) (λ asked. next_only fill_form _ fill_only (λ fill. λ fields. tt))
-form_only known verbs.Sync = λ fields. tt
+form_only known verbs.Read = next_only (blocks_form known) _ (blocks_only known) (λ request. λ fields. tt)
+form_only known verbs.Write = next_only (blocks_form known) _ (blocks_only known) (λ request. next_only fill_form _ fill_only (λ fill. λ fields. tt))
+form_only known verbs.Drain = λ fields. tt
+form_only known other = λ fields. word
 
 -- ---- lines
 left_only : {A : Type 0} (p : A × List (List ℕ)) → Only (none_left p)
 left_only (a, []) = tt
 left_only (a, text ∷ fields) = word
 
-late_only : (known : Known) (verb : Verb) (r : Result Statement ScriptKind) → Only r → Only (unless (too_late known verb) r)
+late_only : (known : Known) (verb : Verb) (r : Result Said ScriptKind) → Only r → Only (unless (too_late known verb) r)
 late_only known verb r rest = by (declares verb && known.later) (is_full known verb)
   where
     by : (early full : Bool) → Only (unless (if early then Some kinds.LateUnit else if full then Some kinds.TooMany else None) r)
@@ -154,17 +158,22 @@ late_only known verb r rest = by (declares verb && known.later) (is_full known v
     by false true = many
     by false false = rest
 
-said_only : (known : Known) (verb : Verb) (fields : List (List ℕ)) → Only (said known verb fields)
-said_only known verb fields = late_only known verb (whole (form_of known verb) fields) (then_only (form_of known verb fields) none_left (form_only known verb fields) left_only)
+said_only : (known : Known) (verb : Verb) (fields : List (List ℕ)) → Only (said Cached known verb fields)
+said_only known verb fields = late_only known verb (whole (cached_form known verb) fields) (then_only (cached_form known verb fields) none_left (form_only known verb fields) left_only)
 
-entry_only : (known : Known) (fields : List (List ℕ)) → Only (entry known fields)
+entry_only : (known : Known) (fields : List (List ℕ)) → Only (entry Cached known fields)
 entry_only known [] = tt
-entry_only known (text ∷ fields) = then_only (some_or kinds.Word (named verb_word all_verbs text)) (λ verb. and_then (said known verb fields) (λ s. Ok (Some s)))
-    (some_only (named verb_word all_verbs text)) (λ verb. then_only (said known verb fields) (λ s. Ok (Some s)) (said_only known verb fields) (λ s. tt))
+entry_only known (text ∷ fields) = then_only (some_or kinds.Word (named cached_word cached_verbs text)) (λ verb. and_then (said Cached known verb fields) (λ s. Ok (Some s)))
+    (some_only (named cached_word cached_verbs text)) (λ verb. then_only (said Cached known verb fields) (λ s. Ok (Some s)) (said_only known verb fields) (λ s. tt))
 
-line_only : (known : Known) (n : ℕ) (text : List ℕ) → Only (line_says known n text)
+line_only : (known : Known) (n : ℕ) (text : List ℕ) → Only (line_says Cached known n text)
 line_only known n text = if_only (nat_lt 1000000 n) (Err kinds.TooMany) _ many (if_only (nat_lt 140000 (length text)) (Err kinds.LineLong) _ long
-    (if_only (is_comment text) (Ok None) (entry known (pieces text)) tt (entry_only known (pieces text))))
+    (if_only (is_comment text) (Ok None) (entry Cached known (pieces text)) tt (entry_only known (pieces text))))
 
-pub line_kind : (known : Known) (n : ℕ) (text : List ℕ) (kind : ScriptKind) → line_says known n text ≡ Err kind → IsCachedKind kind
-line_kind known n text kind is = subst (λ (r : Result (Option Statement) ScriptKind). Only r) is (line_only known n text)
+line_kind : (known : Known) (n : ℕ) (text : List ℕ) (kind : ScriptKind) → line_says Cached known n text ≡ Err kind → IsCachedKind kind
+line_kind known n text kind is = subst (λ (r : Result (Option Said) ScriptKind). Only r) is (line_only known n text)
+
+-- so a whole text is refused for one of these kinds
+pub refused_kind : (bytes : List ℕ) (number : ℕ) (kind : ScriptKind) → IsRefused Cached bytes number kind → IsCachedKind kind
+refused_kind bytes number kind (inl long) = subst IsCachedKind (sym long.2) script_long
+refused_kind bytes number kind (inr fault) = line_kind _ number fault.1.text kind fault.1.faulty

@@ -1,107 +1,73 @@
-ghost use Rattle.std.specs.Prelude.{◌≡◌, ◌⊎◌, ◌<◌, ◌≤◌, ◌+◌, ℕ, List, Ok, IfOk, IfErr, OnOk, length, []};
+ghost use Rattle.std.specs.Prelude.{◌≡◌, ◌⊎◌, ℕ, List, IfOk, IfErr, map};
 ghost use Rattle.script_lines.specs.declared.kinds.ScriptKind.{ScriptKind};
-ghost use Rattle.script_reader.specs.Lines.{lines_of};
 ghost use Rattle.script_reader.specs.declared.cached.statement.Line.{Line};
 ghost use Rattle.script_reader.specs.cached.Formed.{IsScript};
-ghost use Rattle.script_reader.specs.cached.Knowing.{known_in, LearnsFrom};
-ghost use Rattle.script_reader.specs.cached.Scripts.{more, line_says, Spells, IsRefused, Refuses};
-ghost use Rattle.script_reader.specs.cached.Reading.{reading, Finds};
+ghost use Rattle.script_reader.specs.cached.Scripts.{asked_of, fill_of, narrowed, narrowed_line, Spells, IsRefused, Refuses};
 
-use crate::cached::forms::entry;
+use crate::ReadFault;
 use crate::cached::kind::{CachedKind, CachedRefusal};
-use crate::cached::known::Known;
-use crate::cached::statement::{Line, Statement};
-use crate::{first_piece, without_cr};
-use mass_text::Fields;
-use script_lines::ScriptKind;
+use crate::cached::statement::{Asked, Line, Statement};
+use crate::script::{Stored, read_in};
+use fire_code::Noise;
+use script_lines::{Content, Dialect, Request, Span};
 use std::alloc::Global;
 use std::marker::Model;
 
-/// The longest script, in bytes: 16 MiB.
-const LONGEST: usize = 16_777_216;
-
-/// The largest number of lines in a script.
-const MOST_LINES: u32 = 1_000_000;
-
-/// The longest line, in bytes.
-const LONGEST_LINE: usize = 140_000;
-
-/// What line number `number` says; None where it is passed over.
-fn line_says(known: &Known, number: u32, line: &[u8]) -> Result<Option<Statement>, ScriptKind>
-    ensures value { result ≡ line_says (known_in known.now) number line.now }
-    ensures number { OnOk result (number ≤ 1000000) }
+/// The blocks that a line asks for.
+fn asked(request: &Request) -> Asked
+    ensures { result ≡ asked_of request.now }
 {
-    if number > MOST_LINES {
-        return Err(ScriptKind::TooMany);
+    Asked {
+        id: request.id,
+        unit: request.unit,
+        block: request.block,
+        count: request.count,
     }
-    if line.len() > LONGEST_LINE {
-        return Err(ScriptKind::LineLong);
-    }
-    if !line.is_empty() && line[0] == b'#' {
-        return Ok(None);
-    }
-    entry(known, &mut Fields::new(line))
 }
 
-/// Stores what was read of line number `number`, where it says something.
-fn store(
-    number: u32,
-    read: Option<Statement>,
-    known: &mut Known,
-    lines: &mut Vec<Line>,
-) -> Result<(), CachedRefusal>
-    requires requests { (known_in known.old).requests < 1000000 }
-    ensures learns { OnOk result (LearnsFrom read (known_in known.old) (known_in known.new)) }
-    ensures stores { OnOk result (lines.new.items ≡ more lines.old.items number read) }
-    ensures requests { OnOk result ((known_in known.new).requests ≤ (known_in known.old).requests + 1) }
+/// The byte that a write fills its blocks with. No other content comes.
+fn fill(content: &Content<Span>) -> u8
+    ensures { result ≡ fill_of content.now }
+{
+    match content {
+        Content::Fill(byte) => *byte,
+        _ => 0,
+    }
+}
+
+/// What a line of the cache says. None of the lines that are left comes, except a drain.
+fn narrowed(statement: &script_lines::Statement<Span, Box<Noise>>) -> Statement
+    ensures { result ≡ narrowed statement.now }
+{
+    match statement {
+        script_lines::Statement::Unit { unit, kind } => Statement::Unit {
+            unit: *unit,
+            kind: *kind,
+        },
+        script_lines::Statement::Read { request } => Statement::Read {
+            asked: asked(request),
+        },
+        script_lines::Statement::Write { request, content } => Statement::Write {
+            asked: asked(request),
+            fill: fill(content),
+        },
+        _ => Statement::Sync,
+    }
+}
+
+/// Lines of the cache, without what other lines have.
+fn narrowed_lines(alloc: Global, lines: &[Stored]) -> Result<Vec<Line>, CachedRefusal>
+    ensures ok { IfOk result (λ narrow. narrow.items ≡ map narrowed_line lines.now) }
     ensures err { IfErr result (λ fault. fault ≡ CachedRefusal.Memory) }
 {
-    match read {
-        None => Ok(()),
-        Some(statement) => {
-            known.learn(&statement);
-            lines.push(Line { number, statement })?;
-            Ok(())
-        }
+    let mut narrow = Vec::new(alloc);
+    for line in lines {
+        narrow.push(Line {
+            number: line.number,
+            statement: narrowed(&line.statement),
+        })?;
     }
-}
-
-/// The lines that were read, and the number of the line behind the last.
-#[derive(Drop)]
-struct Lines {
-    lines: Vec<Line>,
-    next: u32,
-}
-
-/// Reads the lines of a text.
-fn read_lines(alloc: Global, text: &[u8]) -> Result<Lines, CachedRefusal>
-    requires { length text.now ≤ 16777216 }
-    ensures ok { IfOk result (λ read. reading [] 1 (lines_of text.now) ≡ Ok (record { lines = read.lines.items; next = read.next })) }
-    ensures some { IfOk result (λ read. 0 < read.next) }
-    ensures err { IfErr result (λ fault. Finds fault (reading [] 1 (lines_of text.now))) }
-{
-    let mut lines = Vec::new(alloc);
-    let mut known = Known::new();
-    let mut number = 1;
-    let mut rest = text;
-    'lines: while !rest.is_empty() {
-        let (piece, after) = first_piece(rest);
-        match line_says(&known, number, without_cr(piece)) {
-            Ok(read) => store(number, read, &mut known, &mut lines)?,
-            Err(kind) => {
-                return Err(CachedRefusal::Refused {
-                    line: u64::from(number),
-                    kind: CachedKind::named(kind),
-                });
-            }
-        }
-        number += 1;
-        rest = after;
-    }
-    Ok(Lines {
-        lines,
-        next: number,
-    })
+    Ok(narrow)
 }
 
 /// A script of the cache: its lines that say something, and how many lines it has in all.
@@ -127,16 +93,20 @@ pub fn read_cached(alloc: Global, bytes: Vec<u8>) -> Result<CachedScript, Cached
     ensures ok { IfOk result (λ script. Spells bytes.items script.lines script.count) }
     ensures err { IfErr result (λ refusal. Refuses refusal bytes.items) }
 {
-    if bytes.len() > LONGEST {
-        return Err(CachedRefusal::Refused {
-            line: 0,
-            kind: CachedKind::ScriptLong,
-        });
-    }
-    let read = read_lines(alloc, bytes.as_slice())?;
+    let script = match read_in(alloc, Dialect::Cached, bytes) {
+        Ok(script) => script,
+        Err(ReadFault::Memory) => return Err(CachedRefusal::Memory),
+        Err(ReadFault::Refused { line, kind }) => {
+            return Err(CachedRefusal::Refused {
+                line,
+                kind: CachedKind::named(kind),
+            });
+        }
+    };
+    let lines = narrowed_lines(alloc, script.lines())?;
     Ok(CachedScript {
-        lines: read.lines,
-        count: read.next - 1,
+        lines,
+        count: script.count(),
     })
 }
 

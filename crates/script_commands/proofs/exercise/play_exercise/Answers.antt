@@ -39,7 +39,7 @@ returns-in-Ok-play-clause-done g c =
     (λ bytes ls os k o. c.grammar_law.ensures.one_script all_verbs bytes ls os k o) in
     exercised_for c.args.number (meaning_of c.in-Ok-read_script.script) _ _ _ _ _ c.in-Ok-play.tally same
     (is_exercise c.args.number (c.spelling_law.ensures c.args.number) (c.bounds_law.ensures.short c.args.number))
-    (c.meaning_law.ensures.script _ _ _ _ (c.spelling_law.ensures c.args.number)) c.in-Ok-new.ensures.empty (search rules) c.promises_law.ensures
+    (c.meaning_law.ensures.script _ _ _ (c.spelling_law.ensures c.args.number)) c.in-Ok-new.ensures.empty (search rules) c.promises_law.ensures
     (c.in-Ok-play.ensures.tallied refl)
 
 pub returns-in-Err-Sink-clause-stopped : goal.returns-in-Err-Sink-clause-stopped

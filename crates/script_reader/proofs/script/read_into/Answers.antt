@@ -5,7 +5,6 @@ use Rattle.script_lines.specs.Knowing.{known_in}
 use Rattle.script_reader.specs.Lines.{lines_of}
 use Rattle.script_reader.specs.Reading.{reading}
 use Rattle.script_reader.specs.Stored.{seen}
-use Rattle.script_lines.specs.Words.{all_verbs}
 use Rattle.script_reader.proofs.ReaderLaws.{gone, behind, there, front_short, none_left}
 use Rattle.script_reader.proofs.script.read_into.Goals as goal
 
@@ -23,8 +22,8 @@ lines-preserved c =
     let stored = c.in_ok-store_some-in-Ok.ensures in
     let front = c.without_cr-line.ensures.front in
     let goes =
-    gone all_verbs (known_in c.lines.known) (known_in c.store_some.new.known) text c.lines.lines.items c.store_some.new.lines.items c.lines.number span rest piece after line c.in-Ok.read
-    (reading all_verbs [] 1 (lines_of text)) so_far.same so_far.known split.line c.without_cr-line.ensures.value c.in-Ok.ensures.value
+    gone c.args.dialect (known_in c.lines.known) (known_in c.store_some.new.known) text c.lines.lines.items c.store_some.new.lines.items c.lines.number span rest piece after line c.in-Ok.read
+    (reading c.args.dialect [] 1 (lines_of text)) so_far.same so_far.known split.line c.without_cr-line.ensures.value c.in-Ok.ensures.value
     (there text rest piece line start so_far.place split.front front (front_short line piece front)) stored.learns stored.stores in
     let shorter : length after ≤ length rest = omega (arith, split.shorter) in record {
       same = goes.same;
@@ -42,7 +41,7 @@ returns c =
     let text = c.args.text.now in
     let rest = c.lines.rest.now in
     record {
-      ok = none_left all_verbs (map (seen text) c.lines.lines.items) c.lines.number rest (reading all_verbs [] 1 (lines_of text))
+      ok = none_left c.args.dialect (map (seen text) c.lines.lines.items) c.lines.number rest (reading c.args.dialect [] 1 (lines_of text))
           (eqb-true (length rest) 0 (sym c.is_empty.ensures ∙ c.lines-test.false)) c.lines.invariant.same;
       some = c.lines.invariant.first;
       err = tt;
