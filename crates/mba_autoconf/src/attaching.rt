@@ -1,5 +1,5 @@
 //! Attaching a drive.
-ghost use Rattle.std.specs.Prelude.{◌≡◌, ◌<◌, ◌≤◌, true, IfOk, IfErr, IfSome, IsErrOf, IsTrue};
+ghost use Rattle.std.specs.Prelude.{◌≡◌, ◌×◌, ◌<◌, ◌≤◌, true, IfOk, IfErr, IfSome, IsErrOf, IsTrue};
 ghost use Rattle.hardware_table.specs.declared.Register.TheVariants.{Dt};
 ghost use Rattle.hardware_table.specs.Drive.{DriveState, is_ready, register_of};
 ghost use Rattle.hardware_table.specs.Functions.{attached};
@@ -69,8 +69,7 @@ fn valid_law(table: &Option<BadTable>)
 /// only if the packs' count of faults rose, as they failed at the image's length or at a copy of its table. The packs stay as they are.
 pub fn attach<P: Packs>(drive: &mut Drive, packs: &mut P, unit: u8) -> Result<Attached, AttachFault>
     requires unit { unit < 32 }
-    requires ready { is_ready drive.old.work ≡ true }
-    requires online { drive.old.online ≡ true }
+    requires idle { (is_ready drive.old.work ≡ true) × (drive.old.online ≡ true) }
     ensures drive { drive.new ≡ attached drive.old }
     ensures kind { IfOk result (λ found. found.kind ≡ drive.old.kind) }
     ensures table { IfOk result (λ found. IfSome found.table (λ table. IsTable table × (table.kind ≡ drive.old.kind))) }
