@@ -41,6 +41,7 @@ use Rattle.driver_laws.proofs.invariant.Do.{seek_inside}
 use Rattle.driver_laws.proofs.invariant.Move.{at_command}
 use Rattle.driver_laws.proofs.invariant.End.{calls_still}
 use Rattle.driver_laws.proofs.invariant.Continue.{continue_phase}
+use Rattle.hp_core.specs.Done.{HasUnit, HasHand}
 
 -- HOW MANY numbers below n differ: at most n.
 apart_each : (x : ℕ) (xs : List ℕ) → (Among x xs → ⊥) → AllByRecursion (λ y. eqb x y ≡ false) xs
@@ -238,6 +239,12 @@ module _ (w : World) (line u id : ℕ) (s : Sound w) where
   -- THE REQUEST IN HAND
   pub hand_there : (i : InHand w u id) → IsSome (slot_at w (slot_in_hand (unit_at w u)))
   hand_there i = subst (λ (o : Option Held). IsSome o) (sym i.slot) refl
+
+  pub has_unit : InHand w u id → HasUnit w u
+  has_unit i = record { small = i.unit; unit = there i; adapter = adapter_there i }
+
+  pub has_hand : InHand w u id → HasHand w u
+  has_hand i = record { unit = there i; adapter = adapter_there i; some = i.some; there = hand_there i }
 
   here : (i : InHand w u id) → held_in w (slot_in_hand (unit_at w u)) ≡ i.held
   here i = held_is w (slot_in_hand (unit_at w u)) i.held i.slot

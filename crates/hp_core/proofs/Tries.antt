@@ -1,6 +1,7 @@
 -- What the trying of one sector comes to.
 use Rattle.std.proofs.Common.{◌≡◌, inl, inr, ℕ, ◌≤◌, Bool, true, false, List, [], ◌++◌, length, Option, Some, refl, sym, ap, ◌∙◌, subst, arith}
 use Rattle.std.specs.Prelude.{Result, Ok, Err, IfOk, IfErr, if◌then◌else◌, IsTrue, slice_set, not, ◌&&◌}
+use Rattle.std.proofs.lemmas.Bool.{false≢true}
 use Rattle.main_memory.specs.Bytes.{filled}
 use Rattle.main_memory.specs.Blocks.{size_at}
 use Rattle.pack_geometry.specs.Pack.{Pack, with_written}
@@ -36,10 +37,7 @@ not_both d v e = by (has_bytes v) (is_writing d.work) e
   where
     by : (b w : Bool) → (b && w) ≡ true → (b && not w) ≡ false
     by true true f = refl
-    by true false f = absurd (no_true f)
-      where
-        no_true : false ≡ true → ⊥
-        no_true f = cc
+    by true false f = absurd (false≢true f)
     by false w f = refl
 
 -- a sector was tried, and this is what the driver and the packs are then
@@ -120,7 +118,7 @@ told_causes packs packs' trace trace' (Err Sink) later cause stop =
 told_causes packs packs' trace trace' (Err Store) later cause stop = absurd (cc)
 
 -- the trace's failure is not the packs'
-no_store : (result : Result (Unit {0}) Stop) → IfErr result (λ stop. stop ≡ Sink) → stop_in result ≡ Some Store → ⊥
+pub no_store : (result : Result (Unit {0}) Stop) → IfErr result (λ stop. stop ≡ Sink) → stop_in result ≡ Some Store → ⊥
 no_store (Ok value) stop e = absurd (cc)
 no_store (Err Sink) stop e = absurd (cc)
 no_store (Err Store) stop e = absurd (cc)

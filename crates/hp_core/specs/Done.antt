@@ -1,10 +1,10 @@
 -- What the method of an act does.
-use Rattle.std.specs.Prelude.{◌≡◌, ℕ, ◌<◌, ◌≤◌, Bool, false, List, [], ◌∷◌, length, Result, Option, Some, IsTrue, IfOk, IfErr}
+use Rattle.std.specs.Prelude.{◌≡◌, ℕ, ◌<◌, ◌≤◌, Bool, false, List, [], ◌∷◌, length, Result, Option, Some, IsSome, IsTrue, IfOk, IfErr}
 use Rattle.pack_geometry.specs.Pack.{Pack}
 use Rattle.outside_traits.specs.Causes.{HasCause, Rose}
 use Rattle.hardware_table.specs.Adapter.{next_block}
 use Rattle.outside_traits.specs.Gathers.{Gathers}
-use Rattle.driver_machine.specs.World.{World, adapter_at, adapter_of}
+use Rattle.driver_machine.specs.World.{World, unit_at, adapter_at, slot_at, slot_in_hand, adapter_of}
 use Rattle.driver_machine.specs.Acts.{Act, Of, Sector, Tried, after}
 use Rattle.driver_laws.specs.answers.Outcome.{Does, Outcome, StopsBefore, stop_in}
 use Rattle.driver_laws.specs.declared.answers.outcome.Stop.{Stop}
@@ -39,6 +39,13 @@ pub record HasCauses (packs packs' trace trace' : ℕ) (stop : Option Stop) : Ty
   pub later : trace ≤ trace'
   pub store : stop ≡ Some Store → Rose packs packs'
   pub sink : stop ≡ Some Sink → Rose trace trace'
+
+-- a unit is there with a request in hand, which has its slot, and its adapter is there
+pub record HasHand (w : World) (u : ℕ) : Type 0 where
+  pub unit : u < length w.units
+  pub adapter : adapter_of u < length w.adapters
+  pub some : 0 < length (unit_at w u).queue
+  pub there : IsSome (slot_at w (slot_in_hand (unit_at w u)))
 
 -- a unit is there, and its adapter
 pub record HasUnit (w : World) (u : ℕ) : Type 0 where

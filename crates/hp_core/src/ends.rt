@@ -1,13 +1,13 @@
 // Ends, refusals and answers.
-ghost use Rattle.std.specs.Prelude.{◌≡◌, true, ◌<◌, ◌≤◌, ◌+◌, ◌-◌, ◌∷◌, ◌++◌, [], length, drop, None, Some, IsSome, slice_set};
+ghost use Rattle.std.specs.Prelude.{◌≡◌, true, ◌<◌, ◌≤◌, ◌+◌, ◌-◌, ◌∷◌, ◌++◌, [], length, drop, None, Some, slice_set};
 ghost use Rattle.trace_replay.specs.requests.Requests.{Request};
 ghost use Rattle.driver_machine.specs.declared.Phase.TheVariants.{Waiting};
-ghost use Rattle.driver_machine.specs.World.{unit_at, adapter_at, slot_at, held_in, adapter_of, slot_in_hand, frames_of};
+ghost use Rattle.driver_machine.specs.World.{unit_at, adapter_at, held_in, adapter_of, slot_in_hand, frames_of};
 ghost use Rattle.driver_machine.specs.Acts.{Of, End, Refuse, Nothing, no_more_waits, answer_at};
 ghost use Rattle.driver_machine.specs.Guards.{Allowed};
 ghost use Rattle.driver_machine.specs.Sound.{Sound};
 ghost use Rattle.hp_core.specs.State.{refused_in};
-ghost use Rattle.hp_core.specs.Done.{DoesAct};
+ghost use Rattle.hp_core.specs.Done.{DoesAct, HasHand};
 
 use crate::driver::{Core, needed};
 use driver_laws::answers::outcome::Stop;
@@ -18,10 +18,7 @@ use trace_lines::Told;
 impl Core {
     /// The request in hand ends, and its answer waits.
     fn put_end(&mut self, line: u64, u: u8, kind: AnswerKind)
-        requires unit { u < length self.old.world.units }
-        requires adapter { adapter_of u < length self.old.world.adapters }
-        requires some { 0 < length (unit_at self.old.world u).queue }
-        requires there { IsSome (slot_at self.old.world (slot_in_hand (unit_at self.old.world u))) }
+        requires hand { HasHand self.old.world u }
         requires blocks { 1 ≤ (held_in self.old.world (slot_in_hand (unit_at self.old.world u))).loan.count }
         requires few { (held_in self.old.world (slot_in_hand (unit_at self.old.world u))).loan.count ≤ 127 }
         requires inside { (held_in self.old.world (slot_in_hand (unit_at self.old.world u))).loan.offset < 512 }

@@ -1,5 +1,5 @@
 // What each act changes, by itself.
-ghost use Rattle.std.specs.Prelude.{◌≡◌, ℕ, ◌<◌, ◌≤◌, ◌+◌, length, true, false, IsSome, Some, slice_set};
+ghost use Rattle.std.specs.Prelude.{◌≡◌, ℕ, ◌<◌, ◌≤◌, ◌+◌, length, true, false, Some, slice_set};
 ghost use Rattle.pack_geometry.specs.Geometry.{block_count};
 ghost use Rattle.drive_registers.specs.declared.Function.TheVariants.{Pack as PackFunction, Clear as ClearFunction};
 ghost use Rattle.hardware_table.specs.Drive.{is_ready};
@@ -13,10 +13,11 @@ ghost use Rattle.transfer_engine.specs.Calls.{step_for};
 ghost use Rattle.driver_machine.specs.declared.Task.TheVariants as task;
 ghost use Rattle.driver_machine.specs.declared.Phase.TheVariants as phase;
 ghost use Rattle.driver_machine.specs.declared.RetryStep.TheVariants as retry_step;
-ghost use Rattle.driver_machine.specs.World.{unit_at, adapter_at, slot_at, held_in, adapter_of, drive_of, transfer_of, slot_in_hand};
+ghost use Rattle.driver_machine.specs.World.{unit_at, adapter_at, held_in, adapter_of, drive_of, transfer_of, slot_in_hand};
 ghost use Rattle.driver_machine.specs.Acts.{searching, stepping, transferring, centred, commanded, with_drive, with_state, going_to, in_phase, with_transfer, transfer_tried, interrupted, waits_too, no_more_waits, repaired_at};
 ghost use Rattle.driver_machine.specs.Due.{task_for};
 ghost use Rattle.driver_machine.specs.Sound.{IsShown};
+ghost use Rattle.hp_core.specs.Done.{HasHand, HasUnit};
 
 use crate::driver::Core;
 use driver_machine::{RetryStep, Task};
@@ -29,8 +30,7 @@ use transfer_engine::{Job, Segment};
 impl Core {
     /// The positioning of a drive ends.
     pub(crate) fn put_arrive(&mut self, u: u8)
-        requires unit { u < length self.old.world.units }
-        requires adapter { adapter_of u < length self.old.world.adapters }
+        requires there { HasUnit self.old.world u }
         ensures { self.new ≡ record self.old {
           world = record self.old.world {
             units = slice_set self.old.world.units u (with_drive arrived (unit_at self.old.world u));
@@ -45,8 +45,7 @@ impl Core {
 
     /// The attention of a drive is taken.
     pub(crate) fn put_attend(&mut self, u: u8, taken: u32)
-        requires unit { u < length self.old.world.units }
-        requires adapter { adapter_of u < length self.old.world.adapters }
+        requires there { HasUnit self.old.world u }
         ensures { self.new ≡ record self.old {
           world = record self.old.world {
             units = slice_set self.old.world.units u (going_to (phase.Due (task.Steps taken)) attention_cleared (unit_at self.old.world u));
@@ -135,8 +134,7 @@ impl Core {
 
     /// The unit is ready with a new transfer.
     pub(crate) fn put_begin(&mut self, u: u8, job: Job)
-        requires unit { u < length self.old.world.units }
-        requires adapter { adapter_of u < length self.old.world.adapters }
+        requires there { HasUnit self.old.world u }
         requires job { IsJob job }
         requires room { length (adapter_at self.old.world (adapter_of u)).queue < 32 }
         ensures { self.new ≡ record self.old {
@@ -152,8 +150,7 @@ impl Core {
 
     /// The unit is ready with the transfer that it has.
     pub(crate) fn put_ready(&mut self, u: u8)
-        requires unit { u < length self.old.world.units }
-        requires adapter { adapter_of u < length self.old.world.adapters }
+        requires there { HasUnit self.old.world u }
         requires begun { (unit_at self.old.world u).transfer ≡ Some (transfer_of (unit_at self.old.world u)) }
         requires room { length (adapter_at self.old.world (adapter_of u)).queue < 32 }
         ensures { self.new ≡ record self.old {
@@ -186,10 +183,7 @@ impl Core {
 
     /// The data interrupt is taken: the registers show why the transfer ended.
     pub(crate) fn put_interrupt(&mut self, u: u8)
-        requires unit { u < length self.old.world.units }
-        requires adapter { adapter_of u < length self.old.world.adapters }
-        requires some { 0 < length (unit_at self.old.world u).queue }
-        requires there { IsSome (slot_at self.old.world (slot_in_hand (unit_at self.old.world u))) }
+        requires hand { HasHand self.old.world u }
         requires bus { (held_in self.old.world (slot_in_hand (unit_at self.old.world u))).on_bus ≡ true }
         requires completion { (adapter_at self.old.world (adapter_of u)).state.completion ≡ true }
         requires loaded { (held_in self.old.world (slot_in_hand (unit_at self.old.world u))).loan ≡ loaded_buffer (adapter_at self.old.world (adapter_of u)).state }
@@ -212,10 +206,7 @@ impl Core {
 
     /// RCOM or WCOM, and the adapter's start.
     pub(crate) fn put_move(&mut self, u: u8, write: bool, segment: Segment)
-        requires unit { u < length self.old.world.units }
-        requires adapter { adapter_of u < length self.old.world.adapters }
-        requires some { 0 < length (unit_at self.old.world u).queue }
-        requires there { IsSome (slot_at self.old.world (slot_in_hand (unit_at self.old.world u))) }
+        requires hand { HasHand self.old.world u }
         requires cpu { (held_in self.old.world (slot_in_hand (unit_at self.old.world u))).on_bus ≡ false }
         requires free { (adapter_at self.old.world (adapter_of u)).state.busy ≡ false }
         requires count { 1 ≤ segment.count }
@@ -246,9 +237,7 @@ impl Core {
 
     /// The block that follows `moved` sectors of the segment is repaired.
     pub(crate) fn put_repair(&mut self, u: u8, moved: u32, at: u16, pattern: u16)
-        requires unit { u < length self.old.world.units }
-        requires some { 0 < length (unit_at self.old.world u).queue }
-        requires there { IsSome (slot_at self.old.world (slot_in_hand (unit_at self.old.world u))) }
+        requires hand { HasHand self.old.world u }
         requires cpu { (held_in self.old.world (slot_in_hand (unit_at self.old.world u))).on_bus ≡ false }
         requires few { (held_in self.old.world (slot_in_hand (unit_at self.old.world u))).loan.count ≤ 127 }
         requires inside { (transfer_of (unit_at self.old.world u)).done + moved < (held_in self.old.world (slot_in_hand (unit_at self.old.world u))).loan.count }

@@ -21,10 +21,11 @@ use Rattle.hp_driver.specs.Passes.{State}
 use Rattle.hp_driver.specs.Done.{DoesActs}
 use Rattle.hp_driver.specs.Submissions.{MayRefuse}
 use Rattle.trace_replay.specs.declared.requests.request.Request.{Request}
+use Rattle.hp_core.proofs.Tries.{no_store}
 use Rattle.hp_driver.specs.Subsystem as subsystem
 use Rattle.hp_driver.specs.Subsystem.{asked, Submits, IsAsked}
 use Rattle.hp_driver.specs.Calls.{Stands, Asks, MayAsk, asked_at}
-use Rattle.hp_driver.proofs.Calls.{left_by, ran_does, works_does, no_store}
+use Rattle.hp_driver.proofs.Calls.{left_by, ran_does, works_does}
 use Rattle.hp_driver.proofs.Bytes.{submit_keeps}
 
 -- WHAT MAY BE ASKED

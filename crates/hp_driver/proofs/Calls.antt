@@ -1,5 +1,5 @@
 -- Parts of a call: acts with their lines, and conditions.
-use Rattle.std.proofs.Common.{◌≡◌, ℕ, Bool, true, false, List, [], ◌∷◌, ◌++◌, Some, refl, sym, ap, ◌∙◌, subst, arith}
+use Rattle.std.proofs.Common.{◌≡◌, ℕ, Bool, true, false, List, [], ◌∷◌, ◌++◌, refl, sym, ap, ◌∙◌, subst, arith}
 use Rattle.std.specs.Prelude.{Result, Ok, Err, IfErr, OnOk}
 use Rattle.std.proofs.lemmas.List.{append-nil}
 use Rattle.pack_geometry.specs.Pack.{Pack, empty_pack}
@@ -16,6 +16,7 @@ use Rattle.driver_laws.specs.shown.QuietPasses.{stop_in}
 use Rattle.driver_laws.specs.declared.answers.outcome.Stop.{Stop}
 use Rattle.driver_laws.specs.declared.answers.outcome.Stop.TheVariants.{Store, Sink}
 use Rattle.driver_laws.specs.shown.QuietPasses.{IsReadOf}
+use Rattle.hp_core.proofs.Tries.{no_store}
 use Rattle.hp_driver.specs.Passes.{State, site}
 use Rattle.hp_driver.specs.Passes.{DoesSilently, HasCauses}
 use Rattle.hp_driver.specs.Done.{DoesActs}
@@ -59,12 +60,6 @@ module _ {O : Type 0} (tells : O → Bool) (taken : O → List ℕ) (faults : O 
       → OnOk result (AtWork new.world)
   works_does (Ok x) acts work is = subst AtWork (sym (is.outcome false (λ u. empty_pack)).does.world) work
   works_does (Err stop) acts work is = tt
-
--- what stopped was the trace
-pub no_store : (result : Result (Unit {0}) Stop) → IfErr result (λ stop. stop ≡ Sink) → stop_in result ≡ Some Store → ⊥
-no_store (Ok x) stop e = absurd (cc)
-no_store (Err Sink) stop e = absurd (cc)
-no_store (Err Store) stop e = absurd (cc)
 
 -- THE CAUSES of an event that has nothing to do with the packs
 trace_causes : (packs trace trace' : ℕ) (result : Result (Unit {0}) Stop) → HasCause trace trace' result → IfErr result (λ stop. stop ≡ Sink)

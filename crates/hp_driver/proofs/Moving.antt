@@ -13,6 +13,7 @@ use Rattle.hp_core.specs.Passes.{Stop}
 use Rattle.hp_core.specs.Passes.{Store, Sink}
 use Rattle.hp_core.specs.State.{State, site}
 use Rattle.hp_core.specs.Done.{DoesAct, HasCauses, TriesSector}
+use Rattle.hp_core.proofs.Tries.{no_store}
 use Rattle.hp_driver.specs.Moves.{DoesMove}
 use Rattle.hp_driver.proofs.Parts.{no_move, moves, can_move_is, served_its}
 
@@ -33,12 +34,6 @@ trace_causes packs before now (Err Store) stop c = absurd (other stop)
   where
     other : Store ≡ Sink → ⊥
     other e = absurd (cc)
-
--- so the packs have not
-no_store : (result : Result (Unit {0}) Stop) → IfErr result (λ stop. stop ≡ Sink) → stop_in result ≡ Some Store → ⊥
-no_store (Ok x) stop e = absurd (cc)
-no_store (Err Sink) stop e = absurd (cc)
-no_store (Err Store) stop e = absurd (cc)
 
 -- an adapter that can move and does not write
 write_off : (can write : Bool) → can ≡ true → can && write ≡ false → write ≡ false

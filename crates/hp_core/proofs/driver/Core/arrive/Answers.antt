@@ -2,14 +2,11 @@ use Rattle.std.proofs.Common.{refl}
 use Rattle.trace_replay.specs.requests.Requests.{WriteOk}
 use Rattle.hp_core.proofs.Telling.{told_act}
 use Rattle.hp_core.proofs.Scenes.{by_adapter}
-use Rattle.hp_core.proofs.Deeds.{there, adapter_there}
+use Rattle.hp_core.proofs.Deeds.{has_unit}
 use Rattle.hp_core.proofs.driver.Core.arrive.Goals as goal
 
-pub put_arrive-requires-clause-unit : goal.put_arrive-requires-clause-unit
-put_arrive-requires-clause-unit g c = there _ c.args.line _ _ c.requires.sound c.requires.may.0
-
-pub put_arrive-requires-clause-adapter : goal.put_arrive-requires-clause-adapter
-put_arrive-requires-clause-adapter g c = adapter_there _ c.args.line _ _ c.requires.sound c.requires.may.0
+pub put_arrive-requires : goal.put_arrive-requires
+put_arrive-requires g c = record { there = has_unit _ c.args.line _ _ c.requires.sound c.requires.may.0 }
 
 pub returns : goal.returns
 returns g c = told_act _ _ _ _ _ _ _ _ _ _ _ (record { reads = λ w p. tt; packs = λ w p. refl }) c.requires.may refl (by_adapter _ _ _ _ _ _ c.requires.may.0 c.put_arrive.ensures) (c.tell.ensures WriteOk)

@@ -7,7 +7,7 @@ use Rattle.driver_machine.specs.World.{unit_at, adapter_at, adapter_of}
 use Rattle.driver_machine.specs.Acts.{waits_too}
 use Rattle.hp_core.proofs.Telling.{silent_act}
 use Rattle.hp_core.proofs.Scenes.{by_adapter}
-use Rattle.hp_core.proofs.Deeds.{there, adapter_there, ready_room, is_job, hand_there}
+use Rattle.hp_core.proofs.Deeds.{there, has_unit, ready_room, is_job, hand_there}
 use Rattle.hp_core.proofs.driver.Core.begin.Goals as goal
 
 pub job-job-requires-clause-unit : goal.job-job-requires-clause-unit
@@ -19,11 +19,8 @@ job-job-requires-clause-some c = c.requires.may.0.some
 pub job-job-requires-clause-there : goal.job-job-requires-clause-there
 job-job-requires-clause-there c = hand_there _ c.args.line _ _ c.requires.sound c.requires.may.0
 
-pub put_begin-requires-clause-unit : goal.put_begin-requires-clause-unit
-put_begin-requires-clause-unit c = there _ c.args.line _ _ c.requires.sound c.requires.may.0
-
-pub put_begin-requires-clause-adapter : goal.put_begin-requires-clause-adapter
-put_begin-requires-clause-adapter c = adapter_there _ c.args.line _ _ c.requires.sound c.requires.may.0
+pub put_begin-requires-clause-there : goal.put_begin-requires-clause-there
+put_begin-requires-clause-there c = has_unit _ c.args.line _ _ c.requires.sound c.requires.may.0
 
 pub put_begin-requires-clause-job : goal.put_begin-requires-clause-job
 put_begin-requires-clause-job c = subst IsJob (sym c.job-job.ensures) (is_job _ c.args.line _ _ c.requires.sound c.requires.may.0)

@@ -1,20 +1,11 @@
 use Rattle.std.proofs.Common.{refl}
 use Rattle.trace_replay.specs.requests.Requests.{WriteOk}
 use Rattle.hp_core.proofs.Telling.{told_act}
-use Rattle.hp_core.proofs.Deeds.{there, adapter_there, hand_there, can_move}
+use Rattle.hp_core.proofs.Deeds.{has_hand, can_move}
 use Rattle.hp_core.proofs.driver.Core.command.Goals as goal
 
-pub put_move-requires-clause-unit : goal.put_move-requires-clause-unit
-put_move-requires-clause-unit g c = there _ c.args.line _ _ c.requires.sound c.requires.may.0
-
-pub put_move-requires-clause-adapter : goal.put_move-requires-clause-adapter
-put_move-requires-clause-adapter g c = adapter_there _ c.args.line _ _ c.requires.sound c.requires.may.0
-
-pub put_move-requires-clause-some : goal.put_move-requires-clause-some
-put_move-requires-clause-some g c = c.requires.may.0.some
-
-pub put_move-requires-clause-there : goal.put_move-requires-clause-there
-put_move-requires-clause-there g c = hand_there _ c.args.line _ _ c.requires.sound c.requires.may.0
+pub put_move-requires-clause-hand : goal.put_move-requires-clause-hand
+put_move-requires-clause-hand g c = has_hand _ c.args.line _ _ c.requires.sound c.requires.may.0
 
 pub put_move-requires-clause-free : goal.put_move-requires-clause-free
 put_move-requires-clause-free g c = c.requires.may.1.1

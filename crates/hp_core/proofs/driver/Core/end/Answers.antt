@@ -2,21 +2,12 @@ use Rattle.std.proofs.Common.{refl}
 use Rattle.hp_core.proofs.Telling.{told_act}
 use Rattle.driver_machine.specs.Lines.{answer_told}
 use Rattle.driver_machine.specs.World.{unit_at, held_in, slot_in_hand}
-use Rattle.hp_core.proofs.Deeds.{there, adapter_there, hand_there}
+use Rattle.hp_core.proofs.Deeds.{has_hand}
 use Rattle.hp_core.proofs.Rooms.{answers_room, frames_there, loan_there}
 use Rattle.hp_core.proofs.driver.Core.end.Goals as goal
 
-pub put_end-requires-clause-unit : goal.put_end-requires-clause-unit
-put_end-requires-clause-unit g c = there _ c.args.line _ _ c.requires.sound c.requires.may.0
-
-pub put_end-requires-clause-adapter : goal.put_end-requires-clause-adapter
-put_end-requires-clause-adapter g c = adapter_there _ c.args.line _ _ c.requires.sound c.requires.may.0
-
-pub put_end-requires-clause-some : goal.put_end-requires-clause-some
-put_end-requires-clause-some g c = c.requires.may.0.some
-
-pub put_end-requires-clause-there : goal.put_end-requires-clause-there
-put_end-requires-clause-there g c = hand_there _ c.args.line _ _ c.requires.sound c.requires.may.0
+pub put_end-requires-clause-hand : goal.put_end-requires-clause-hand
+put_end-requires-clause-hand g c = has_hand _ c.args.line _ _ c.requires.sound c.requires.may.0
 
 pub put_end-requires-clause-blocks : goal.put_end-requires-clause-blocks
 put_end-requires-clause-blocks g c = (loan_there _ _ _ c.requires.sound c.requires.may.0).shape.some

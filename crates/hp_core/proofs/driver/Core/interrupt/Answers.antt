@@ -1,20 +1,11 @@
 use Rattle.std.proofs.Common.{refl}
 use Rattle.trace_replay.specs.requests.Requests.{WriteOk}
 use Rattle.hp_core.proofs.Telling.{told_act}
-use Rattle.hp_core.proofs.Deeds.{there, adapter_there, hand_there, ended}
+use Rattle.hp_core.proofs.Deeds.{has_hand, ended}
 use Rattle.hp_core.proofs.driver.Core.interrupt.Goals as goal
 
-pub put_interrupt-requires-clause-unit : goal.put_interrupt-requires-clause-unit
-put_interrupt-requires-clause-unit g c = there _ c.args.line _ _ c.requires.sound c.requires.may.0
-
-pub put_interrupt-requires-clause-adapter : goal.put_interrupt-requires-clause-adapter
-put_interrupt-requires-clause-adapter g c = adapter_there _ c.args.line _ _ c.requires.sound c.requires.may.0
-
-pub put_interrupt-requires-clause-some : goal.put_interrupt-requires-clause-some
-put_interrupt-requires-clause-some g c = c.requires.may.0.some
-
-pub put_interrupt-requires-clause-there : goal.put_interrupt-requires-clause-there
-put_interrupt-requires-clause-there g c = hand_there _ c.args.line _ _ c.requires.sound c.requires.may.0
+pub put_interrupt-requires-clause-hand : goal.put_interrupt-requires-clause-hand
+put_interrupt-requires-clause-hand g c = has_hand _ c.args.line _ _ c.requires.sound c.requires.may.0
 
 pub put_interrupt-requires-clause-bus : goal.put_interrupt-requires-clause-bus
 put_interrupt-requires-clause-bus g c = (ended _ c.args.line _ _ c.requires.sound _ _ c.requires.may).bus

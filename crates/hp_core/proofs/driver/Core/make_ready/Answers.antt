@@ -1,14 +1,11 @@
 use Rattle.std.proofs.Common.{refl}
 use Rattle.hp_core.proofs.Telling.{silent_act}
 use Rattle.hp_core.proofs.Scenes.{by_adapter}
-use Rattle.hp_core.proofs.Deeds.{there, adapter_there, ready_room, steps_begun}
+use Rattle.hp_core.proofs.Deeds.{has_unit, ready_room, steps_begun}
 use Rattle.hp_core.proofs.driver.Core.make_ready.Goals as goal
 
-pub put_ready-requires-clause-unit : goal.put_ready-requires-clause-unit
-put_ready-requires-clause-unit c = there _ c.args.line _ _ c.requires.sound c.requires.may.0
-
-pub put_ready-requires-clause-adapter : goal.put_ready-requires-clause-adapter
-put_ready-requires-clause-adapter c = adapter_there _ c.args.line _ _ c.requires.sound c.requires.may.0
+pub put_ready-requires-clause-there : goal.put_ready-requires-clause-there
+put_ready-requires-clause-there c = has_unit _ c.args.line _ _ c.requires.sound c.requires.may.0
 
 pub put_ready-requires-clause-begun : goal.put_ready-requires-clause-begun
 put_ready-requires-clause-begun c = steps_begun _ c.args.line _ _ c.requires.sound _ c.requires.may.0 c.requires.taken

@@ -11,4 +11,4 @@ noted-self-inside-requires-clause-others c =
     others_at c.self.inside.row c.from.result c.args.u c.self.inside.units.items c.as_slice.result.now c.arrive.new.self c.from.ensures c.as_slice.ensures.value c.self.invariant.positions
 
 pub returns : goal.returns
-returns c = unit_channel _ _ _ _ _ _ _ (with_drive arrived) _ _ _ _ (with_state (attention_raised (drive_of c.args.u))) c.self.view_is c.from.ensures c.requires.unit c.index_mut.ensures.value c.arrive.ensures c.from-2.ensures c.requires.adapter c.index_mut-2.ensures.value c.raise.ensures
+returns c = unit_channel _ _ _ _ _ _ _ (with_drive arrived) _ _ _ _ (with_state (attention_raised (drive_of c.args.u))) c.self.view_is c.from.ensures c.requires.there.unit c.index_mut.ensures.value c.arrive.ensures c.from-2.ensures c.requires.there.adapter c.index_mut-2.ensures.value c.raise.ensures

@@ -11,7 +11,7 @@ use Rattle.hp_core.proofs.Units.{row_still}
 use Rattle.hp_core.proofs.driver.Core.put_repair.Goals as goal
 
 pub repair-requires-clause-there : goal.repair-requires-clause-there
-repair-requires-clause-there c = in_slot _ _ _ _ (λ (w : World) (p : ℕ). IsSome (slot_at w p)) c.self.view_is c.hand-slot.ensures c.requires.there
+repair-requires-clause-there c = in_slot _ _ _ _ (λ (w : World) (p : ℕ). IsSome (slot_at w p)) c.self.view_is c.hand-slot.ensures c.requires.hand.there
 
 pub repair-requires-clause-cpu : goal.repair-requires-clause-cpu
 repair-requires-clause-cpu c = in_slot _ _ _ _ (λ (w : World) (p : ℕ). (held_in w p).on_bus ≡ false) c.self.view_is c.hand-slot.ensures c.requires.cpu
@@ -32,11 +32,11 @@ repair-requires-clause-pattern c = c.requires.pattern
 
 pub invariant_of-self : goal.invariant_of-self
 invariant_of-self c = record {
-  positions = row_still _ _ _ _ _ _ c.self.view_is c.from.ensures c.requires.unit c.index_mut.ensures.value _ _ c.self.invariant.positions (ap can_arrive c.judge_again.ensures);
+  positions = row_still _ _ _ _ _ _ c.self.view_is c.from.ensures c.requires.hand.unit c.index_mut.ensures.value _ _ c.self.invariant.positions (ap can_arrive c.judge_again.ensures);
   room = room_set _ _ _ _ _ _ c.self.invariant.room c.repair.ensures;
 }
 
 pub returns : goal.returns
 returns c =
     unit_slot _ _ _ _ _ _ _ (in_phase (phase.Due (task.Judge (c.args.moved + 1) verdict.Clean))) _ _ _ _ _ (λ k. repaired_at k c.args.at c.args.pattern)
-    c.self.view_is c.from.ensures c.requires.unit c.index_mut.ensures.value c.judge_again.ensures c.hand-slot.ensures (ap (λ (d : ℕ). d + c.args.moved) (c.done.ensures ∙ ap (λ (v : UnitView). (transfer_of v).done) c.unit.ensures)) c.repair.ensures
+    c.self.view_is c.from.ensures c.requires.hand.unit c.index_mut.ensures.value c.judge_again.ensures c.hand-slot.ensures (ap (λ (d : ℕ). d + c.args.moved) (c.done.ensures ∙ ap (λ (v : UnitView). (transfer_of v).done) c.unit.ensures)) c.repair.ensures

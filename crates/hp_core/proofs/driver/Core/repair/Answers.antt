@@ -1,17 +1,11 @@
 use Rattle.std.proofs.Common.{refl}
 use Rattle.hp_core.proofs.Telling.{silent_act}
 use Rattle.hp_core.proofs.Scenes.{by_held}
-use Rattle.hp_core.proofs.Deeds.{there, hand_there, repairs}
+use Rattle.hp_core.proofs.Deeds.{has_hand, repairs}
 use Rattle.hp_core.proofs.driver.Core.repair.Goals as goal
 
-pub put_repair-requires-clause-unit : goal.put_repair-requires-clause-unit
-put_repair-requires-clause-unit c = there _ c.args.line _ _ c.requires.sound c.requires.may.0
-
-pub put_repair-requires-clause-some : goal.put_repair-requires-clause-some
-put_repair-requires-clause-some c = c.requires.may.0.some
-
-pub put_repair-requires-clause-there : goal.put_repair-requires-clause-there
-put_repair-requires-clause-there c = hand_there _ c.args.line _ _ c.requires.sound c.requires.may.0
+pub put_repair-requires-clause-hand : goal.put_repair-requires-clause-hand
+put_repair-requires-clause-hand c = has_hand _ c.args.line _ _ c.requires.sound c.requires.may.0
 
 pub put_repair-requires-clause-cpu : goal.put_repair-requires-clause-cpu
 put_repair-requires-clause-cpu c = (repairs _ c.args.line _ _ c.requires.sound _ _ _ c.requires.may).cpu

@@ -2,7 +2,7 @@ use Rattle.std.proofs.Common.{ℕ, sym, subst}
 use Rattle.driver_machine.specs.World.{unit_at, adapter_at, adapter_of}
 use Rattle.request_slots.specs.Steps.{MayStep}
 use Rattle.hp_core.proofs.Tries.{Stepped, named_in, sector_told, sector_stopped}
-use Rattle.hp_core.proofs.Deeds.{there, adapter_there, under_way}
+use Rattle.hp_core.proofs.Deeds.{there, adapter_there, has_unit, under_way}
 use Rattle.hp_core.proofs.driver.Core.sector.Goals as goal
 
 pub hand-slot-requires-clause-unit : goal.hand-slot-requires-clause-unit
@@ -12,11 +12,7 @@ pub hand-slot-requires-clause-some : goal.hand-slot-requires-clause-some
 hand-slot-requires-clause-some g c = c.requires.in_hand.some
 
 pub put_sector-requires-clause-there : goal.put_sector-requires-clause-there
-put_sector-requires-clause-there g c = record {
-  small = c.requires.in_hand.unit;
-  unit = there _ c.args.line _ _ c.requires.sound c.requires.in_hand;
-  adapter = adapter_there _ c.args.line _ _ c.requires.sound c.requires.in_hand;
-}
+put_sector-requires-clause-there g c = has_unit _ c.args.line _ _ c.requires.sound c.requires.in_hand
 
 pub put_sector-requires-clause-may : goal.put_sector-requires-clause-may
 put_sector-requires-clause-may g c =
