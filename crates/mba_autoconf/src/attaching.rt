@@ -1,5 +1,5 @@
 //! Attaching a drive.
-ghost use Rattle.std.specs.Prelude.{◌≡◌, ◌×◌, ◌<◌, ◌≤◌, true, IfOk, IfErr, IfSome, IsErrOf, IsTrue};
+ghost use Rattle.std.specs.Prelude.{◌≡◌, ◌<◌, ◌≤◌, true, IfOk, IfErr, IfSome, IsErrOf, IsTrue};
 ghost use Rattle.hardware_table.specs.declared.Register.TheVariants.{Dt};
 ghost use Rattle.hardware_table.specs.Drive.{DriveState, is_ready, register_of};
 ghost use Rattle.hardware_table.specs.Functions.{attached};
