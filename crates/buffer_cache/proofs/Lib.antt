@@ -6,4 +6,5 @@ mod Stays
 mod Turns
 mod Wholes
 mod Tills
+mod Serving
 pub mod Passes

@@ -3,7 +3,7 @@ use Rattle.std.specs.Prelude.{◌≡◌, ◌⊎◌, ℕ, ◌≤◌, Bool, true, 
 use Rattle.std.specs.List.{AllByRecursion}
 use Rattle.driver_laws.specs.declared.answers.outcome.Stop.{Stop}
 use Rattle.driver_laws.specs.rules.Rest.{HasTables}
-use Rattle.buffer_cache.specs.Passes.{Stage}
+use Rattle.buffer_cache.specs.Passes.{Spot, Stage, seen}
 use Rattle.buffer_cache.specs.Passes.{setup_at, IsReady}
 use Rattle.buffer_cache.specs.Passes.{State as Driver}
 use Rattle.buffer_cache.specs.Passes.{OthersStay}
@@ -14,7 +14,8 @@ use Rattle.trace_replay.specs.requests.Requests.{Request}
 use Rattle.driver_laws.specs.rules.Requests.{reads, writes}
 use Rattle.driver_laws.specs.rules.Calls.{entry, read_done, write_done}
 use Rattle.driver_laws.specs.rules.Contents.{AllFit, Gives, Takes, Flushes, IsOne}
-use Rattle.buffer_cache.specs.Asks.{IsData, Asks, found_bytes}
+use Rattle.blocking_io.specs.Spots.{Keeps}
+use Rattle.buffer_cache.specs.Asks.{IsData, Asks, AsksTill, found_bytes}
 use Rattle.buffer_cache.specs.declared.fault.CacheFault.{CacheFault}
 use Rattle.buffer_cache.specs.declared.fault.CacheFault.TheVariants as fault
 
@@ -74,6 +75,10 @@ pub record Holds (unit block : ℕ) (from : Option (List ℕ)) (s : State) (old 
   pub each : (u b : ℕ) → IsOne (map_at old) s.entries unit block from u b (left_map old new u b)
   pub others : OthersStay (setup_at old) new.held
 
+-- the same where a call left it
+abbrev pub LeavesOne : (unit block : ℕ) → (from : Option (List ℕ)) → State → (old new : Stage) → Type 0
+LeavesOne unit block from s old new = AllFit (map_at old) s.entries → Holds unit block from s old new
+
 -- HOW OFTEN MEMORY REFUSED an insertion: once in a call at the most, whatever it answers
 abbrev pub RefusesOnce : (s s' : State) → Type 0
 RefusesOnce s s' = (s'.refused ≡ s.refused) ⊎ (s'.refused ≡ (counted s).refused)
@@ -90,3 +95,12 @@ given_by (Err fault) bytes = None
 abbrev pub is_done : {A : Type 0} → Result A CacheFault → Bool
 is_done (Ok value) = true
 is_done (Err fault) = false
+
+-- HOW A CALL TURNS OUT for a block that is no entry: it did this, or it was asking for these.
+pub record Serves {A : Type 0} (does : Stage → Stage → Type 0) (line unit block : ℕ) (from : Option (List ℕ)) (asks : Stage → List Request) (result : Result A CacheFault) (s s' : State) (old new : Spot) : Type 0 where
+  pub done : stop_of result ≡ None → does (seen old) (seen new)
+  pub holds : IfTold s (seen old) (seen new) (Holds unit block from s (seen old) (seen new))
+  pub may : stop_of result ≡ None → MayUse s' new.driver
+  pub refused : RefusesOnce s s'
+  pub till : (stop : Stop) → stop_of result ≡ Some stop → IfTold s (seen old) (seen new) (AsksTill stop line (asks (seen old)) (seen old) (seen new))
+  pub keeps : Keeps old new (stop_of result)

@@ -11,6 +11,7 @@ ghost use Rattle.buffer_cache.specs.Calls.{MayUse, Holds, IfTold, Reads, Writes,
 use crate::Subsystem;
 use crate::fault::CacheFault;
 use crate::slots::Cache;
+use blocking_io::Outlet;
 use driver_laws::rules::cached::cache_law;
 use outside_traits::traits::{Packs, Sink};
 
@@ -62,7 +63,12 @@ impl Cache {
         if self.give(unit, block, into) {
             return Ok(());
         }
-        self.read_new(subsystem, line, unit, block, into, packs, trace)
+        let mut site = Outlet {
+            subsystem,
+            packs,
+            trace,
+        };
+        self.read_new(&mut site, line, unit, block, into)
     }
 
     /// Writes a data block of a unit through the cache, at a line from 1 on. The bytes are then in the cache, and go to the pack when
@@ -108,6 +114,11 @@ impl Cache {
         if self.change(unit, block, from) {
             return Ok(());
         }
-        self.write_new(subsystem, line, unit, block, from, packs, trace)
+        let mut site = Outlet {
+            subsystem,
+            packs,
+            trace,
+        };
+        self.write_new(&mut site, line, unit, block, from)
     }
 }
