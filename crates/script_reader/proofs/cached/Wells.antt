@@ -46,9 +46,13 @@ known_next before line =
 are_well : (above most : ℕ) (before lines : List Line) → AreNumbered above most (map line_of (map as_line lines))
     → AreWellIn Cached (known_of before) (map (λ line. line.statement) (map as_line lines)) → AreWell above most before lines
 are_well above most before [] n w = n
-are_well above most before (line ∷ lines) n w =
-    (n.0, (well_of (known_of before) line.statement w.0.0,
-    are_well line.number most (before ++ line ∷ []) lines n.1 (subst (λ (k : Known). AreWellIn Cached k (map (λ l. l.statement) (map as_line lines))) (known_next before line) w.1)))
+are_well above most before (line ∷ lines) n w = (
+  n.0,
+  (
+    well_of (known_of before) line.statement w.0.0,
+    are_well line.number most (before ++ line ∷ []) lines n.1 (subst (λ (k : Known). AreWellIn Cached k (map (λ l. l.statement) (map as_line lines))) (known_next before line) w.1),
+  ),
+)
 
 -- ---- a text has no more lines than bytes
 onto_few : (b : ℕ) (ls : List (List ℕ)) (k : ℕ) → length ls ≤ k → length (onto_first b ls) ≤ suc k
