@@ -1,13 +1,10 @@
--- What wrong bodies would show in columns, refused by the words of adapters, drives, axes and charts.
-use Rattle.std.specs.Prelude.{◌≡◌, ℕ, ◌+◌, ◌-◌, ◌*◌, ◌^◌, ◌<◌, ◌≤◌, true, false, List, [], ◌∷◌, ◌++◌, Some, None, length, slice_get, slice_range, codes}
+-- What wrong bodies would show in columns, refused by the words of adapters, drives and axes.
+use Rattle.std.specs.Prelude.{◌≡◌, ℕ, ◌+◌, ◌-◌, ◌^◌, ◌<◌, ◌≤◌, true, false, List, [], ◌∷◌, ◌++◌, Some, None, slice_get, codes}
 use Rattle.drive_pictures.specs.declared.arms.Path.{Path}
-use Rattle.drive_pictures.specs.declared.letters.Letter.TheVariants.{Idle, Seeks}
 use Rattle.run_picture.specs.declared.columns.Column.{Column}
 use Rattle.picture_markup.specs.Elements.{with_label_number}
 use Rattle.picture_sheet.specs.declared.sheet.Sheet.{Sheet}
-use Rattle.picture_sheet.specs.Letters.{lead_of}
-use Rattle.picture_sheet.specs.Window.{head_of, kind_of}
-use Rattle.picture_sheet.specs.Words.{letter_sign}
+use Rattle.picture_sheet.specs.Window.{head_of}
 use Rattle.picture_scene.specs.declared.scene.Lane.{Lane}
 use Rattle.picture_scene.specs.declared.scene.Scene.{Scene}
 use Rattle.picture_scene.specs.declared.scene.Stretch.{Stretch}
@@ -19,10 +16,6 @@ use Rattle.picture_scene.specs.Keys.{together_in}
 use Rattle.picture_arms.specs.Arms.{points_of, column_points}
 use Rattle.picture_axes.specs.Axes.{with_event}
 use Rattle.picture_motion.specs.Ribbons.{is_busy, with_motion}
-use Rattle.picture_chart.specs.Rows.{with_row}
-use Rattle.picture_chart.specs.Panels.{unit_label, with_unit}
-use Rattle.picture_chart.specs.Signs.{cell_of}
-use Rattle.picture_chart.specs.Pages.{panel_columns}
 
 -- at the first adapter stands how many drives of the second position
 abbrev pub PositioningAtAnotherAdapter : Type 0
@@ -49,13 +42,3 @@ abbrev pub BarOfAnotherUnit : Type 0
 BarOfAnotherUnit = (scene : Scene) (unit other y : ℕ) (s : Stretch) → is_busy (cell_in scene.sheet.now unit s.from).tally (size_of scene.sheet.now s.from) ≡ false
     → is_busy (cell_in scene.sheet.now other s.from).tally (size_of scene.sheet.now s.from) ≡ true
     → ¬ (with_motion scene other y [] s ≡ with_motion scene unit y [] s)
-
--- a panel has 71 columns, though 72 are left
-abbrev pub PanelDropsAColumn : Type 0
-PanelDropsAColumn = (columns : List Column) (n : ℕ) → 72 * n + 72 ≤ length columns → ¬ (slice_range columns (72 * n) (72 * n + 71) ≡ panel_columns columns n)
-
--- a drive is idle, and its row has the letter of another, whose arm moves, whatever rows are behind it
-abbrev pub RowOfAnotherUnit : Type 0
-RowOfAnotherUnit = (sheet : Sheet) (column : Column) (rows : List (List ℕ)) → kind_of sheet 0 ≡ codes "rp06"
-    → lead_of (cell_of 0 column).tally column.head.events ≡ Idle → lead_of (cell_of 1 column).tally column.head.events ≡ Seeks
-    → ¬ (with_row (unit_label sheet 0) (letter_sign (lead_of (cell_of 1 column).tally column.head.events)) [] ++ rows ≡ with_unit sheet (column ∷ []) 0 [])

@@ -1,8 +1,8 @@
-use Rattle.std.proofs.Common.{◌≡◌, ℕ, ◌+◌, ◌-◌, ◌*◌, ◌^◌, ◌<◌, ◌≤◌, min, nat_le, true, List, [], ◌∷◌, ◌++◌, length, get_or, drop, refl, sym, ap, ◌∙◌, arith, length-append, length-drop}
+use Rattle.std.proofs.Common.{◌≡◌, ℕ, ◌+◌, ◌-◌, ◌^◌, ◌<◌, ◌≤◌, min, nat_le, true, List, [], ◌∷◌, ◌++◌, length, get_or, refl, sym, ap, ◌∙◌, arith, length-append}
 use Rattle.std.specs.Prelude.{codes, decimal}
 use Rattle.std.proofs.lemmas.Bool.Decides.{nat_tests}
 use Rattle.std.proofs.lemmas.Fmt.{decimal_injective}
-use Rattle.std.proofs.lemmas.List.{append_cancel_left, append_cancel_right, length-take}
+use Rattle.std.proofs.lemmas.List.{append_cancel_left, append_cancel_right}
 use Rattle.drive_pictures.specs.Counts.{plus}
 use Rattle.picture_markup.specs.declared.pieces.Point.{Point}
 use Rattle.picture_markup.specs.Elements.{with_end, with_opened, with_label_number}
@@ -18,7 +18,6 @@ use Rattle.picture_scene.specs.Keys.{together_in}
 use Rattle.picture_arms.specs.Arms.{points_of, path_points, column_points}
 use Rattle.picture_axes.specs.Axes.{with_event}
 use Rattle.picture_motion.specs.Ribbons.{with_motion, with_stretch}
-use Rattle.picture_rows.proofs.Rows.{other_row}
 use Rattle.picture_rows.proofs.shown_law.Goals as goal
 
 pub returns-clause-positioning_at_another_adapter : goal.returns-clause-positioning_at_another_adapter
@@ -71,13 +70,3 @@ returns-clause-bar_of_another_unit c = λ scene unit other y s idle busy is.
     let bar : with_motion scene other y [] s ≡ with_stretch scene y s (cell_in scene.sheet.now other s.from).tally [] = rw (busy) refl in
     let none : with_motion scene unit y [] s ≡ [] = rw (idle) refl in
     stretch_drawn scene y s (cell_in scene.sheet.now other s.from).tally (sym bar ∙ is ∙ none)
-
-pub returns-clause-panel_drops_a_column : goal.returns-clause-panel_drops_a_column
-returns-clause-panel_drops_a_column c = λ columns n long is. fewer (72 * n) (length columns) (length (drop (72 * n) columns)) long (length-drop (72 * n) columns)
-    (sym (length-take (72 * n + 71 - 72 * n) (drop (72 * n) columns)) ∙ ap length is ∙ length-take (72 * n + 72 - 72 * n) (drop (72 * n) columns))
-  where
-    fewer : (from all behind : ℕ) → from + 72 ≤ all → behind ≡ all - from → min (from + 71 - from) behind ≡ min (from + 72 - from) behind → ⊥
-    fewer from all behind long left is = omega (arith, long, left, is)
-
-pub returns-clause-row_of_another_unit : goal.returns-clause-row_of_another_unit
-returns-clause-row_of_another_unit c = other_row
