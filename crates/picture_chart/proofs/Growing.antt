@@ -1,11 +1,11 @@
 -- A page, and some lines more.
-use Rattle.std.proofs.Common.{◌≡◌, ℕ, suc, ◌+◌, ◌*◌, ◌<◌, List, [], ◌∷◌, ◌++◌, length, take, get_or, refl, sym, ◌∙◌, ap, subst, arith}
+use Rattle.std.proofs.Common.{◌≡◌, ℕ, suc, ◌+◌, ◌-◌, ◌*◌, ◌<◌, List, [], ◌∷◌, ◌++◌, length, take, get_or, refl, sym, ◌∙◌, ap, subst, arith}
 use Rattle.std.specs.Prelude.{Result, Ok, Err, IfOk, slice_range}
 use Rattle.std.proofs.lemmas.List.{append-nil, append_assoc}
 use Rattle.std.proofs.Math.Seq.{take-suc}
 use Rattle.drive_pictures.specs.declared.requests.Request.{Request}
 use Rattle.picture_chart.specs.Charts.{text_of, IsChart}
-use Rattle.picture_chart.specs.Pages.{head_of, Grows, HasLane, Lanes, HasPanel, Panels, panel_columns, panels_of, IsRow, AreRows, HasRows, legend, IsChartOf}
+use Rattle.picture_chart.specs.Pages.{head_of, Grows, HasLane, Lanes, HasPanel, Panels, panel_columns, panels_of, IsRow, AreRows, HasRows, left_out, legend, legend_second, legend_third, IsChartOf}
 use Rattle.picture_sheet.specs.declared.sheet.Sheet.{Sheet}
 use Rattle.picture_sheet.specs.declared.summary.Sentence.{Sentence}
 use Rattle.picture_sheet.specs.Requests.{is_few, listed, shown_count}
@@ -62,11 +62,12 @@ both_ok (Ok a) P Q R f p q = f a p q
 both_ok (Err e) P Q R f p q = tt
 
 -- the chart, page by page
-pub chart_of : (sheet : Sheet) (sentences : List Sentence) (requests : List Request) (head panelled named listing counted lettered page lines : List (List ℕ)) (text : List ℕ)
+pub chart_of : (sheet : Sheet) (sentences : List Sentence) (requests those : List Request) (head panelled named listing counted topped second lettered page lines : List (List ℕ)) (count left : ℕ) (text : List ℕ)
     → SumUp sheet sentences → head ≡ head_of sheet sentences ++ [] ∷ [] → Panels sheet (panels_of sheet.run.now.columns) head panelled
-    → Grows panelled named → requests ≡ listed sheet (is_few (shown_count sheet)) → HasRows requests named listing → Grows listing counted
-    → lettered ≡ counted ++ legend → Grows lettered page → lines ≡ page → text ≡ text_of lines → IsChart text → IsChartOf sheet text
-chart_of sheet sentences requests head panelled named listing counted lettered page lines text sums first panels names those rows count letters marks same is chart = record {
+    → Grows panelled named → requests ≡ those → those ≡ listed sheet (is_few (shown_count sheet)) → HasRows requests named listing
+    → count ≡ shown_count sheet → left ≡ count - length those → counted ≡ listing ++ left_out left
+    → topped ≡ counted ++ legend → second ≡ topped ++ legend_second → lettered ≡ second ++ legend_third → Grows lettered page → lines ≡ page → text ≡ text_of lines → IsChart text → IsChartOf sheet text
+chart_of sheet sentences requests those head panelled named listing counted topped second lettered page lines count left text sums first panels names same listed_are rows all rest told letters next last marks lines_are is chart = record {
   sentences = sentences;
   sums_up = sums;
   panelled = panelled;
@@ -74,11 +75,12 @@ chart_of sheet sentences requests head panelled named listing counted lettered p
   named = named;
   names = names;
   listing = listing;
-  rows = subst (λ rs. HasRows rs named listing) those rows;
-  counted = counted;
-  count = count;
+  rows = subst (λ rs. HasRows rs named listing) (same ∙ listed_are) rows;
   page = page;
-  marks = subst (λ p. Grows p page) letters marks;
-  lines = is ∙ ap text_of same;
+  marks =
+      let so_many : left ≡ shown_count sheet - length (listed sheet (is_few (shown_count sheet))) =
+      rest ∙ ap (λ n. n - length those) all ∙ ap (λ (rs : List Request). shown_count sheet - length rs) listed_are in
+      subst (λ p. Grows p page) (last ∙ ap (λ p. p ++ legend_third) (next ∙ ap (λ p. p ++ legend_second) (letters ∙ ap (λ p. p ++ legend) (told ∙ ap (λ n. listing ++ left_out n) so_many)))) marks;
+  lines = is ∙ ap text_of lines_are;
   chart = chart;
 }

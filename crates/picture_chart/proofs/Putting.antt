@@ -1,8 +1,11 @@
 -- Texts behind a line, as far as there is room.
-use Rattle.std.proofs.Common.{◌≡◌, ℕ, zero, suc, ◌+◌, ◌-◌, ◌<◌, ◌≤◌, List, [], ◌∷◌, ◌++◌, length, map, take, get_or, refl, sym, ◌∙◌, ap, arith}
-use Rattle.std.proofs.lemmas.List.{append-nil, append_assoc, length-append, map-append, take-append-le}
+use Rattle.std.proofs.Common.{◌≡◌, ℕ, zero, suc, ◌+◌, ◌-◌, ◌<◌, ◌≤◌, List, [], ◌∷◌, ◌++◌, length, take, get_or, refl, sym, ◌∙◌, ap, arith}
+use Rattle.std.proofs.lemmas.List.{append-nil, append_assoc, length-append, take-append-le}
+use Rattle.std.proofs.lemmas.Grind.{flat_map-append}
+use Rattle.std.specs.List.{flat_map}
+use Rattle.std.specs.Prelude.{Bool, true, false}
 use Rattle.std.proofs.Math.Seq.{take-suc}
-use Rattle.picture_chart.specs.Charts.{plain_of, front, with_text, fitted, blanks, at_left, at_right}
+use Rattle.picture_chart.specs.Charts.{plain_of, goes_on, printed, printed_if, front, with_text, fitted, blanks, at_left, at_right}
 
 cut_cut : (n : ℕ) (xs ys : List ℕ) → take n (take n xs ++ ys) ≡ take n (xs ++ ys)
 cut_cut zero xs ys = refl
@@ -22,15 +25,15 @@ cut_full : (n : ℕ) (xs ys : List ℕ) → length xs ≤ n → n ≤ length xs 
 cut_full n xs ys le ge = take-append-le n xs ys ge ∙ cut_all n xs le
 
 -- a text, and another behind it
-cut_more : (n : ℕ) (f : ℕ → ℕ) (line a b : List ℕ)
-    → take n (take n (line ++ map f a) ++ map f b) ≡ take n (line ++ map f (a ++ b))
+cut_more : (n : ℕ) (f : ℕ → List ℕ) (line a b : List ℕ)
+    → take n (take n (line ++ flat_map f a) ++ flat_map f b) ≡ take n (line ++ flat_map f (a ++ b))
 cut_more n f line a b =
-    cut_cut n (line ++ map f a) (map f b)
-    ∙ ap (take n) (append_assoc line (map f a) (map f b) ∙ ap (λ t. line ++ t) (sym (map-append f a b)))
+    cut_cut n (line ++ flat_map f a) (flat_map f b)
+    ∙ ap (take n) (append_assoc line (flat_map f a) (flat_map f b) ∙ ap (λ t. line ++ t) (sym (flat_map-append f a b)))
 
 pub text_more : (line a b : List ℕ) → with_text (with_text line a) b ≡ with_text line (a ++ b)
 unfolding front
-text_more line a b = cut_more 100 plain_of line a b
+text_more line a b = cut_more 100 printed line a b
 
 -- no text
 pub text_none : (line : List ℕ) → length line ≤ 100 → line ≡ with_text line []
@@ -38,16 +41,28 @@ unfolding front
 text_none line le = sym (ap (take 100) (append-nil line) ∙ cut_all 100 line le)
 
 -- a byte, where there is room, and where there is none
-pub byte_fits : (line after : List ℕ) (byte printed : ℕ) → length line < 100 → printed ≡ plain_of byte → after ≡ line ++ printed ∷ []
-    → after ≡ with_text line (byte ∷ [])
+pub byte_fits : (line after : List ℕ) (byte sign : ℕ) → length line < 100 → sign ≡ plain_of byte → after ≡ line ++ sign ∷ []
+    → after ≡ front (line ++ plain_of byte ∷ [])
 unfolding front
-byte_fits line after byte printed room is e =
+byte_fits line after byte sign room is e =
     let long : length (line ++ plain_of byte ∷ []) ≤ 100 = omega (arith, room, length-append line (plain_of byte ∷ [])) in
     e ∙ ap (λ p. line ++ p ∷ []) is ∙ sym (cut_all 100 (line ++ plain_of byte ∷ []) long)
 
-pub byte_cut : (line : List ℕ) (byte : ℕ) → length line ≤ 100 → 100 ≤ length line → line ≡ with_text line (byte ∷ [])
+pub byte_cut : (line : List ℕ) (byte : ℕ) → length line ≤ 100 → 100 ≤ length line → line ≡ front (line ++ plain_of byte ∷ [])
 unfolding front
 byte_cut line byte le ge = sym (cut_full 100 line (plain_of byte ∷ []) le ge)
+
+-- a byte of a letter, or one that goes on in it
+with_byte : Bool → ℕ → List ℕ → List ℕ
+with_byte b byte line = front (line ++ (printed_if b byte ++ []))
+
+pub byte_put : (line after : List ℕ) (byte : ℕ) (test : Bool) → test ≡ goes_on byte → test ≡ false → after ≡ front (line ++ plain_of byte ∷ []) → after ≡ with_text line (byte ∷ [])
+unfolding with_byte
+byte_put line after byte test same is e = e ∙ ap (λ b. with_byte b byte line) (sym is ∙ same)
+
+pub byte_left : (line : List ℕ) (byte : ℕ) (test : Bool) → length line ≤ 100 → test ≡ goes_on byte → test ≡ true → line ≡ with_text line (byte ∷ [])
+unfolding with_byte
+byte_left line byte test le same is = text_none line le ∙ ap (λ b. with_byte b byte line) (sym is ∙ same)
 
 -- one byte more of a text
 pub text_step : (line now then bytes : List ℕ) (i : ℕ) → i < length bytes → now ≡ with_text line (take i bytes)

@@ -1,5 +1,5 @@
 -- A CHART FOR A TERMINAL: lines of at most 100 printing characters.
-use Rattle.std.specs.Prelude.{◌≡◌, ℕ, ◌-◌, ◌≤◌, nat_le, Bool, ◌&&◌, if◌then◌else◌, List, [], ◌∷◌, ◌++◌, length, map, take, fold, replicate, IsTrue}
+use Rattle.std.specs.Prelude.{◌≡◌, ℕ, ◌-◌, ◌≤◌, nat_le, Bool, true, false, ◌&&◌, if◌then◌else◌, List, [], ◌∷◌, ◌++◌, length, take, fold, replicate, IsTrue}
 use Rattle.std.specs.List.{flat_map, list_all}
 
 -- from the blank to the tilde
@@ -10,6 +10,17 @@ is_plain b = nat_le 32 b && nat_le b 126
 abbrev pub plain_of : ℕ → ℕ
 plain_of b = if is_plain b then b else 63
 
+-- a byte that goes on in a letter beyond ASCII, as UTF-8 spells it; it is not printed, so that such a letter is one question mark
+abbrev pub goes_on : ℕ → Bool
+goes_on b = nat_le 128 b && nat_le b 191
+
+abbrev pub printed_if : Bool → ℕ → List ℕ
+printed_if true b = []
+printed_if false b = plain_of b ∷ []
+
+abbrev pub printed : ℕ → List ℕ
+printed b = printed_if (goes_on b) b
+
 abbrev pub are_plain : List ℕ → Bool
 are_plain bytes = list_all is_plain bytes
 
@@ -18,7 +29,7 @@ unfoldable pub front : List ℕ → List ℕ
 front line = take 100 line
 
 abbrev pub with_text : List ℕ → List ℕ → List ℕ
-with_text line text = front (line ++ map plain_of text)
+with_text line text = front (line ++ flat_map printed text)
 
 -- A TEXT IN SO MANY CHARACTERS, at their left, or at their right; a plus where it does not fit
 abbrev pub fitted : ℕ → List ℕ → List ℕ

@@ -1,5 +1,5 @@
 -- THE CHART OF A SHEET: its title, the run at a glance, panels of 72 columns each, the requests, and what the signs say.
-use Rattle.std.specs.Prelude.{◌≡◌, ℕ, zero, suc, ◌+◌, ◌*◌, ◌/◌, List, [], ◌∷◌, ◌++◌, Option, Some, None, length, fold, get_or, codes, decimal, slice_range}
+use Rattle.std.specs.Prelude.{◌≡◌, ℕ, zero, suc, ◌+◌, ◌-◌, ◌*◌, ◌/◌, nat_le, if◌then◌else◌, List, [], ◌∷◌, ◌++◌, Option, Some, None, length, take, fold, get_or, codes, decimal, slice_range}
 use Rattle.drive_pictures.specs.declared.letters.Letter.{Letter}
 use Rattle.drive_pictures.specs.declared.letters.Letter.TheVariants as letter
 use Rattle.drive_pictures.specs.declared.requests.Request.{Request}
@@ -28,9 +28,13 @@ abbrev pub with_sentence : List (List ℕ) → Sentence → List (List ℕ)
 with_sentence page s =
     page ++ with_text (with_third (with_phrase (with_phrase [] s.first) s.second) s.third) s.end.now ∷ []
 
+-- THE TITLE; one that is too long ends with three points
+unfoldable pub title_line : List ℕ → List ℕ
+title_line title = if nat_le (length title) 100 then line_of (title ∷ []) else line_of (take 97 title ∷ codes "..." ∷ [])
+
 -- AT A GLANCE: the title, and the sentences
 abbrev pub head_of : Sheet → List Sentence → List (List ℕ)
-head_of sheet sentences = fold with_sentence (line_of (title_of sheet ∷ []) ∷ []) sentences
+head_of sheet sentences = fold with_sentence (title_line (title_of sheet) ∷ []) sentences
 
 -- A page has grown by some lines
 pub record Grows (old new : List (List ℕ)) : Type 0 where
@@ -106,13 +110,27 @@ abbrev pub legend_line : List ℕ → List Letter → List ℕ
 legend_line label letters = fold with_entry (with_text [] label) letters
 
 abbrev pub first_letters : List Letter
-first_letters = letter.Seeks ∷ letter.Turns ∷ letter.Recalibrates ∷ letter.Offsets ∷ letter.Arrived ∷ []
+first_letters = letter.Idle ∷ letter.Seeks ∷ letter.Turns ∷ letter.Recalibrates ∷ []
 
-abbrev pub other_letters : List Letter
-other_letters = letter.Ready ∷ letter.Moves ∷ letter.Retries ∷ letter.Replaces ∷ letter.Moved ∷ []
+abbrev pub second_letters : List Letter
+second_letters = letter.Offsets ∷ letter.Arrived ∷ letter.Ready ∷ letter.Moves ∷ []
+
+abbrev pub third_letters : List Letter
+third_letters = letter.Retries ∷ letter.Replaces ∷ letter.Moved ∷ []
 
 unfoldable pub legend : List (List ℕ)
-legend = legend_line (codes "drive") first_letters ∷ legend_line (codes "     ") other_letters ∷ []
+legend = [] ∷ legend_line (codes "drive") first_letters ∷ []
+
+unfoldable pub legend_second : List (List ℕ)
+legend_second = legend_line (codes "     ") second_letters ∷ []
+
+unfoldable pub legend_third : List (List ℕ)
+legend_third = legend_line (codes "     ") third_letters ∷ []
+
+-- how many requests that are shown are not listed, where there are some
+abbrev pub left_out : ℕ → List (List ℕ)
+left_out zero = []
+left_out (suc n) = line_of (codes "Requests not shown: " ∷ decimal (suc n) ∷ []) ∷ []
 
 -- A TEXT IS THE CHART OF A SHEET, page by page
 pub record IsChartOf (sheet : Sheet) (text : List ℕ) : Type 0 where
@@ -124,9 +142,7 @@ pub record IsChartOf (sheet : Sheet) (text : List ℕ) : Type 0 where
   pub names : Grows panelled named
   pub listing : List (List ℕ)
   pub rows : HasRows (listed sheet (is_few (shown_count sheet))) named listing
-  pub counted : List (List ℕ)
-  pub count : Grows listing counted
   pub page : List (List ℕ)
-  pub marks : Grows (counted ++ legend) page
+  pub marks : Grows (listing ++ left_out (shown_count sheet - length (listed sheet (is_few (shown_count sheet)))) ++ legend ++ legend_second ++ legend_third) page
   pub lines : text ≡ text_of page
   pub chart : IsChart text

@@ -1,7 +1,7 @@
 //! A line of a chart.
 
 ghost use Rattle.std.specs.Prelude.{◌≡◌, ◌∷◌, [], ◌++◌, true, decimal, IfOk, OnOk};
-ghost use Rattle.picture_chart.specs.Charts.{is_plain, plain_of, ended, with_text, fitted, blanks, at_left, at_right, line_of, text_of, IsChartLine, IsChart};
+ghost use Rattle.picture_chart.specs.Charts.{is_plain, plain_of, front, goes_on, ended, with_text, fitted, blanks, at_left, at_right, line_of, text_of, IsChartLine, IsChart};
 
 use arrayvec::ArrayVec;
 use itoa::Buffer;
@@ -39,6 +39,13 @@ fn plain(byte: u8) -> u8
     }
 }
 
+/// Whether a byte goes on in a letter beyond ASCII, as UTF-8 spells it.
+fn goes_on(byte: u8) -> bool
+    ensures { result ≡ goes_on byte }
+{
+    byte >= 128 && byte <= 191
+}
+
 /// A text, if it fits into `width` characters, and otherwise a plus.
 fn fitting(text: &[u8], width: usize) -> &[u8]
     ensures { result.now ≡ fitted width text.now }
@@ -56,13 +63,24 @@ impl ChartLine {
         }
     }
 
-    /// Puts a byte, if there is room.
-    pub fn put_byte(&mut self, byte: u8)
-        ensures { self.new ≡ with_text self.old (byte ∷ []) }
+    /// Puts a byte as it is printed, if there is room.
+    fn put_plain(&mut self, byte: u8)
+        ensures { self.new ≡ front (self.old ++ plain_of byte ∷ []) }
     {
         if self.text.len() < WIDEST {
             self.text.push(plain(byte));
         }
+    }
+
+    /// Puts a byte, if there is room. A letter beyond ASCII becomes one question mark.
+    pub fn put_byte(&mut self, byte: u8)
+        ensures { self.new ≡ with_text self.old (byte ∷ []) }
+    {
+        let _ = &self.text;
+        if goes_on(byte) {
+            return;
+        }
+        self.put_plain(byte);
     }
 
     /// Puts the front of some bytes, as far as there is room.
@@ -142,7 +160,9 @@ pub(crate) fn line_of(text: &[u8]) -> ChartLine
 }
 
 /// A line of a text and a number.
-pub(crate) fn line_with(text: &[u8], number: u64) -> ChartLine {
+pub(crate) fn line_with(text: &[u8], number: u64) -> ChartLine
+    ensures { result ≡ line_of (text.now ∷ decimal number ∷ []) }
+{
     let mut line = line_of(text);
     line.put_number(number);
     line

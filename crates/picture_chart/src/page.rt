@@ -1,16 +1,17 @@
 //! The whole chart.
 
-ghost use Rattle.std.specs.Prelude.{◌≡◌, ◌++◌, ◌∷◌, [], length, slice_range, IfOk, OnOk};
+ghost use Rattle.std.specs.Prelude.{◌≡◌, ◌<◌, ◌++◌, ◌∷◌, [], length, take, slice_range, codes, IfOk, OnOk};
+ghost use Rattle.picture_chart.specs.Charts.{line_of};
 ghost use Rattle.picture_sheet.specs.Units.{units_shown};
-ghost use Rattle.picture_chart.specs.Pages.{with_phrase, with_third, with_sentence, head_of, panel_columns, panels_of, legend_line, legend, Grows, Panels, IsChartOf};
+ghost use Rattle.picture_chart.specs.Pages.{with_phrase, with_third, with_sentence, head_of, panel_columns, panels_of, title_line, legend_line, legend, legend_second, legend_third, Grows, Panels, IsChartOf};
 
-use crate::line::line_of;
-use crate::panel::put_panel;
+use crate::line::{WIDEST, line_of};
+use crate::panel::{Drives, put_panel};
 use crate::rows::put_line;
-use crate::table::{put_count, put_names, put_requests};
+use crate::table::{put_left_out, put_names, put_requests};
 use crate::{ChartLine, text_of};
 use drive_pictures::Letter;
-use picture_sheet::{Phrase, Sentence, Sheet, Shown, letter_sign, sentences};
+use picture_sheet::{Phrase, Sentence, Sheet, Shown, letter_sign, scale_of, sentences};
 use run_picture::Column;
 use run_plan::letter_word;
 use std::alloc::{AllocError, Global};
@@ -47,6 +48,29 @@ fn put_sentence(page: &mut Vec<ChartLine>, sentence: &Sentence) -> Result<(), Al
     put_line(page, line)
 }
 
+/// The line of a title that is too long. It ends with three points.
+fn cut_line(title: &[u8]) -> ChartLine
+    requires { 100 < length title.now }
+    ensures { result ≡ line_of (take 97 title.now ∷ codes "..." ∷ []) }
+{
+    let (front, _) = title.split_at(WIDEST - 3);
+    let mut line = line_of(front);
+    line.put(b"...");
+    line
+}
+
+/// The line of the title.
+#[tactic(auto, unfolding(crate::specs::Pages::title_line))]
+fn title_line(title: &[u8]) -> ChartLine
+    ensures { result ≡ title_line title.now }
+{
+    if title.len() <= WIDEST {
+        line_of(title)
+    } else {
+        cut_line(title)
+    }
+}
+
 /// The title, the sentences, and an empty line.
 fn head(
     alloc: Global,
@@ -56,7 +80,7 @@ fn head(
     ensures { IfOk result (λ page. page.items ≡ head_of sheet.now sentences.now ++ [] ∷ []) }
 {
     let mut page = Vec::new(alloc);
-    put_line(&mut page, line_of(sheet.title()))?;
+    put_line(&mut page, title_line(sheet.title()))?;
     for sentence in sentences.iter() {
         put_sentence(&mut page, sentence)?;
     }
@@ -74,8 +98,12 @@ fn panel_columns(columns: &[Column], from: usize, to: usize) -> &[Column]
 }
 
 /// Puts the panels.
-fn put_panels(page: &mut Vec<ChartLine>, sheet: &Sheet<'_>, units: &[u8]) -> Result<(), AllocError>
-    requires { units.now ≡ units_shown sheet.now }
+fn put_panels(
+    page: &mut Vec<ChartLine>,
+    sheet: &Sheet<'_>,
+    drives: Drives<'_>,
+) -> Result<(), AllocError>
+    requires { drives.units.now ≡ units_shown sheet.now }
     ensures { OnOk result (Panels sheet.now (panels_of sheet.now.run.now.columns) page.old.items page.new.items) }
 {
     let columns = sheet.columns();
@@ -83,7 +111,7 @@ fn put_panels(page: &mut Vec<ChartLine>, sheet: &Sheet<'_>, units: &[u8]) -> Res
     for panel in 0..panels {
         let from = PANEL * panel;
         let some = panel_columns(columns, from, from + PANEL);
-        put_panel(page, sheet, units, some, from)?;
+        put_panel(page, sheet, drives, some, from)?;
     }
     Ok(())
 }
@@ -102,27 +130,42 @@ fn legend_line(label: &[u8], letters: &[Letter]) -> ChartLine
     line
 }
 
-/// Puts what the letters say.
+/// Puts an empty line, and what the first letters say.
 #[tactic(auto, unfolding(crate::specs::Pages::legend))]
 fn put_letters(page: &mut Vec<ChartLine>) -> Result<(), AllocError>
     ensures { OnOk result (page.new.items ≡ page.old.items ++ legend) }
 {
     let first = [
+        Letter::Idle,
         Letter::Seeks,
         Letter::Turns,
         Letter::Recalibrates,
+    ];
+    put_line(page, ChartLine::new())?;
+    put_line(page, legend_line(b"drive", &first))
+}
+
+/// Puts what the next letters say.
+#[tactic(auto, unfolding(crate::specs::Pages::legend_second))]
+fn put_second(page: &mut Vec<ChartLine>) -> Result<(), AllocError>
+    ensures { OnOk result (page.new.items ≡ page.old.items ++ legend_second) }
+{
+    let second = [
         Letter::Offsets,
         Letter::Arrived,
-    ];
-    let others = [
         Letter::Ready,
         Letter::Moves,
-        Letter::Retries,
-        Letter::Replaces,
-        Letter::Moved,
     ];
-    put_line(page, legend_line(b"drive", &first))?;
-    put_line(page, legend_line(b"     ", &others))
+    put_line(page, legend_line(b"     ", &second))
+}
+
+/// Puts what the last letters say.
+#[tactic(auto, unfolding(crate::specs::Pages::legend_third))]
+fn put_third_line(page: &mut Vec<ChartLine>) -> Result<(), AllocError>
+    ensures { OnOk result (page.new.items ≡ page.old.items ++ legend_third) }
+{
+    let third = [Letter::Retries, Letter::Replaces, Letter::Moved];
+    put_line(page, legend_line(b"     ", &third))
 }
 
 /// What marks, digits and counts say.
@@ -130,7 +173,7 @@ static MARKS: [&[u8]; 4] = [
     b"marks  q asked for  ' attention up  a taken  i interrupt taken  o sector  v ok  B burst, repaired",
     b"       E not repairable  F fault  M marked  x offline  t try failed  X stopped  + - offset",
     b"       n noise  f fault armed  @ turned  d offline  u online  l locked  k unlocked  P acknowledged",
-    b"arm    0 to 9, from cylinder 0 to the highest         queue  requests not answered, + above 9",
+    b"arm    0 to 9, from cylinder 0 to the last            queue  requests not answered, + above 9",
 ];
 
 /// Puts some lines.
@@ -150,11 +193,15 @@ pub fn chart(alloc: Global, sheet: &Sheet<'_>) -> Result<Vec<u8>, AllocError>
     let shown = Shown::new(alloc, sheet)?;
     let units = sheet.units(alloc)?;
     let mut page = head(alloc, sheet, &sentences(sheet))?;
-    put_panels(&mut page, sheet, units.as_slice())?;
+    let units = units.as_slice();
+    let top = scale_of(sheet, units);
+    put_panels(&mut page, sheet, Drives { units, top })?;
     put_names(&mut page)?;
     put_requests(&mut page, shown.listed.as_slice())?;
-    put_count(&mut page, shown.few, shown.count)?;
+    put_left_out(&mut page, shown.left_out())?;
     put_letters(&mut page)?;
+    put_second(&mut page)?;
+    put_third_line(&mut page)?;
     put_texts(&mut page, &MARKS)?;
     text_of(alloc, page.as_slice())
 }

@@ -18,6 +18,13 @@ use std::alloc::AllocError;
 /// How many columns the number of an event has.
 const STEP: usize = 12;
 
+/// The drives of a chart, and the cylinder at the top of the charts of all arms.
+#[derive(Clone, Copy)]
+pub(crate) struct Drives<'a> {
+    pub(crate) units: &'a [u8],
+    pub(crate) top: u32,
+}
+
 /// The name of a drive.
 fn unit_label(sheet: &Sheet<'_>, unit: u8) -> ChartLine
     ensures { result ≡ unit_label sheet.now unit }
@@ -67,15 +74,15 @@ fn put_unit(
     page: &mut Vec<ChartLine>,
     sheet: &Sheet<'_>,
     columns: &[Column],
-    units: &[u8],
+    drives: Drives<'_>,
     before: Option<u8>,
     unit: u8,
 ) -> Result<(), AllocError>
     ensures { OnOk result (HasLane sheet.now columns.now unit page.old.items page.new.items) }
 {
-    put_adapter(page, columns, units, before, unit)?;
+    put_adapter(page, columns, drives.units, before, unit)?;
     put_line(page, lane_line(sheet, columns, unit))?;
-    put_rows(page, &unit_rows(sheet, columns, unit))
+    put_rows(page, &unit_rows(columns, unit, drives.top))
 }
 
 /// Puts the rows of the drives.
@@ -83,13 +90,13 @@ fn put_units(
     page: &mut Vec<ChartLine>,
     sheet: &Sheet<'_>,
     columns: &[Column],
-    units: &[u8],
+    drives: Drives<'_>,
 ) -> Result<(), AllocError>
-    ensures { OnOk result (Lanes sheet.now columns.now units.now (length units.now) page.old.items page.new.items) }
+    ensures { OnOk result (Lanes sheet.now columns.now drives.entry.units.now (length drives.entry.units.now) page.old.items page.new.items) }
 {
     let mut before = None;
-    for unit in units.iter() {
-        put_unit(page, sheet, columns, units, before, *unit)?;
+    for unit in drives.units.iter() {
+        put_unit(page, sheet, columns, drives, before, *unit)?;
         before = Some(*unit / 8);
     }
     Ok(())
@@ -126,14 +133,14 @@ fn put_foot(
 pub(crate) fn put_panel(
     page: &mut Vec<ChartLine>,
     sheet: &Sheet<'_>,
-    units: &[u8],
+    drives: Drives<'_>,
     columns: &[Column],
     from: usize,
 ) -> Result<(), AllocError>
-    requires { units.now ≡ units_shown sheet.now }
+    requires { drives.units.now ≡ units_shown sheet.now }
     ensures { OnOk result (HasPanel sheet.now columns.now page.old.items page.new.items) }
 {
     put_rows(page, &line_rows(columns))?;
-    put_units(page, sheet, columns, units)?;
+    put_units(page, sheet, columns, drives)?;
     put_foot(page, sheet, from, columns.len())
 }

@@ -4,7 +4,7 @@ use crate::ChartLine;
 use crate::line::{line_of, line_with};
 use crate::rows::Row;
 use drive_pictures::Cell;
-use picture_sheet::{Sheet, cell_at, holding, mark_sign, top_of};
+use picture_sheet::{cell_at, holding, mark_sign};
 use run_picture::Column;
 
 /// What a strip shows.
@@ -152,9 +152,8 @@ pub(crate) fn adapter_rows(columns: &[Column], units: &[u8], adapter: u8) -> [Ro
     ]
 }
 
-/// What befell a drive, its condition, its arm and its queue.
-pub(crate) fn unit_rows(sheet: &Sheet<'_>, columns: &[Column], unit: u8) -> [Row; 4] {
-    let top = top_of(sheet, unit);
+/// What befell a drive, its condition, its arm, from 0 to a cylinder `top`, and its queue.
+pub(crate) fn unit_rows(columns: &[Column], unit: u8, top: u32) -> [Row; 4] {
     let conditions = View::Conditions { unit };
     let arm = line_with(b"  arm to ", u64::from(top));
     [

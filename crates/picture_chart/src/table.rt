@@ -1,7 +1,7 @@
 //! The requests of a chart.
 
-ghost use Rattle.std.specs.Prelude.{◌≡◌, OnOk};
-ghost use Rattle.picture_chart.specs.Pages.{Grows, HasRows, IsRow};
+ghost use Rattle.std.specs.Prelude.{◌≡◌, ◌++◌, OnOk};
+ghost use Rattle.picture_chart.specs.Pages.{left_out, Grows, HasRows, IsRow};
 
 use crate::ChartLine;
 use crate::line::{line_of, line_with};
@@ -34,7 +34,11 @@ fn went_of(request: &Request) -> ChartLine {
     line.put_count(request.times.ready, 6);
     line.put_count(request.times.trans, 6);
     line.put_count(request.turn, 4);
-    line.put(if request.is_out_of_order() { b"*" } else { b" " });
+    line.put(if request.is_out_of_order() {
+        b"*"
+    } else {
+        b" "
+    });
     line
 }
 
@@ -77,16 +81,12 @@ pub(crate) fn put_requests(
     Ok(())
 }
 
-/// Puts how many requests there are, if not all of them are listed, and an empty line.
-pub(crate) fn put_count(
-    page: &mut Vec<ChartLine>,
-    few: bool,
-    count: usize,
-) -> Result<(), AllocError>
-    ensures { OnOk result (Grows page.old.items page.new.items) }
+/// Puts how many requests are not listed, if there are some.
+pub(crate) fn put_left_out(page: &mut Vec<ChartLine>, count: u64) -> Result<(), AllocError>
+    ensures { OnOk result (page.new.items ≡ page.old.items ++ left_out count) }
 {
-    if !few {
-        put_line(page, line_with(b"with trouble, of ", count as u64))?;
+    if count == 0 {
+        return Ok(());
     }
-    put_line(page, ChartLine::new())
+    put_line(page, line_with(b"Requests not shown: ", count))
 }

@@ -1,3 +1,3 @@
 mod Outcomes
-mod Rows
+mod Charted
 mod Planned

@@ -5,7 +5,7 @@
 
 ghost use Rattle.picture_rows.specs.Outcomes.{ColumnDropsAnEvent, IdleEventLeftOut, AmpersandAsItIs, CoordinateOf20000, WindowFromTheFirstEvent, LeadOfEqualsTheFirst, AllAdaptersTakenTogether, RequestBehindTheWindowShown, LineOfAnotherDrive, GroupEndedAroundAnArm, TooltipEndedTwice};
 ghost use Rattle.picture_rows.specs.Nested.{GroupLeftOpen, LettersLeftOpen, ScriptLineLeftOpen, MarksOfAnotherUnit, LinesDropped, DriveDrawnTwice};
-ghost use Rattle.picture_rows.specs.Shown.{PanelDropsAColumn, RowOfAnotherUnit};
+ghost use Rattle.picture_rows.specs.Charted.{PanelDropsAColumn, RowOfAnotherUnit, LaneLeftOut, ShownNotListed, RowLeftOut, LetterNotOnceInTheLegend};
 ghost use Rattle.picture_rows.specs.Runs.{LastPlayNotSeen, PlayedBehindItsLines, LineInAColumnLate, TryCountedTwice, WindowOneEventEarly, NoMemoryTakenForUsage, SecondFaultRefused};
 ghost use Rattle.picture_rows.specs.Planned.{RequestLeftOut, ColumnLeftOut, SliceOfAnotherUnit, CaptionOfAnotherRun, ScaleTurnedRound, LegendWithoutALetter};
 
@@ -45,10 +45,14 @@ pub fn nested_law()
     ensures drive_drawn_twice { DriveDrawnTwice }
 {}
 
-/// Refused outcomes of how columns are shown in charts.
-pub fn shown_law()
+/// Refused outcomes of a chart: of its panels, lanes, rows and legend.
+pub fn chart_law()
     ensures panel_drops_a_column { PanelDropsAColumn }
     ensures row_of_another_unit { RowOfAnotherUnit }
+    ensures lane_left_out { LaneLeftOut }
+    ensures shown_not_listed { ShownNotListed }
+    ensures row_left_out { RowLeftOut }
+    ensures letter_not_once_in_the_legend { LetterNotOnceInTheLegend }
 {}
 
 /// Refused outcomes of how a run is seen, how a trace is refused, and how the program ends.
