@@ -8,7 +8,10 @@ use Rattle.hpview_run.specs.declared.status.Status.{Status}
 use Rattle.hpview_run.specs.declared.status.Status.TheVariants.{Done, Usage, Refused, SourceFailed, SinkFailed, OutOfMemory}
 use Rattle.hpview_run.specs.declared.words.Command.{Command}
 use Rattle.hpview_run.specs.Drawing.{HasDrawn, HasStopped, TellsFault, TellsRefusal, Told}
+use Rattle.hpview_run.specs.Inputs.{AreRight, AreFaulty, NoScriptFault, NoTraceFault}
 use Rattle.hpview_run.specs.Loading.{Refuses}
+use Rattle.script_lines.specs.Words.{all_verbs}
+use Rattle.script_reader.specs.Stored.{lines_in}
 use Rattle.hpview_run.specs.Statuses.{status_code, status_of, IsViewStatus, IsViewCode}
 
 -- statuses differ by their numbers
@@ -150,6 +153,28 @@ pub refusal_told : (status : Status) (fault : ViewFault) (tells : Bool) (text : 
     → TellsRefusal tells text trace_tells trace out_tells taken after before behind
 refusal_told status fault tells text trace_tells trace out_tells taken after before behind e refuses is told =
     told_by_fault fault tells text trace_tells trace out_tells taken after before behind refuses (sym e ∙ is) told
+
+-- WHAT IS RIGHT is not refused, and what is faulty is not drawn
+pub right_stays : (tells : Bool) (text : List ℕ) (trace_tells : Bool) (trace : List ℕ) (out_tells : Bool) (taken after : List ℕ) (before behind : ℕ)
+    → NoScriptFault → NoTraceFault → IsTrue tells → IsTrue trace_tells → AreRight text trace
+    → TellsRefusal tells text trace_tells trace out_tells taken after before behind → ⊥
+right_stays tells text trace_tells trace out_tells taken after before behind no_script no_trace t u right (inl refused) =
+    no_script text right.lines right.count right.script refused.line refused.kind (refused.first t)
+right_stays tells text trace_tells trace out_tells taken after before behind no_script no_trace t u right (inr refused) =
+    let beside = refused.first t u in
+    let spelled = right.beside beside.stored beside.loads in
+    no_trace beside.stored trace spelled.0 spelled.1 refused.line refused.kind beside.refused
+
+pub faulty_goes : (command : Command) (tells : Bool) (text : List ℕ) (trace_tells : Bool) (trace : List ℕ) (out_tells : Bool) (taken after : List ℕ)
+    → NoScriptFault → NoTraceFault → IsTrue tells → IsTrue trace_tells → AreFaulty text trace
+    → HasDrawn command tells text trace_tells trace out_tells taken after → ⊥
+faulty_goes command tells text trace_tells trace out_tells taken after no_script no_trace t u (inl fault) drawn =
+    let draws = drawn.draws t u in
+    no_script text (lines_in draws.stored) draws.stored.count draws.loads.spells fault.0 fault.1 fault.2
+faulty_goes command tells text trace_tells trace out_tells taken after no_script no_trace t u (inr faults_of) drawn =
+    let draws = drawn.draws t u in
+    let fault = faults_of draws.stored draws.loads in
+    no_trace draws.stored trace draws.views.lines draws.views.spells fault.0 fault.1 fault.2
 
 -- OF THE COMMAND that the words name
 pub one_command : (named other : Option Command) (mine command : Command) → named ≡ other → named ≡ Some mine → other ≡ Some command → mine ≡ command

@@ -1,4 +1,5 @@
 pub mod Drawing
 pub mod Loading
+pub mod Inputs
 pub mod Statuses
 pub mod Words

@@ -4,6 +4,7 @@ ghost use Rattle.hpview_run.specs.declared.words.Command.{Command};
 ghost use Rattle.hpview_run.specs.declared.status.Status.TheVariants.{Done, Usage, Refused, SourceFailed, SinkFailed, OutOfMemory};
 ghost use Rattle.hpview_run.specs.Drawing.{Draws, HasDrawn, HasStopped, TellsRefusal, Told};
 ghost use Rattle.hpview_run.specs.Loading.{Loads, Refuses, RefusesScript, RefusesTrace};
+ghost use Rattle.hpview_run.specs.Inputs.{AreRight, AreFaulty, NoScriptFault, NoTraceFault};
 ghost use Rattle.hpview_run.specs.Statuses.{status_code, IsViewStatus, IsViewCode};
 ghost use Rattle.hpview_run.specs.Words.{command_of as the_command, usage_text};
 
@@ -75,6 +76,15 @@ fn run_command<S: Source, T: Source, O: Sink>(
     }
 }
 
+/// The law of right inputs: what spells a script, or a trace beside a script, has no fault.
+fn inputs_law()
+    ensures script { NoScriptFault }
+    ensures trace { NoTraceFault }
+{
+    script_reader::grammar_law();
+    trace_reader::grammar_law();
+}
+
 /// Runs the command that the words name, and answers the code of its `Status`. The source `script` gives the text of a script, the
 /// source `trace` gives the trace of its run, and what is drawn or printed goes to `out`.
 ///
@@ -86,7 +96,7 @@ fn run_command<S: Source, T: Source, O: Sink>(
 /// |---|---|---|---|
 /// | 0 | Done | if the run is drawn | the picture |
 /// | 2 | Usage | exactly if the words are no command | the usage |
-/// | 3 | Refused | only if the script's bytes are no script, or the trace's bytes are no trace of the script | `refused line L KIND`, or `refused trace line L KIND` |
+/// | 3 | Refused | only if the script's bytes are no script, or the trace's bytes are no trace of the script; then never 0 | `refused line L KIND`, or `refused trace line L KIND` |
 /// | 4 | SourceFailed | only if a source's count of faults rose | nothing |
 /// | 5 | SinkFailed | only if the count of faults of `out` rose | a front of the picture |
 /// | 9 | OutOfMemory | if there was no memory | nothing |
@@ -106,10 +116,13 @@ pub fn view<S: Source, T: Source, O: Sink>(
         HasStopped command (S.tells script.new) (S.left script.old) (T.tells trace.new) (T.left trace.old) (O.tells out.new) (O.taken out.old) (O.taken out.new) }
     ensures refused { result ≡ status_code Refused → TellsRefusal (S.tells script.new) (S.left script.old) (T.tells trace.new) (T.left trace.old)
         (O.tells out.new) (O.taken out.old) (O.taken out.new) (O.faults out.old) (O.faults out.new) }
+    ensures right { IsTrue (S.tells script.new) → IsTrue (T.tells trace.new) → AreRight (S.left script.old) (T.left trace.old) → ¬ (result ≡ status_code Refused) }
+    ensures faulty { IsTrue (S.tells script.new) → IsTrue (T.tells trace.new) → AreFaulty (S.left script.old) (T.left trace.old) → ¬ (result ≡ status_code Done) }
     ensures source { result ≡ status_code SourceFailed → Rose (S.faults script.old) (S.faults script.new) ⊎ Rose (T.faults trace.old) (T.faults trace.new) }
     ensures sink { result ≡ status_code SinkFailed → Rose (O.faults out.old) (O.faults out.new) }
     ensures silent { (result ≡ status_code SourceFailed) ⊎ (result ≡ status_code OutOfMemory) → out.new ≡ out.old }
 {
+    inputs_law();
     match command_of(words) {
         None => put_usage(out).code(),
         Some(command) => run_command(alloc, command, script, trace, out).code(),
