@@ -1,3 +1,3 @@
 mod Charting
+mod Growing
 mod Putting
-mod PageLaws

@@ -1,5 +1,5 @@
 -- A CHART FOR A TERMINAL: lines of at most 100 printing characters.
-use Rattle.std.specs.Prelude.{◌≡◌, ℕ, ◌-◌, ◌≤◌, ◌==◌, nat_le, Bool, ◌&&◌, if◌then◌else◌, List, [], ◌∷◌, ◌++◌, length, map, take, replicate, IsTrue}
+use Rattle.std.specs.Prelude.{◌≡◌, ℕ, ◌-◌, ◌≤◌, nat_le, Bool, ◌&&◌, if◌then◌else◌, List, [], ◌∷◌, ◌++◌, length, map, take, fold, replicate, IsTrue}
 use Rattle.std.specs.List.{flat_map, list_all}
 
 -- from the blank to the tilde
@@ -33,8 +33,9 @@ at_left width text = fitted width text ++ blanks (width - length (fitted width t
 abbrev pub at_right : ℕ → List ℕ → List ℕ
 at_right width text = blanks (width - length (fitted width text)) ++ fitted width text
 
-abbrev pub is_blank : List ℕ → Bool
-is_blank line = list_all (λ b. b == 32) line
+-- a line of some texts, one behind another
+abbrev pub line_of : List (List ℕ) → List ℕ
+line_of texts = fold with_text [] texts
 
 -- A LINE OF A CHART
 pub record IsChartLine (line : List ℕ) : Type 0 where

@@ -1,7 +1,7 @@
 //! A line of a chart.
 
-ghost use Rattle.std.specs.Prelude.{◌≡◌, ◌-◌, ◌∷◌, [], ◌++◌, true, length, decimal, IfOk, OnOk};
-ghost use Rattle.picture_chart.specs.Charts.{is_plain, plain_of, ended, with_text, fitted, blanks, at_left, at_right, is_blank, text_of, IsChartLine, IsChart};
+ghost use Rattle.std.specs.Prelude.{◌≡◌, ◌∷◌, [], ◌++◌, true, decimal, IfOk, OnOk};
+ghost use Rattle.picture_chart.specs.Charts.{is_plain, plain_of, ended, with_text, fitted, blanks, at_left, at_right, line_of, text_of, IsChartLine, IsChart};
 
 use arrayvec::ArrayVec;
 use itoa::Buffer;
@@ -93,14 +93,6 @@ impl ChartLine {
         }
     }
 
-    /// Puts blanks up to a place.
-    pub fn fill_to(&mut self, place: usize)
-        ensures { self.new ≡ with_text self.old (blanks (place - length self.old)) }
-    {
-        let count = place.saturating_sub(self.text.len());
-        self.put_blanks(count);
-    }
-
     /// Puts a text at the left of `width` characters; a plus if it does not fit.
     pub fn put_left(&mut self, text: &[u8], width: usize)
         ensures { self.new ≡ with_text self.old (at_left width text.now) }
@@ -119,34 +111,15 @@ impl ChartLine {
         self.put(text);
     }
 
-    /// Puts a number at the right of `width` characters.
-    fn put_number_right(&mut self, number: u64, width: usize)
-        ensures { self.new ≡ with_text self.old (at_right width (decimal number)) }
-    {
+    /// Puts a number at the right of `width` characters, after a blank.
+    pub(crate) fn put_count(&mut self, number: u64, width: usize) {
         let mut buffer = Buffer::new();
+        self.put_byte(b' ');
         self.put_right(buffer.format(number).as_bytes(), width);
     }
 
-    /// Puts a number at the right of `width` characters, after a blank.
-    pub fn put_count(&mut self, number: u64, width: usize)
-        ensures { self.new ≡ with_text self.old (32 ∷ at_right width (decimal number)) }
-    {
-        self.put_byte(b' ');
-        self.put_number_right(number, width);
-    }
-
-    /// Puts a number at the left of `width` characters.
-    pub fn put_event(&mut self, number: u64, width: usize)
-        ensures { self.new ≡ with_text self.old (at_left width (decimal number)) }
-    {
-        let mut buffer = Buffer::new();
-        self.put_left(buffer.format(number).as_bytes(), width);
-    }
-
     /// Whether it has nothing except blanks.
-    pub fn is_blank(&self) -> bool
-        ensures { result ≡ is_blank self.now }
-    {
+    pub(crate) fn is_blank(&self) -> bool {
         self.text.iter().all(|byte| *byte == b' ')
     }
 
@@ -157,6 +130,22 @@ impl ChartLine {
     {
         self.text.as_slice()
     }
+}
+
+/// A line of a text.
+pub(crate) fn line_of(text: &[u8]) -> ChartLine
+    ensures { result ≡ line_of (text.now ∷ []) }
+{
+    let mut line = ChartLine::new();
+    line.put(text);
+    line
+}
+
+/// A line of a text and a number.
+pub(crate) fn line_with(text: &[u8], number: u64) -> ChartLine {
+    let mut line = line_of(text);
+    line.put_number(number);
+    line
 }
 
 /// Puts a line, and its end.

@@ -1,14 +1,18 @@
 //! The whole chart.
 
-ghost use Rattle.std.specs.Prelude.{◌≡◌, fold, slice_range, IfOk, OnOk};
+ghost use Rattle.std.specs.Prelude.{◌≡◌, ◌++◌, ◌∷◌, [], length, slice_range, IfOk, OnOk};
 ghost use Rattle.picture_sheet.specs.Units.{units_shown};
-ghost use Rattle.picture_chart.specs.Pages.{with_phrase, with_third, with_sentence, with_head, panels_of, with_panels, IsChartOf};
-ghost use Rattle.picture_chart.specs.Legends.{with_words, of_drives, of_marks, with_legend};
+ghost use Rattle.picture_chart.specs.Pages.{with_phrase, with_third, with_sentence, head_of, panel_columns, panels_of, legend_line, legend, Grows, Panels, IsChartOf};
 
-use crate::table::put_table;
-use crate::{ChartLine, line_of, put_line, put_panel, text_of};
-use picture_sheet::{Phrase, Sentence, Sheet, Shown, sentences};
+use crate::line::line_of;
+use crate::panel::put_panel;
+use crate::rows::put_line;
+use crate::table::{put_count, put_names, put_requests};
+use crate::{ChartLine, text_of};
+use drive_pictures::Letter;
+use picture_sheet::{Phrase, Sentence, Sheet, Shown, letter_sign, sentences};
 use run_picture::Column;
+use run_plan::letter_word;
 use std::alloc::{AllocError, Global};
 
 /// The columns of a panel.
@@ -43,22 +47,24 @@ fn put_sentence(page: &mut Vec<ChartLine>, sentence: &Sentence) -> Result<(), Al
     put_line(page, line)
 }
 
-/// Puts what is seen at a glance.
-fn put_head(
-    page: &mut Vec<ChartLine>,
+/// The title, the sentences, and an empty line.
+fn head(
+    alloc: Global,
     sheet: &Sheet<'_>,
     sentences: &[Sentence],
-) -> Result<(), AllocError>
-    ensures { OnOk result (page.new.items ≡ with_head sheet.now sentences.now page.old.items) }
+) -> Result<Vec<ChartLine>, AllocError>
+    ensures { IfOk result (λ page. page.items ≡ head_of sheet.now sentences.now ++ [] ∷ []) }
 {
-    put_line(page, line_of(sheet.title()))?;
+    let mut page = Vec::new(alloc);
+    put_line(&mut page, line_of(sheet.title()))?;
     for sentence in sentences.iter() {
-        put_sentence(page, sentence)?;
+        put_sentence(&mut page, sentence)?;
     }
-    put_line(page, ChartLine::new())
+    put_line(&mut page, ChartLine::new())?;
+    Ok(page)
 }
 
-/// The columns of a panel, from its first on.
+/// The columns of a panel.
 fn panel_columns(columns: &[Column], from: usize, to: usize) -> &[Column]
     ensures { result.now ≡ slice_range columns.now from to }
 {
@@ -67,85 +73,74 @@ fn panel_columns(columns: &[Column], from: usize, to: usize) -> &[Column]
     &behind[..count]
 }
 
-/// Puts the panels, each with an empty line.
+/// Puts the panels.
 fn put_panels(page: &mut Vec<ChartLine>, sheet: &Sheet<'_>, units: &[u8]) -> Result<(), AllocError>
     requires { units.now ≡ units_shown sheet.now }
-    ensures { OnOk result (page.new.items ≡ with_panels sheet.now page.old.items (panels_of sheet.now.run.now.columns)) }
+    ensures { OnOk result (Panels sheet.now (panels_of sheet.now.run.now.columns) page.old.items page.new.items) }
 {
     let columns = sheet.columns();
     let panels = (columns.len() + (PANEL - 1)) / PANEL;
     for panel in 0..panels {
         let from = PANEL * panel;
-        put_panel(
-            page,
-            sheet,
-            units,
-            panel_columns(columns, from, from + PANEL),
-            from,
-        )?;
-        put_line(page, ChartLine::new())?;
+        let some = panel_columns(columns, from, from + PANEL);
+        put_panel(page, sheet, units, some, from)?;
     }
     Ok(())
 }
 
-/// Puts what the signs of a drive say, and the first marks.
-#[tactic(auto, unfolding(crate::specs::Legends::of_drives))]
-fn put_drive_signs(page: &mut Vec<ChartLine>) -> Result<(), AllocError>
-    ensures { OnOk result (page.new.items ≡ fold with_words page.old.items of_drives) }
+/// The line of the legend for some letters.
+fn legend_line(label: &[u8], letters: &[Letter]) -> ChartLine
+    ensures { result ≡ legend_line label.now letters.now }
 {
-    put_line(
-        page,
-        line_of(
-            b"drive  S arm moves  s turns to its sector  C recalibrates  O sets an offset  ! arrived, attention up",
-        ),
-    )?;
-    put_line(
-        page,
-        line_of(
-            b"       : ready, adapter busy  # sectors move  T tries again  R at a replacement  ^ interrupt up",
-        ),
-    )?;
-    put_line(
-        page,
-        line_of(
-            b"marks  q asked for  ' attention up  a taken  i interrupt taken  o sector  v ok  B burst, repaired",
-        ),
-    )?;
+    let mut line = line_of(label);
+    for letter in letters.iter() {
+        line.put(b"  ");
+        line.put(letter_sign(*letter).as_bytes());
+        line.put(b" ");
+        line.put(letter_word(*letter).as_bytes());
+    }
+    line
+}
+
+/// Puts what the letters say.
+#[tactic(auto, unfolding(crate::specs::Pages::legend))]
+fn put_letters(page: &mut Vec<ChartLine>) -> Result<(), AllocError>
+    ensures { OnOk result (page.new.items ≡ page.old.items ++ legend) }
+{
+    let first = [
+        Letter::Seeks,
+        Letter::Turns,
+        Letter::Recalibrates,
+        Letter::Offsets,
+        Letter::Arrived,
+    ];
+    let others = [
+        Letter::Ready,
+        Letter::Moves,
+        Letter::Retries,
+        Letter::Replaces,
+        Letter::Moved,
+    ];
+    put_line(page, legend_line(b"drive", &first))?;
+    put_line(page, legend_line(b"     ", &others))
+}
+
+/// What marks, digits and counts say.
+static MARKS: [&[u8]; 4] = [
+    b"marks  q asked for  ' attention up  a taken  i interrupt taken  o sector  v ok  B burst, repaired",
+    b"       E not repairable  F fault  M marked  x offline  t try failed  X stopped  + - offset",
+    b"       n noise  f fault armed  @ turned  d offline  u online  l locked  k unlocked  P acknowledged",
+    b"arm    0 to 9, from cylinder 0 to the highest         queue  requests not answered, + above 9",
+];
+
+/// Puts some lines.
+fn put_texts(page: &mut Vec<ChartLine>, texts: &[&[u8]]) -> Result<(), AllocError>
+    ensures { OnOk result (Grows page.old.items page.new.items) }
+{
+    for text in texts.iter() {
+        put_line(page, line_of(text))?;
+    }
     Ok(())
-}
-
-/// Puts what the other marks say, and the digits.
-#[tactic(auto, unfolding(crate::specs::Legends::of_marks))]
-fn put_mark_signs(page: &mut Vec<ChartLine>) -> Result<(), AllocError>
-    ensures { OnOk result (page.new.items ≡ fold with_words page.old.items of_marks) }
-{
-    put_line(
-        page,
-        line_of(
-            b"       E not repairable  F fault  M marked  x offline  t try failed  X stopped  + - offset",
-        ),
-    )?;
-    put_line(
-        page,
-        line_of(
-            b"       n noise  f fault armed  @ turned  d offline  u online  l locked  k unlocked  P acknowledged",
-        ),
-    )?;
-    put_line(
-        page,
-        line_of(
-            b"arm    0 to 9, from cylinder 0 to the highest         queue  requests not answered, + above 9",
-        ),
-    )
-}
-
-/// Puts what the signs say.
-fn put_legend(page: &mut Vec<ChartLine>) -> Result<(), AllocError>
-    ensures { OnOk result (page.new.items ≡ with_legend page.old.items) }
-{
-    put_line(page, ChartLine::new())?;
-    put_drive_signs(page)?;
-    put_mark_signs(page)
 }
 
 /// The chart of a sheet, for a terminal.
@@ -154,11 +149,12 @@ pub fn chart(alloc: Global, sheet: &Sheet<'_>) -> Result<Vec<u8>, AllocError>
 {
     let shown = Shown::new(alloc, sheet)?;
     let units = sheet.units(alloc)?;
-    let sentences = sentences(sheet);
-    let mut page = Vec::new(alloc);
-    put_head(&mut page, sheet, &sentences)?;
+    let mut page = head(alloc, sheet, &sentences(sheet))?;
     put_panels(&mut page, sheet, units.as_slice())?;
-    put_table(&mut page, &shown)?;
-    put_legend(&mut page)?;
+    put_names(&mut page)?;
+    put_requests(&mut page, shown.listed.as_slice())?;
+    put_count(&mut page, shown.few, shown.count)?;
+    put_letters(&mut page)?;
+    put_texts(&mut page, &MARKS)?;
     text_of(alloc, page.as_slice())
 }

@@ -1,62 +1,53 @@
-//! Lines put together, and rows.
+//! Rows: lines with a label and a strip of signs.
 
-ghost use Rattle.std.specs.Prelude.{◌≡◌, ◌∷◌, [], decimal, OnOk};
-ghost use Rattle.picture_chart.specs.Rows.{line_of, filled, with_line, with_row};
+ghost use Rattle.std.specs.Prelude.{◌≡◌, ◌∷◌, [], ◌++◌, OnOk};
+ghost use Rattle.picture_chart.specs.Pages.{Grows};
 
 use crate::line::ChartLine;
 use std::alloc::AllocError;
 
 /// The characters of a row's label.
-const LABEL: usize = 18;
+pub(crate) const LABEL: usize = 18;
 
-/// A line of a text.
-pub fn line_of(text: &[u8]) -> ChartLine
-    ensures { result ≡ line_of (text.now ∷ []) }
-{
+/// A label, and a sign for each column.
+#[derive(Drop)]
+pub(crate) struct Row {
+    pub(crate) label: ChartLine,
+    pub(crate) strip: ChartLine,
+}
+
+/// The line of a row.
+fn line_of_row(row: &Row) -> ChartLine {
     let mut line = ChartLine::new();
-    line.put(text);
-    line
-}
-
-/// A line of a text and a number.
-pub fn line_with(text: &[u8], number: u64) -> ChartLine
-    ensures { result ≡ line_of (text.now ∷ decimal number ∷ []) }
-{
-    let mut line = line_of(text);
-    line.put_number(number);
-    line
-}
-
-/// A label, filled up to the length of labels.
-pub fn filled(label: ChartLine) -> ChartLine
-    ensures { result ≡ filled label }
-{
-    let mut line = label;
-    line.fill_to(LABEL);
+    line.put_left(row.label.as_bytes(), LABEL);
+    line.put(row.strip.as_bytes());
     line
 }
 
 /// Puts a line.
-pub fn put_line(page: &mut Vec<ChartLine>, line: ChartLine) -> Result<(), AllocError>
-    ensures { OnOk result (page.new.items ≡ with_line line page.old.items) }
+pub(crate) fn put_line(page: &mut Vec<ChartLine>, line: ChartLine) -> Result<(), AllocError>
+    ensures { OnOk result (page.new.items ≡ page.old.items ++ line ∷ []) }
 {
     page.push(line)?;
     Ok(())
 }
 
-/// Puts a row; a row with nothing on it is left out.
-#[tactic(auto, unfolding(crate::specs::Rows::with_row))]
-pub fn put_row(
-    page: &mut Vec<ChartLine>,
-    label: ChartLine,
-    strip: ChartLine,
-) -> Result<(), AllocError>
-    ensures { OnOk result (page.new.items ≡ with_row label strip page.old.items) }
+/// Puts a row. A row with nothing on its strip is left out.
+fn put_row(page: &mut Vec<ChartLine>, row: &Row) -> Result<(), AllocError>
+    ensures { OnOk result (Grows page.old.items page.new.items) }
 {
-    if strip.is_blank() {
+    if row.strip.is_blank() {
         return Ok(());
     }
-    let mut line = filled(label);
-    line.put(strip.as_bytes());
-    put_line(page, line)
+    put_line(page, line_of_row(row))
+}
+
+/// Puts rows.
+pub(crate) fn put_rows(page: &mut Vec<ChartLine>, rows: &[Row]) -> Result<(), AllocError>
+    ensures { OnOk result (Grows page.old.items page.new.items) }
+{
+    for row in rows.iter() {
+        put_row(page, row)?;
+    }
+    Ok(())
 }

@@ -1,5 +1,7 @@
 -- THE REQUESTS THAT A PICTURE SHOWS: those that meet its events.
-use Rattle.std.specs.Prelude.{ℕ, ◌==◌, nat_le, nat_lt, max, Bool, not, ◌&&◌, ◌||◌, if◌then◌else◌, List, [], ◌∷◌, ◌++◌, length, fold, count_by, unwrap_or, Option, Some, None}
+use Rattle.std.specs.Prelude.{ℕ, ◌-◌, ◌==◌, nat_le, nat_lt, max, Bool, true, false, not, ◌&&◌, ◌||◌, if◌then◌else◌, List, [], ◌∷◌, ◌++◌, length, fold, count_by, unwrap_or, Option, Some, None}
+use Rattle.pack_geometry.specs.declared.DriveKind.{DriveKind}
+use Rattle.pack_geometry.specs.Geometry.{cylinders_of}
 use Rattle.drive_pictures.specs.declared.arms.Path.{Path}
 use Rattle.drive_pictures.specs.declared.cells.Cell.{Cell}
 use Rattle.drive_pictures.specs.declared.requests.Request.{Request}
@@ -16,18 +18,21 @@ is_shown sheet r =
 abbrev pub shown_count : Sheet → ℕ
 shown_count sheet = count_by (is_shown sheet) sheet.run.now.requests
 
--- LISTED are all, where they are few; else those with trouble: the first 64 of them
+-- LISTED are all, where they are few; else those with trouble, and then others: 256 of them
 abbrev pub is_few : ℕ → Bool
-is_few count = nat_le count 64
+is_few count = nat_le count 256
 
-unfoldable pub is_listed : Sheet → Bool → Request → Bool
-is_listed sheet few r = is_shown sheet r && (few || r.trouble)
+unfoldable pub is_listed : Sheet → Bool → Bool → Request → Bool
+is_listed sheet few first r = is_shown sheet r && (if first then few || r.trouble else not (few || r.trouble))
 
-unfoldable pub listed_with : Sheet → Bool → List Request → Request → List Request
-listed_with sheet few listed r = if is_listed sheet few r && nat_lt (length listed) 64 then listed ++ r ∷ [] else listed
+unfoldable pub listed_with : Sheet → Bool → Bool → List Request → Request → List Request
+listed_with sheet few first listed r = if is_listed sheet few first r && nat_lt (length listed) 256 then listed ++ r ∷ [] else listed
+
+abbrev pub listed_all : Sheet → Bool → Bool → List Request → List Request
+listed_all sheet few first listed = fold (listed_with sheet few first) listed sheet.run.now.requests
 
 abbrev pub listed : Sheet → Bool → List Request
-listed sheet few = fold (listed_with sheet few) [] sheet.run.now.requests
+listed sheet few = listed_all sheet few false (listed_all sheet few true [])
 
 -- THE HIGHEST CYLINDER of a unit: of its arm before the columns and in them, and of its requests
 abbrev pub highest_in : Option Path → ℕ → ℕ
@@ -43,3 +48,14 @@ with_request sheet unit top r = if r.unit == unit && is_shown sheet r then max t
 abbrev pub top_of : Sheet → ℕ → ℕ
 top_of sheet unit =
     fold (with_request sheet unit) (fold (with_column unit) (arm_before sheet unit) sheet.run.now.columns) sheet.run.now.requests
+
+-- THE SCALE of the arms of some drives: the greatest last cylinder, and no arm or request is above it
+abbrev pub last_cylinder : Option DriveKind → ℕ
+last_cylinder None = 0
+last_cylinder (Some kind) = cylinders_of kind - 1
+
+abbrev pub with_reach : Sheet → ℕ → ℕ → ℕ
+with_reach sheet top unit = max top (max (last_cylinder (drive_at sheet.run.now.drives unit).kind) (top_of sheet unit))
+
+abbrev pub scale_of : Sheet → List ℕ → ℕ
+scale_of sheet units = fold (with_reach sheet) 0 units

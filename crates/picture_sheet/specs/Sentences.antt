@@ -1,5 +1,6 @@
 -- THE SENTENCES OF A RUN, each of the whole run.
-use Rattle.std.specs.Prelude.{◌≡◌, ℕ, Bool, List, [], ◌∷◌, length, codes, count_by, MatchOption}
+use Rattle.std.specs.Prelude.{◌≡◌, ℕ, zero, suc, Bool, List, [], ◌∷◌, Option, length, codes, count_by, MatchOption}
+use Rattle.picture_sheet.specs.Units.{units_shown}
 use Rattle.drive_pictures.specs.declared.requests.Request.{Request}
 use Rattle.drive_pictures.specs.Requests.{is_ok, is_out_of_order}
 use Rattle.run_picture.specs.Fold.{events_in}
@@ -31,19 +32,23 @@ pub record SaysEvents (sheet : Sheet) (s : Sentence) : Type 0 where
   pub two : MatchOption s.third (Unit {0}) (λ phrase. ⊥)
   pub stop : s.end.now ≡ codes "."
 
--- the most drives that positioned at once, and where first
+-- how many drives are shown, and how many positioned at once at most; and where first, if one did
+abbrev pub SaysFirst : ℕ → ℕ → Option Phrase → Type 0
+SaysFirst zero line third = MatchOption third (Unit {0}) (λ phrase. ⊥)
+SaysFirst (suc n) line third = MatchOption third ⊥ (IsPhrase (codes "; first at line: ") line)
+
 pub record SaysPositioning (sheet : Sheet) (s : Sentence) : Type 0 where
-  pub most : IsPhrase (codes "Drives positioning at once: at most ") sheet.run.now.glance.most s.first
-  pub line : IsPhrase (codes ", first at line ") sheet.run.now.glance.most_line s.second
-  pub two : MatchOption s.third (Unit {0}) (λ phrase. ⊥)
+  pub drives : IsPhrase (codes "Drives: ") (length (units_shown sheet)) s.first
+  pub most : IsPhrase (codes "; positioning at once, at most: ") sheet.run.now.glance.most s.second
+  pub line : SaysFirst sheet.run.now.glance.most sheet.run.now.glance.most_line s.third
   pub stop : s.end.now ≡ codes "."
 
--- how often sectors moved, and how often another drive positioned meanwhile
+-- behind how many events sectors had moved, and behind how many of these another drive was positioning
 pub record SaysMoving (sheet : Sheet) (s : Sentence) : Type 0 where
-  pub moving : IsPhrase (codes "Sectors moved after ") sheet.run.now.glance.moving s.first
-  pub both : IsPhrase (codes " events; after ") sheet.run.now.glance.both s.second
+  pub moving : IsPhrase (codes "Events after which sectors moved: ") sheet.run.now.glance.moving s.first
+  pub both : IsPhrase (codes "; and another drive positioned: ") sheet.run.now.glance.both s.second
   pub two : MatchOption s.third (Unit {0}) (λ phrase. ⊥)
-  pub stop : s.end.now ≡ codes " of them another drive was positioning."
+  pub stop : s.end.now ≡ codes "."
 
 -- the four, in this order
 abbrev pub SumUp : Sheet → List Sentence → Type 0

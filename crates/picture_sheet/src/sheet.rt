@@ -43,7 +43,7 @@ fn has_request(requests: &[Request], unit: u8) -> bool
 }
 
 /// Whether a drive is drawn: something is shown, and some request is of the drive.
-fn is_drawn(sheet: &Sheet<'_>, unit: u8) -> bool
+pub(crate) fn is_drawn(sheet: &Sheet<'_>, unit: u8) -> bool
     ensures { result ≡ is_drawn sheet.now unit }
 {
     !sheet.run.columns().is_empty() && has_request(sheet.run.requests(), unit)

@@ -1,16 +1,17 @@
 //! The requests that are shown.
 
-ghost use Rattle.std.specs.Prelude.{◌≡◌, ◌≤◌, fold, length, IfOk, OnOk};
-ghost use Rattle.picture_sheet.specs.Requests.{is_shown, shown_count, is_few, is_listed, listed_with, listed, highest_in, with_column, with_request, top_of};
+ghost use Rattle.std.specs.Prelude.{◌≡◌, ◌-◌, ◌≤◌, fold, length, IfOk, OnOk};
+ghost use Rattle.picture_sheet.specs.Requests.{is_shown, shown_count, is_few, is_listed, listed_with, listed_all, listed, highest_in, with_column, with_request, top_of, last_cylinder, with_reach, scale_of};
 ghost use Rattle.picture_sheet.specs.Window.{arm_before};
 
 use crate::sheet::Sheet;
 use drive_pictures::{Cell, Request};
+use pack_geometry::{DriveKind, geometry_of};
 use run_picture::Column;
 use std::alloc::{AllocError, Global};
 
 /// The most requests that are listed.
-const MOST: usize = 64;
+const MOST: usize = 256;
 
 /// The requests that are shown: how many, whether all of them are listed, and those that are.
 #[derive(Drop)]
@@ -45,12 +46,14 @@ fn count_shown(sheet: &Sheet<'_>) -> usize
     count
 }
 
-/// Whether a request is listed, if there is room.
+/// Whether a request is listed, if there is room: one of the first ones, which are those with trouble or, if few are shown, all; or one
+/// of the others.
 #[tactic(auto, unfolding(crate::specs::Requests::is_listed))]
-fn is_listed(sheet: &Sheet<'_>, few: bool, request: &Request) -> bool
-    ensures { result ≡ is_listed sheet.now few request.now }
+fn is_listed(sheet: &Sheet<'_>, few: bool, first: bool, request: &Request) -> bool
+    ensures { result ≡ is_listed sheet.now few first request.now }
 {
-    is_shown(sheet, request) && (few || request.trouble)
+    let wanted = few || request.trouble;
+    is_shown(sheet, request) && (if first { wanted } else { !wanted })
 }
 
 /// Puts a request after those that are listed, if it is wanted and there is room.
@@ -59,12 +62,28 @@ fn list_request(
     listed: &mut Vec<Request>,
     sheet: &Sheet<'_>,
     few: bool,
+    first: bool,
     request: &Request,
 ) -> Result<(), AllocError>
-    ensures { OnOk result (listed.new.items ≡ listed_with sheet.now few listed.old.items request.now) }
+    ensures { OnOk result (listed.new.items ≡ listed_with sheet.now few first listed.old.items request.now) }
 {
-    if is_listed(sheet, few, request) && listed.len() < MOST {
+    if is_listed(sheet, few, first, request) && listed.len() < MOST {
         listed.push(*request)?;
+    }
+    Ok(())
+}
+
+/// Puts the requests that are wanted, as far as there is room.
+fn list_all(
+    listed: &mut Vec<Request>,
+    sheet: &Sheet<'_>,
+    few: bool,
+    first: bool,
+) -> Result<(), AllocError>
+    ensures { OnOk result (listed.new.items ≡ listed_all sheet.now few first listed.old.items) }
+{
+    for request in sheet.run.requests().iter() {
+        list_request(listed, sheet, few, first, request)?;
     }
     Ok(())
 }
@@ -74,14 +93,14 @@ fn list(alloc: Global, sheet: &Sheet<'_>, few: bool) -> Result<Vec<Request>, All
     ensures { IfOk result (λ requests. requests.items ≡ listed sheet.now few) }
 {
     let mut listed = Vec::new(alloc);
-    for request in sheet.run.requests().iter() {
-        list_request(&mut listed, sheet, few, request)?;
-    }
+    list_all(&mut listed, sheet, few, true)?;
+    list_all(&mut listed, sheet, few, false)?;
     Ok(listed)
 }
 
 impl Shown {
-    /// The requests that a sheet shows. If there are more than 64, the first 64 with trouble are listed.
+    /// The requests that a sheet shows. If there are at most 256, all are listed. Otherwise those with trouble are listed first, and
+    /// then others, until 256 are listed.
     pub fn new(alloc: Global, sheet: &Sheet<'_>) -> Result<Shown, AllocError>
         ensures count { IfOk result (λ shown. shown.count ≡ shown_count sheet.now) }
         ensures few { IfOk result (λ shown. shown.few ≡ is_few (shown_count sheet.now)) }
@@ -91,6 +110,13 @@ impl Shown {
         let few = count <= MOST;
         let listed = list(alloc, sheet, few)?;
         Ok(Shown { count, few, listed })
+    }
+
+    /// How many of the requests that are shown are not listed.
+    pub fn left_out(&self) -> u64
+        ensures { result ≡ self.now.count - length self.now.listed.items }
+    {
+        self.count.saturating_sub(self.listed.len()) as u64
     }
 }
 
@@ -145,6 +171,38 @@ pub fn top_of(sheet: &Sheet<'_>, unit: u8) -> u32
     let mut top = top_of_arm(sheet, unit);
     for request in sheet.run.requests().iter() {
         top = with_request(sheet, unit, top, request);
+    }
+    top
+}
+
+/// The last cylinder of a drive of a kind; 0 if no script declares the drive.
+fn last_cylinder(kind: Option<DriveKind>) -> u32
+    ensures { result ≡ last_cylinder kind }
+{
+    match kind {
+        Some(kind) => geometry_of(kind).cylinders.saturating_sub(1),
+        None => 0,
+    }
+}
+
+/// The highest of a cylinder, the last cylinder of a unit, and the highest one of the unit's arm and requests.
+fn with_reach(sheet: &Sheet<'_>, top: u32, unit: u8) -> u32
+    ensures { result ≡ with_reach sheet.now top unit }
+{
+    let last = match sheet.run.drives().get(usize::from(unit)) {
+        Some(drive) => last_cylinder(drive.kind),
+        None => 0,
+    };
+    top.max(last.max(top_of(sheet, unit)))
+}
+
+/// The cylinder at the top of the charts of all arms of some units: the greatest last cylinder of these drives.
+pub fn scale_of(sheet: &Sheet<'_>, units: &[u8]) -> u32
+    ensures { result ≡ scale_of sheet.now units.now }
+{
+    let mut top = 0;
+    for unit in units.iter() {
+        top = with_reach(sheet, top, *unit);
     }
     top
 }

@@ -1,9 +1,10 @@
 //! A whole run at a glance, in sentences.
 
-ghost use Rattle.std.specs.Prelude.{◌≡◌, count_by};
-ghost use Rattle.picture_sheet.specs.Sentences.{was_ok, was_turned, SaysRequests, SaysEvents, SaysPositioning, SaysMoving, SumUp};
+ghost use Rattle.std.specs.Prelude.{◌≡◌, count_by, length};
+ghost use Rattle.picture_sheet.specs.Units.{units_shown};
+ghost use Rattle.picture_sheet.specs.Sentences.{was_ok, was_turned, SaysRequests, SaysEvents, SaysFirst, SaysPositioning, SaysMoving, SumUp};
 
-use crate::sheet::Sheet;
+use crate::sheet::{Sheet, is_drawn};
 use drive_pictures::{Outcome, Request};
 
 /// Words, and a number after them.
@@ -104,6 +105,32 @@ fn of_events(sheet: &Sheet<'_>) -> Sentence
     }
 }
 
+/// How many drives are shown.
+fn count_drives(sheet: &Sheet<'_>) -> usize
+    ensures { result ≡ length (units_shown sheet.now) }
+{
+    let mut count: usize = 0;
+    for unit in 0..32u8 {
+        if is_drawn(sheet, unit) {
+            count += 1;
+        }
+    }
+    count
+}
+
+/// The line at which most drives positioned first, if some drive positioned.
+fn first_at(most: usize, line: u32) -> Option<Phrase>
+    ensures { SaysFirst most line result }
+{
+    if most == 0 {
+        return None;
+    }
+    Some(Phrase {
+        word: "; first at line: ",
+        number: u64::from(line),
+    })
+}
+
 /// How many drives positioned at once.
 fn of_positioning(sheet: &Sheet<'_>) -> Sentence
     ensures { SaysPositioning sheet.now result }
@@ -111,14 +138,14 @@ fn of_positioning(sheet: &Sheet<'_>) -> Sentence
     let glance = sheet.run.glance();
     Sentence {
         first: Phrase {
-            word: "Drives positioning at once: at most ",
-            number: glance.most as u64,
+            word: "Drives: ",
+            number: count_drives(sheet) as u64,
         },
         second: Phrase {
-            word: ", first at line ",
-            number: u64::from(glance.most_line),
+            word: "; positioning at once, at most: ",
+            number: glance.most as u64,
         },
-        third: None,
+        third: first_at(glance.most, glance.most_line),
         end: ".",
     }
 }
@@ -130,15 +157,15 @@ fn of_moving(sheet: &Sheet<'_>) -> Sentence
     let glance = sheet.run.glance();
     Sentence {
         first: Phrase {
-            word: "Sectors moved after ",
+            word: "Events after which sectors moved: ",
             number: glance.moving,
         },
         second: Phrase {
-            word: " events; after ",
+            word: "; and another drive positioned: ",
             number: glance.both,
         },
         third: None,
-        end: " of them another drive was positioning.",
+        end: ".",
     }
 }
 

@@ -7,7 +7,7 @@ use Rattle.drive_pictures.specs.declared.letters.Letter.{Letter}
 use Rattle.drive_pictures.specs.declared.requests.Request.{Request}
 use Rattle.picture_sheet.specs.declared.sheet.Sheet.{Sheet}
 use Rattle.picture_sheet.specs.Notes.{lines_shown}
-use Rattle.picture_sheet.specs.Requests.{is_few, is_listed, listed_with, listed, shown_count}
+use Rattle.picture_sheet.specs.Requests.{is_few, is_listed, listed_with, listed_all, listed, shown_count}
 use Rattle.picture_sheet.specs.Units.{is_drawn, unit_drawn, units_below, units_shown}
 use Rattle.picture_svg.specs.declared.pieces.Element.TheVariants.{Svg}
 use Rattle.picture_svg.specs.declared.scene.Lane.{Lane}
@@ -27,26 +27,26 @@ few_units zero sheet = omega arith
 few_units (suc n) sheet =
     omega (arith, length-append (units_below n sheet) (unit_drawn sheet n), few_units n sheet, one_drawn (is_drawn sheet n) n)
 
--- at most 64 requests
-one_listed : (a b : Bool) (r : Request) (requests : List Request) → length requests ≤ 64 → (b ≡ true → suc (length requests) ≤ 64)
-    → length (if a && b then requests ++ r ∷ [] else requests) ≤ 64
+-- at most 256 requests
+one_listed : (a b : Bool) (r : Request) (requests : List Request) → length requests ≤ 256 → (b ≡ true → suc (length requests) ≤ 256)
+    → length (if a && b then requests ++ r ∷ [] else requests) ≤ 256
 one_listed true true r requests few room = omega (arith, length-append requests (r ∷ []), room refl)
 one_listed true false r requests few room = few
 one_listed false b r requests few room = few
 
-few_with : (sheet : Sheet) (few : Bool) (r : Request) (requests : List Request) → length requests ≤ 64
-    → length (listed_with sheet few requests r) ≤ 64
+few_with : (sheet : Sheet) (few first : Bool) (r : Request) (requests : List Request) → length requests ≤ 256
+    → length (listed_with sheet few first requests r) ≤ 256
 unfolding listed_with
-few_with sheet few r requests le =
-    one_listed (is_listed sheet few r) (nat_lt (length requests) 64) r requests le (leb-true (suc (length requests)) 64)
+few_with sheet few first r requests le =
+    one_listed (is_listed sheet few first r) (nat_lt (length requests) 256) r requests le (leb-true (suc (length requests)) 256)
 
-few_folded : (sheet : Sheet) (few : Bool) (rs requests : List Request) → length requests ≤ 64
-    → length (fold (listed_with sheet few) requests rs) ≤ 64
-few_folded sheet few [] requests le = le
-few_folded sheet few (r ∷ rs) requests le = few_folded sheet few rs (listed_with sheet few requests r) (few_with sheet few r requests le)
+few_folded : (sheet : Sheet) (few first : Bool) (rs requests : List Request) → length requests ≤ 256
+    → length (fold (listed_with sheet few first) requests rs) ≤ 256
+few_folded sheet few first [] requests le = le
+few_folded sheet few first (r ∷ rs) requests le = few_folded sheet few first rs (listed_with sheet few first requests r) (few_with sheet few first r requests le)
 
-pub few_listed : (sheet : Sheet) (few : Bool) → length (listed sheet few) ≤ 64
-few_listed sheet few = few_folded sheet few sheet.run.now.requests [] (omega arith)
+pub few_listed : (sheet : Sheet) (few : Bool) → length (listed sheet few) ≤ 256
+few_listed sheet few = few_folded sheet few false sheet.run.now.requests (listed_all sheet few true []) (few_folded sheet few true sheet.run.now.requests [] (omega arith))
 
 -- the lines of the drives are those of their units
 pub lines_same : (sheet : Sheet) (lanes : List Lane) → lines_of_lanes sheet lanes ≡ lines_of_units sheet (map unit_of lanes)

@@ -1,5 +1,5 @@
 -- WHAT A LETTER SAYS that a drive does.
-use Rattle.std.specs.Prelude.{ℕ, List, codes}
+use Rattle.std.specs.Prelude.{ℕ, List, [], ◌∷◌, codes}
 use Rattle.drive_pictures.specs.declared.letters.Letter.{Letter}
 use Rattle.drive_pictures.specs.declared.letters.Letter.TheVariants as letter
 
@@ -15,3 +15,9 @@ letter_word letter.Moves = codes "sectors move"
 letter_word letter.Retries = codes "tries again"
 letter_word letter.Replaces = codes "at a replacement"
 letter_word letter.Moved = codes "interrupt up"
+
+-- A LEGEND says it of each letter that a bar can have, in this order
+abbrev pub legend_letters : List Letter
+legend_letters =
+    letter.Idle ∷ letter.Seeks ∷ letter.Turns ∷ letter.Recalibrates ∷ letter.Offsets ∷ letter.Arrived ∷ letter.Ready ∷ letter.Moves
+    ∷ letter.Retries ∷ letter.Replaces ∷ letter.Moved ∷ []

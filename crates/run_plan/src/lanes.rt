@@ -30,7 +30,7 @@ pub struct Lane {
 }
 
 /// What a unit did in most events of a column.
-fn letter_at(column: &Column, unit: u8) -> Letter
+pub fn letter_at(column: &Column, unit: u8) -> Letter
     ensures { result ≡ letter_at unit column.now }
 {
     lead(&cell_at(column, unit).tally, column.head.events)

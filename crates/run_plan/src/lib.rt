@@ -19,6 +19,6 @@ mod words;
 pub use bars::Bar;
 pub use events::events_text;
 pub use figures::Figures;
-pub use lanes::{Lane, Point};
+pub use lanes::{Lane, Point, letter_at};
 pub use plan::{Plan, plan_of, requests_text, summary_text};
-pub use words::letter_word;
+pub use words::{legend_letters, letter_word};

@@ -1,19 +1,13 @@
-use Rattle.std.proofs.Common.{◌∙◌, ap}
-use Rattle.picture_chart.specs.Charts.{text_of}
-use Rattle.picture_chart.proofs.PageLaws.{both_ok, page_is}
+use Rattle.std.proofs.Common.{◌∙◌}
+use Rattle.picture_chart.proofs.Growing.{both_ok, chart_of}
 use Rattle.picture_chart.proofs.page.chart.Goals as goal
 
 pub returns : goal.returns
 returns c =
-    both_ok c.text_of.result _ _ _ (λ text is chart. record {
-      sentences = c.sentences-sentences.result;
-      sums_up = c.sentences-sentences.ensures;
-      lines =
-          is ∙ ap text_of
-          (page_is c.args.sheet.now c.sentences-sentences.result c.in_ok-shown.shown.listed.items c.in_ok-shown.shown.few c.in_ok-shown.shown.count
-          c.new-page.result.items c.put_head.new.page.items c.put_panels.new.page.items c.put_table.new.page.items
-          c.put_legend.new.page.items c.as_slice-2.result.now c.as_slice-2.ensures.value c.in_ok-put_legend.ensures
-          c.in_ok-put_table.ensures c.in_ok-put_panels.ensures c.in_ok-put_head.ensures c.new-page.ensures.items
-          c.in_ok-shown.ensures.count c.in_ok-shown.ensures.few c.in_ok-shown.ensures.listed);
-      chart = chart;
-    }) c.text_of.ensures.text c.text_of.ensures.chart
+    both_ok c.text_of.result _ _ _ (λ text is chart.
+      chart_of c.args.sheet.now c.sentences.result c.as_slice-2.result.now c.in_ok-page.page.items c.put_panels.new.page.items
+      c.put_names.new.page.items c.put_requests.new.page.items c.put_count.new.page.items c.put_letters.new.page.items c.put_texts.new.page.items
+      c.as_slice-3.result.now text.items c.sentences.ensures c.in_ok-page.ensures c.in_ok-put_panels.ensures c.in_ok-put_names.ensures
+      (c.as_slice-2.ensures.value ∙ c.in_ok-shown.ensures.listed) c.in_ok-put_requests.ensures c.in_ok-put_count.ensures
+      c.in_ok-put_letters.ensures c.in_ok-put_texts.ensures c.as_slice-3.ensures.value is chart)
+    c.text_of.ensures.text c.text_of.ensures.chart
