@@ -46,9 +46,7 @@ few_folded sheet few first [] requests le = le
 few_folded sheet few first (r ∷ rs) requests le = few_folded sheet few first rs (listed_with sheet few first requests r) (few_with sheet few first r requests le)
 
 pub few_listed : (sheet : Sheet) (few : Bool) → length (listed sheet few) ≤ 256
-few_listed sheet few =
-    few_folded sheet few false sheet.run.now.requests (listed_all sheet few true [])
-    (few_folded sheet few true sheet.run.now.requests [] (omega arith))
+few_listed sheet few = few_folded sheet few false sheet.run.now.requests (listed_all sheet few true []) (few_folded sheet few true sheet.run.now.requests [] (omega arith))
 
 -- the lines of the drives are those of their units
 pub lines_same : (sheet : Sheet) (lanes : List Lane) → lines_of_lanes sheet lanes ≡ lines_of_units sheet (map unit_of lanes)

@@ -12,20 +12,20 @@ use drive_pictures::{Path, Request};
 use std::alloc::{AllocError, Global};
 
 /// Where a cylinder stands.
-fn level(lane: &Lane, y: u32, cylinder: u32) -> u32
+fn level(scene: &Scene<'_, '_>, lane: &Lane, y: u32, cylinder: u32) -> u32
     requires { y ≤ 19000 }
     ensures { result ≤ y + 255 }
 {
     let chart = u32::from(lane.chart);
-    y + chart - part_of(chart, u64::from(cylinder), u64::from(lane.top))
+    y + chart - part_of(chart, u64::from(cylinder), u64::from(scene.scale))
 }
 
 /// Where a request stands.
-fn level_of(lane: &Lane, y: u32, request: &Request) -> u32
+fn level_of(scene: &Scene<'_, '_>, lane: &Lane, y: u32, request: &Request) -> u32
     requires { y ≤ 19000 }
     ensures { result ≤ y + 255 }
 {
-    level(lane, y, request.cylinder.unwrap_or(0))
+    level(scene, lane, y, request.cylinder.unwrap_or(0))
 }
 
 /// The requests of a drive that joined, if few are shown.
@@ -49,7 +49,7 @@ fn asked_at(scene: &Scene<'_, '_>, lane: &Lane, request: &Request, y: u32) -> Po
     requires { y ≤ 19000 }
     ensures { is_low result ≡ true }
 {
-    at(scene.at(request.asked), level_of(lane, y, request))
+    at(scene.at(request.asked), level_of(scene, lane, y, request))
 }
 
 /// A line from a request to the one that came after it, if the later one waits.
@@ -129,17 +129,24 @@ fn draw_waits(
 }
 
 /// Puts the points of the arm's way in a column: the first cylinder, and the lowest, the highest and the last if it moved.
-fn put_path(out: &mut Markup<'_>, lane: &Lane, path: Path, x: u32, y: u32) -> Result<(), AllocError>
+fn put_path(
+    out: &mut Markup<'_>,
+    scene: &Scene<'_, '_>,
+    lane: &Lane,
+    path: Path,
+    x: u32,
+    y: u32,
+) -> Result<(), AllocError>
     requires across { x ≤ 2000 }
     requires down { y ≤ 19000 }
     requires line { is_innermost Line out.old.within ≡ true }
     ensures { OnOk result (out.new ≡ out.old) }
 {
-    out.corner(at(x, level(lane, y, path.first)))?;
+    out.corner(at(x, level(scene, lane, y, path.first)))?;
     if path.lowest < path.highest {
-        out.corner(at(x, level(lane, y, path.lowest)))?;
-        out.corner(at(x, level(lane, y, path.highest)))?;
-        out.corner(at(x, level(lane, y, path.last)))?;
+        out.corner(at(x, level(scene, lane, y, path.lowest)))?;
+        out.corner(at(x, level(scene, lane, y, path.highest)))?;
+        out.corner(at(x, level(scene, lane, y, path.last)))?;
     }
     Ok(())
 }
@@ -157,7 +164,7 @@ fn put_column(
     ensures { OnOk result (out.new ≡ out.old) }
 {
     match scene.cell(lane.unit, column).path {
-        Some(path) => put_path(out, lane, path, scene.frame.x(column), y),
+        Some(path) => put_path(out, scene, lane, path, scene.frame.x(column), y),
         None => Ok(()),
     }
 }
@@ -189,9 +196,9 @@ fn draw_path(
     requires { y ≤ 19000 }
     ensures { OnOk result (out.new ≡ out.old) }
 {
-    let place = at(LEFT, level(lane, y, lane.before));
+    let place = at(LEFT, level(scene, lane, y, lane.before));
     let last = scene.columns().len().saturating_sub(1);
-    let end = level(lane, y, scene.cell(lane.unit, last).cylinder);
+    let end = level(scene, lane, y, scene.cell(lane.unit, last).cylinder);
     out.put(Piece::Start(Start::Line {
         class: "p",
         at: place,
@@ -239,7 +246,7 @@ fn draw_id(
     if !is_served || x < free.saturating_add(width_of(id)) {
         return Ok(free);
     }
-    let place = at(x, level_of(lane, y, request).saturating_sub(4));
+    let place = at(x, level_of(scene, lane, y, request).saturating_sub(4));
     out.text_number("m e", place, id)?;
     Ok(x + 2)
 }
@@ -276,7 +283,7 @@ fn draw_bounds(
     let from = at(LEFT, y);
     let to = at(scene.frame.right(), lower);
     out.path("g", Route::TwoAcross { from, to })?;
-    out.text_with("q e", at(LABEL, y + 4), "cylinder ", u64::from(lane.top))?;
+    out.text_with("q e", at(LABEL, y + 4), "cylinder ", u64::from(scene.scale))?;
     out.text_number("q e", at(LABEL, lower + 3), 0)
 }
 

@@ -117,7 +117,7 @@ fn draw_positioning(
     let corner = at(scene.start(stretch), y + 40 - height);
     out.rect("n", corner, extent(width, height), None)?;
     if width >= 8 {
-        let above = at(scene.middle(stretch), y + 38 - height);
+        let above = at(scene.middle(stretch), y + 39);
         out.text_number("m b c", above, count)?;
     }
     out.end(Element::Group)

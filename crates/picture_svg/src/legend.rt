@@ -32,7 +32,7 @@ const LOWER: [Letter; 5] = [
 struct Known(&'static str, &'static str, u16, u16, u8, &'static str);
 
 /// The signs that are letters.
-static SIGNS: [Known; 16] = [
+static SIGNS: [Known; 18] = [
     Known("m x", "B", 370, 122, 10, "burst, repaired"),
     Known("m x", "E", 484, 122, 10, "not repairable"),
     Known("m x", "F", 592, 122, 10, "fault"),
@@ -49,6 +49,8 @@ static SIGNS: [Known; 16] = [
     Known("m b", "k", 478, 139, 10, "unlocked"),
     Known("m b", "P", 552, 139, 10, "pack acknowledged"),
     Known("m b", "-4", 682, 139, 16, "offset -400"),
+    Known("m x", "t", 602, 156, 10, "a try failed (little room)"),
+    Known("m b", "3", 758, 156, 10, "turn: out of the order asked"),
 ];
 
 /// A letter, with its pattern, its sign and its words.
@@ -116,6 +118,63 @@ fn draw_signs(out: &mut Markup<'_>, signs: &[Known]) -> Result<(), AllocError>
     Ok(())
 }
 
+/// A line of the legend, with its words.
+fn draw_line(
+    out: &mut Markup<'_>,
+    class: &'static str,
+    x: u32,
+    words: &'static str,
+) -> Result<(), AllocError>
+    requires { x ≤ 2000 }
+    ensures { OnOk result (out.new ≡ out.old) }
+{
+    let from = at(x, 152);
+    let to = at(x + 24, 152);
+    out.path(class, Route::Across { from, to })?;
+    out.text("", at(x + 29, 156), words)
+}
+
+/// The lines of the arms and of the conditions.
+fn draw_lines(out: &mut Markup<'_>) -> Result<(), AllocError>
+    ensures { OnOk result (out.new ≡ out.old) }
+{
+    draw_line(out, "p", 16, "the arm")?;
+    draw_line(out, "z", 90, "the order of asking")?;
+    draw_line(out, "w", 224, "a request waits")?;
+    draw_line(out, "f", 340, "offline")?;
+    draw_line(out, "j", 414, "locked")?;
+    draw_line(out, "k", 486, "in hand, at the foot: its end")
+}
+
+/// A box of the legend, with its words.
+fn draw_box(
+    out: &mut Markup<'_>,
+    class: &'static str,
+    x: u32,
+    words: &'static str,
+) -> Result<(), AllocError>
+    requires { x ≤ 2000 }
+    ensures { OnOk result (out.new ≡ out.old) }
+{
+    out.rect(class, at(x, 163), extent(24, 10), None)?;
+    out.text("", at(x + 29, 173), words)
+}
+
+/// The boxes of the requests and of the adapters, and the unit of the table.
+fn draw_boxes(out: &mut Markup<'_>) -> Result<(), AllocError>
+    ensures { OnOk result (out.new ≡ out.old) }
+{
+    draw_box(out, "w a", 16, "a read waits")?;
+    draw_box(out, "w y", 122, "a write waits")?;
+    draw_box(out, "v", 232, "asked for")?;
+    draw_box(out, "n", 326, "drives positioning")?;
+    out.text(
+        "q",
+        at(470, 173),
+        "numbers of the table are events; done are sectors",
+    )
+}
+
 /// The legend.
 pub fn draw_legend(out: &mut Markup<'_>) -> Result<(), AllocError>
     ensures { OnOk result (out.new ≡ fold with_letter out.old explained) }
@@ -130,5 +189,7 @@ pub fn draw_legend(out: &mut Markup<'_>) -> Result<(), AllocError>
     draw_path(out, "k", Sign::Tick, 334, 118, 344, "ok")?;
     draw_signs(out, &SIGNS)?;
     out.dot("u", at(782, 135))?;
-    out.text("", at(790, 139), "asked for, at its cylinder")
+    out.text("", at(790, 139), "asked for, at its cylinder")?;
+    draw_lines(out)?;
+    draw_boxes(out)
 }

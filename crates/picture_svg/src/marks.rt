@@ -91,6 +91,7 @@ fn draw_shape(
     out: &mut Markup<'_>,
     shape: Shape,
     cell: &Cell,
+    wide: bool,
     x: u32,
     y: u32,
 ) -> Result<(), AllocError>
@@ -102,10 +103,12 @@ fn draw_shape(
     match shape {
         Shape::Nothing => Ok(()),
         Shape::Trouble => out.text("m c x", at(x, y + 9), sign),
-        Shape::Offset => out.text_with("m b", at(x, y + 9), sign, u64::from(cell.code)),
+        Shape::Offset if wide => out.text_with("m b", at(x, y + 9), sign, u64::from(cell.code)),
+        Shape::Offset => out.text("m b c", at(x, y + 9), sign),
         Shape::Sign => out.text("m b c", at(x, y + 9), sign),
         Shape::Dot => out.dot("d", at(x, y + 6)),
         Shape::Tick => draw_sign(out, "k", x.saturating_sub(3), y + 6, Sign::Tick),
+        Shape::Try if !wide => out.text("m c x", at(x, y + 20), mark_sign(Mark::TryFailed)),
         Shape::Try => out.text_number("m c x", at(x, y + 20), u64::from(cell.tried)),
         Shape::Diamond => draw_sign(out, "d", x, y + 12, Sign::Diamond),
         Shape::Full => draw_sign(out, "d", x, y + 13, Sign::Triangle),
@@ -127,8 +130,15 @@ fn draw_shapes(
 {
     let x = scene.frame.x(column);
     let width = scene.frame.column.min(40);
-    draw_shape(out, mark_shape(cell.mark, roomy), cell, x, y)?;
-    draw_shape(out, signal_shape(cell.signal, roomy), cell, x, y)?;
+    draw_shape(out, mark_shape(cell.mark, roomy), cell, width >= 14, x, y)?;
+    draw_shape(
+        out,
+        signal_shape(cell.signal, roomy),
+        cell,
+        width >= 14,
+        x,
+        y,
+    )?;
     let corner = at(x.saturating_sub(width / 2), y);
     out.rect("o", corner, extent(width, 22), None)
 }

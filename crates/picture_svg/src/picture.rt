@@ -12,11 +12,11 @@ use crate::scene::{Frame, Lane, Scene, lanes_of};
 use crate::script::{draw_events, draw_script};
 use crate::table::draw_table;
 use crate::tips::{front, put_sentences, text_sentences};
-use picture_sheet::{Sentence, Sheet, Shown, sentences};
+use picture_sheet::{Sentence, Sheet, Shown, scale_of, sentences};
 use std::alloc::{AllocError, Global};
 
 /// Where the adapters begin.
-const TOP: u32 = 286;
+const TOP: u32 = 320;
 
 /// How high an adapter is above its drives.
 const ADAPTER: u32 = 50;
@@ -81,7 +81,7 @@ const FIRST: Place = Place {
 /// Where the drives end.
 fn bottom_of(lanes: &[Lane]) -> u32
     requires { length lanes.now ≤ 32 }
-    ensures { result ≤ 13118 }
+    ensures { result ≤ 13152 }
 {
     let mut place = FIRST;
     for lane in lanes.iter() {
@@ -179,7 +179,7 @@ fn draw<'a>(alloc: Global, out: &mut Markup<'a>, scene: &Scene<'_, 'a>) -> Resul
     let sentences = sentences(scene.sheet);
     let bottom = bottom_of(scene.lanes);
     let listed = scene.shown.listed.len() as u32;
-    let height = bottom + 60 + 13 * listed;
+    let height = bottom + 74 + 13 * listed;
     let size = extent(scene.frame.width(), height);
     out.put(Piece::Start(Start::Svg { size }))?;
     draw_names(out, scene.sheet, &sentences)?;
@@ -189,7 +189,7 @@ fn draw<'a>(alloc: Global, out: &mut Markup<'a>, scene: &Scene<'_, 'a>) -> Resul
     draw_script(alloc, out, scene, height)?;
     draw_drives(alloc, out, scene)?;
     draw_events(out, scene, bottom + 8)?;
-    draw_table(alloc, out, scene, bottom + 22)?;
+    draw_table(alloc, out, scene, bottom + 36)?;
     out.end(Element::Svg)
 }
 
@@ -198,11 +198,13 @@ pub fn svg(alloc: Global, sheet: &Sheet<'_>) -> Result<Vec<u8>, AllocError>
     ensures { IfOk result (λ text. IsPicture sheet.now text.items) }
 {
     let shown = Shown::new(alloc, sheet)?;
+    let units = sheet.units(alloc)?;
     let lanes = lanes_of(alloc, sheet)?;
     let scene = Scene {
         sheet,
         frame: Frame::new(sheet.columns().len()),
         lanes: lanes.as_slice(),
+        scale: scale_of(sheet, units.as_slice()),
         shown: &shown,
     };
     let mut out = Markup::new(alloc);

@@ -39,12 +39,13 @@ pub struct Lane {
     pub chart: u8,
 }
 
-/// What is drawn.
+/// What is drawn: a sheet in a frame, with its drives, the cylinder at the top of the charts of all arms, and the requests.
 #[derive(Clone, Copy)]
 pub struct Scene<'s, 'a> {
     pub sheet: &'s Sheet<'a>,
     pub frame: Frame,
     pub lanes: &'s [Lane],
+    pub scale: u32,
     pub shown: &'s Shown,
 }
 
@@ -84,7 +85,7 @@ impl Frame {
     pub fn beside(&self) -> u32
         ensures { result ≤ 1040 }
     {
-        self.right().max(720) + 16
+        self.right().max(690) + 16
     }
 
     /// The width of the picture.

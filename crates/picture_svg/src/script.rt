@@ -1,10 +1,12 @@
 //! The script's lines above the columns, and the numbers of the events below them.
 
 ghost use Rattle.std.specs.Prelude.{◌≡◌, ◌≤◌, ◌<◌, IfOk, OnOk};
+ghost use Rattle.picture_svg.specs.Nesting.{started};
+ghost use Rattle.picture_svg.specs.declared.pieces.Element.TheVariants.{Group};
 
 use crate::markup::Markup;
 use crate::pieces::{Element, Piece, Route, Start, at};
-use crate::scene::{LABEL, Scene, Stretch};
+use crate::scene::{LABEL, LEFT, Scene, Stretch};
 use crate::stretches::{Track, stretches};
 use crate::tips::front;
 use drive_pictures::plus;
@@ -13,7 +15,7 @@ use run_picture::Head;
 use std::alloc::{AllocError, Global};
 
 /// Where the script's lines end.
-const AXIS: u32 = 276;
+const AXIS: u32 = 310;
 
 /// How many bytes of a line are drawn.
 const ROOM: usize = 20;
@@ -33,13 +35,35 @@ fn put_words<'a>(out: &mut Markup<'a>, head: &Head, words: &'a [u8]) -> Result<(
     let number = u64::from(head.line);
     let mut buffer = Buffer::new();
     let room = ROOM.saturating_sub(buffer.format(number).len().saturating_add(1));
+    let idle = idle_words(head.idle);
+    let is_cut = words.len().saturating_add(idle.len()) > room;
+    let room = if is_cut { room.saturating_sub(3) } else { room };
+    let end = if is_cut { "..." } else { "" };
     let shown = front(words, room);
-    let rest = front(idle_words(head.idle), room.saturating_sub(shown.len()));
+    let rest = front(idle, room.saturating_sub(shown.len()));
     out.put_all(&[
         Piece::Number(number),
         Piece::Word(" "),
         Piece::Said(shown),
         Piece::Said(rest),
+        Piece::Word(end),
+    ])
+}
+
+/// Puts a line of the script as a tooltip.
+fn put_tip<'a>(out: &mut Markup<'a>, head: &Head, words: &'a [u8]) -> Result<(), AllocError>
+    ensures { OnOk result (out.new ≡ started Group out.old) }
+{
+    let number = u64::from(head.line);
+    let idle = idle_words(head.idle);
+    out.begin_tip()?;
+    out.put_all(&[
+        Piece::Word("line "),
+        Piece::Number(number),
+        Piece::Word(": "),
+        Piece::Said(words),
+        Piece::Said(idle),
+        Piece::End(Element::Title),
     ])
 }
 
@@ -68,6 +92,24 @@ fn draw_columns(
     }
 }
 
+/// A line of the script, upwards, with the whole line in its tooltip.
+fn draw_words<'a>(
+    out: &mut Markup<'a>,
+    head: &Head,
+    words: &'a [u8],
+    x: u32,
+) -> Result<(), AllocError>
+    requires { x ≤ 1024 }
+    ensures { OnOk result (out.new ≡ out.old) }
+{
+    let place = at(x + 4, AXIS - 4);
+    put_tip(out, head, words)?;
+    out.put(Piece::Start(Start::Upwards { at: place }))?;
+    put_words(out, head, words)?;
+    out.end(Element::Text)?;
+    out.end(Element::Group)
+}
+
 /// A line of the script, upwards over its first column, if there is room. The result is from where there is room after it.
 fn draw_line<'a>(
     out: &mut Markup<'a>,
@@ -87,14 +129,8 @@ fn draw_line<'a>(
     let from = at(x, AXIS + 2);
     let to = at(x, height.saturating_sub(16));
     out.path("g", Route::Down { from, to })?;
-    let place = at(x + 4, AXIS - 4);
-    out.put(Piece::Start(Start::Upwards { at: place }))?;
-    put_words(
-        out,
-        &scene.head(stretch.from),
-        words_at(scene, stretch.from),
-    )?;
-    out.end(Element::Text)?;
+    let words = words_at(scene, stretch.from);
+    draw_words(out, &scene.head(stretch.from), words, x)?;
     Ok(x + 12)
 }
 
@@ -139,10 +175,12 @@ fn draw_event(
 
 /// The numbers of the events, as far as there is room.
 pub fn draw_events(out: &mut Markup<'_>, scene: &Scene<'_, '_>, y: u32) -> Result<(), AllocError>
-    requires { y < 20000 }
+    requires { y ≤ 19000 }
     ensures { OnOk result (out.new ≡ out.old) }
 {
+    let words = "from left to right: the order of events, which is not time";
     out.text("q e", at(LABEL, y), "event")?;
+    out.text("q", at(LEFT, y + 14), words)?;
     let mut free = 0;
     for column in 0..scene.columns().len() {
         free = draw_event(out, scene, column, y, free)?;

@@ -25,7 +25,7 @@ fn draw_names(out: &mut Markup<'_>, scene: &Scene<'_, '_>, y: u32) -> Result<(),
     let name = if scene.shown.few {
         "requests, as asked"
     } else {
-        "requests with trouble"
+        "those with trouble first"
     };
     out.text("b e", at(LABEL, y), name)?;
     out.text("q", at(beside, y), "answer")?;
@@ -83,7 +83,8 @@ fn draw_wait(
     let asked = scene.at(request.asked);
     let hand = scene.hand(request);
     if hand > asked {
-        out.rect("w", at(asked, y + 4), extent(hand - asked, 4), None)
+        let class = if request.write { "w y" } else { "w a" };
+        out.rect(class, at(asked, y + 4), extent(hand - asked, 4), None)
     } else {
         Ok(())
     }
@@ -214,10 +215,15 @@ pub fn draw_table(
 {
     draw_names(out, scene, y + 9)?;
     let last = draw_rows(alloc, out, scene, y)?;
-    if scene.shown.few {
+    let left_out = scene.shown.left_out();
+    if left_out == 0 {
         Ok(())
     } else {
-        let count = scene.shown.count as u64;
-        out.text_with("q e", at(LABEL, last + 22), "of ", count)
+        out.text_with(
+            "q e",
+            at(LABEL, last + 22),
+            "requests not shown: ",
+            left_out,
+        )
     }
 }

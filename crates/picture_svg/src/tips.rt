@@ -17,6 +17,27 @@ pub fn front(text: &[u8], room: usize) -> &[u8]
     &text[..room.min(text.len())]
 }
 
+/// Puts numbers from one to another after the words for several, or one number after the word for one.
+fn put_range(
+    out: &mut Markup<'_>,
+    one: &'static str,
+    several: &'static str,
+    first: u64,
+    last: u64,
+) -> Result<(), AllocError>
+    ensures { OnOk result (out.new ≡ out.old) }
+{
+    if first == last {
+        return out.put_all(&[Piece::Word(one), Piece::Number(first)]);
+    }
+    out.put_all(&[
+        Piece::Word(several),
+        Piece::Number(first),
+        Piece::Word(" to "),
+        Piece::Number(last),
+    ])
+}
+
 /// A group begins with a tooltip; at the head of this are the events and the lines of a stretch of columns.
 pub fn begin_span(
     out: &mut Markup<'_>,
@@ -29,19 +50,10 @@ pub fn begin_span(
     let last_line = u64::from(scene.head(stretch.to.saturating_sub(1)).last_line);
     let first = scene.sheet.head(stretch.from).saturating_add(1);
     let last = scene.sheet.head(stretch.to);
-    out.put_all(&[
-        Piece::Start(Start::Group),
-        Piece::Start(Start::Title),
-        Piece::Word("events "),
-        Piece::Number(first),
-        Piece::Word(" to "),
-        Piece::Number(last),
-        Piece::Word(" (lines "),
-        Piece::Number(line),
-        Piece::Word(" to "),
-        Piece::Number(last_line),
-        Piece::Word(")"),
-    ])
+    out.begin_tip()?;
+    put_range(out, "event ", "events ", first, last)?;
+    put_range(out, " (line ", " (lines ", line, last_line)?;
+    out.put(Piece::Word(")"))
 }
 
 /// A group begins; its tooltip has the events and the lines of a stretch, and words.

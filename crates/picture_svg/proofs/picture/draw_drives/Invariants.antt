@@ -6,5 +6,5 @@ use Rattle.picture_svg.proofs.picture.draw_drives.Given as goal
 abbrev pub invariant-loop-lane : goal.invariant-loop-lane
 invariant-loop-lane l = record {
   told : l.out ≡ told (lines_of_lanes l.scene.sheet.now (take l.lane-index l.scene.lanes.now)) l.initial.out;
-  low : l.place.y ≤ 286 + 401 * l.lane-index;
+  low : l.place.y ≤ 320 + 401 * l.lane-index;
 }
