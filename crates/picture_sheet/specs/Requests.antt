@@ -1,7 +1,5 @@
 -- THE REQUESTS THAT A PICTURE SHOWS: those that meet its events.
 use Rattle.std.specs.Prelude.{ℕ, ◌-◌, ◌==◌, nat_le, nat_lt, max, Bool, true, false, not, ◌&&◌, ◌||◌, if◌then◌else◌, List, [], ◌∷◌, ◌++◌, length, fold, count_by, unwrap_or, Option, Some, None}
-use Rattle.pack_geometry.specs.declared.DriveKind.{DriveKind}
-use Rattle.pack_geometry.specs.Geometry.{cylinders_of}
 use Rattle.drive_pictures.specs.declared.arms.Path.{Path}
 use Rattle.drive_pictures.specs.declared.cells.Cell.{Cell}
 use Rattle.drive_pictures.specs.declared.requests.Request.{Request}
@@ -49,13 +47,9 @@ abbrev pub top_of : Sheet → ℕ → ℕ
 top_of sheet unit =
     fold (with_request sheet unit) (fold (with_column unit) (arm_before sheet unit) sheet.run.now.columns) sheet.run.now.requests
 
--- THE SCALE of the arms of some drives: the greatest last cylinder, and no arm or request is above it
-abbrev pub last_cylinder : Option DriveKind → ℕ
-last_cylinder None = 0
-last_cylinder (Some kind) = cylinders_of kind - 1
-
+-- THE SCALE of the arms of some drives: the highest cylinder of all of them
 abbrev pub with_reach : Sheet → ℕ → ℕ → ℕ
-with_reach sheet top unit = max top (max (last_cylinder (drive_at sheet.run.now.drives unit).kind) (top_of sheet unit))
+with_reach sheet top unit = max top (top_of sheet unit)
 
 abbrev pub scale_of : Sheet → List ℕ → ℕ
 scale_of sheet units = fold (with_reach sheet) 0 units

@@ -3,7 +3,7 @@
 //!
 //! What is proved: `Sheet`: its title, its columns, at which event each column begins and in which column an event is, and the drives
 //! that are shown, which are those that have requests, by their number; `Shown`: which requests are listed; `top_of`: the highest
-//! cylinder of a unit; `scale_of`: the greatest last cylinder of drives; after how many of a column's events a letter stands, and which letter leads; `sentences`: which words and
+//! cylinder of a unit; `scale_of`: the highest cylinder of all drives; after how many of a column's events a letter stands, and which letter leads; `sentences`: which words and
 //! numbers they say; and each word and sign. A call fails only if there is no memory.
 #![tactic(auto)]
 

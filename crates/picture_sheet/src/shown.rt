@@ -1,12 +1,11 @@
 //! The requests that are shown.
 
 ghost use Rattle.std.specs.Prelude.{◌≡◌, ◌-◌, ◌≤◌, fold, length, IfOk, OnOk};
-ghost use Rattle.picture_sheet.specs.Requests.{is_shown, shown_count, is_few, is_listed, listed_with, listed_all, listed, highest_in, with_column, with_request, top_of, last_cylinder, with_reach, scale_of};
+ghost use Rattle.picture_sheet.specs.Requests.{is_shown, shown_count, is_few, is_listed, listed_with, listed_all, listed, highest_in, with_column, with_request, top_of, with_reach, scale_of};
 ghost use Rattle.picture_sheet.specs.Window.{arm_before};
 
 use crate::sheet::Sheet;
 use drive_pictures::{Cell, Request};
-use pack_geometry::{DriveKind, geometry_of};
 use run_picture::Column;
 use std::alloc::{AllocError, Global};
 
@@ -175,28 +174,14 @@ pub fn top_of(sheet: &Sheet<'_>, unit: u8) -> u32
     top
 }
 
-/// The last cylinder of a drive of a kind; 0 if no script declares the drive.
-fn last_cylinder(kind: Option<DriveKind>) -> u32
-    ensures { result ≡ last_cylinder kind }
-{
-    match kind {
-        Some(kind) => geometry_of(kind).cylinders.saturating_sub(1),
-        None => 0,
-    }
-}
-
-/// The highest of a cylinder, the last cylinder of a unit, and the highest one of the unit's arm and requests.
+/// The higher of a cylinder and the highest one of a unit's arm and requests.
 fn with_reach(sheet: &Sheet<'_>, top: u32, unit: u8) -> u32
     ensures { result ≡ with_reach sheet.now top unit }
 {
-    let last = match sheet.run.drives().get(usize::from(unit)) {
-        Some(drive) => last_cylinder(drive.kind),
-        None => 0,
-    };
-    top.max(last.max(top_of(sheet, unit)))
+    top.max(top_of(sheet, unit))
 }
 
-/// The cylinder at the top of the charts of all arms of some units: the greatest last cylinder of these drives.
+/// The cylinder at the top of the charts of all arms of some units: the highest one that an arm or a request of theirs reaches.
 pub fn scale_of(sheet: &Sheet<'_>, units: &[u8]) -> u32
     ensures { result ≡ scale_of sheet.now units.now }
 {

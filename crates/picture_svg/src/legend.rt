@@ -49,8 +49,8 @@ static SIGNS: [Known; 18] = [
     Known("m b", "k", 478, 139, 10, "unlocked"),
     Known("m b", "P", 552, 139, 10, "pack acknowledged"),
     Known("m b", "-4", 682, 139, 16, "offset -400"),
-    Known("m x", "t", 602, 156, 10, "a try failed (little room)"),
-    Known("m b", "3", 758, 156, 10, "turn: out of the order asked"),
+    Known("m x", "t", 650, 156, 10, "a try failed (little room)"),
+    Known("m b", "3", 814, 156, 10, "turn: out of the order asked"),
 ];
 
 /// A letter, with its pattern, its sign and its words.
@@ -139,11 +139,11 @@ fn draw_lines(out: &mut Markup<'_>) -> Result<(), AllocError>
     ensures { OnOk result (out.new ≡ out.old) }
 {
     draw_line(out, "p", 16, "the arm")?;
-    draw_line(out, "z", 90, "the order of asking")?;
-    draw_line(out, "w", 224, "a request waits")?;
-    draw_line(out, "f", 340, "offline")?;
-    draw_line(out, "j", 414, "locked")?;
-    draw_line(out, "k", 486, "in hand, at the foot: its end")
+    draw_line(out, "z", 104, "the order of asking")?;
+    draw_line(out, "w", 264, "a request waits")?;
+    draw_line(out, "f", 398, "offline")?;
+    draw_line(out, "j", 480, "locked")?;
+    draw_line(out, "k", 562, "in hand")
 }
 
 /// A box of the legend, with its words.
