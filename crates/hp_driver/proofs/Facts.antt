@@ -38,7 +38,5 @@ module _ (w : World) (u id : ℕ) (sound : Sound w) (hand : InHand w u id) where
     where
       less : (first count limit : ℕ) → 1 ≤ count → first + count ≤ limit → first < limit
       less first count limit some inside = omega (arith, some, inside)
-
-  -- behind some steps of a retry
-
-  -- behind a verdict
+      -- behind some steps of a retry
+      -- behind a verdict

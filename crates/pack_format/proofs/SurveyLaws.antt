@@ -265,7 +265,6 @@ no_used kind pack number index (Some i) few first none lt = first.1 index (by (n
     by false is e = let no : number ≤ i = grind (arith, nat_tests) in omega (arith, no, lt)
 
 module _ (kind : DriveKind) (pack : Pack) (number : ℕ) (spare : Option ℕ) (no_copy : Bool) (judged : IsJudged kind pack number spare no_copy) where
-
   few_found : number ≤ 126 → IsTooMany kind pack → ⊥
   few_found few many = omega (arith, few, many, judged.counted)
 

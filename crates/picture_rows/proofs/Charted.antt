@@ -58,8 +58,13 @@ lanes_longer sheet columns units (suc n) old new lanes =
 
 pub lane_left_out : LaneLeftOut
 lane_left_out sheet columns unit page one panel =
-    omega (arith, longer page panel.from panel.before, lanes_longer sheet columns (units_shown sheet) (length (units_shown sheet)) panel.from panel.to panel.lanes,
-    longer panel.to page panel.after, ap length one)
+    omega (
+      arith,
+      longer page panel.from panel.before,
+      lanes_longer sheet columns (units_shown sheet) (length (units_shown sheet)) panel.from panel.to panel.lanes,
+      longer panel.to page panel.after,
+      ap length one,
+    )
 
 -- where few are shown, the first pass takes each that is shown, and the second takes none
 first_yes : (sheet : Sheet) (listed : List Request) (r : Request) → is_shown sheet r ≡ true → length listed < 256 → listed_with sheet true true listed r ≡ listed ++ r ∷ []
