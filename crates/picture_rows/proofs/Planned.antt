@@ -85,7 +85,7 @@ said_by n =
     then letter.Ready
     else if n == 315
     then letter.Moves
-    else if n == 335 then letter.Retries else if n == 245 then letter.Replaces else if n == 331 then letter.Moved else letter.Idle
+    else if n == 335 then letter.Retries else if n == 245 then letter.Replaces else if n == 338 then letter.Moved else letter.Idle
 
 known : (l : Letter) → said_by (first_three (letter_word l)) ≡ l
 unfolding first_three said_by

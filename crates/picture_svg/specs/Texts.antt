@@ -19,7 +19,8 @@ use Rattle.picture_svg.specs.declared.pieces.Piece.TheVariants as piece
 use Rattle.picture_svg.specs.declared.render.Part.{Part}
 use Rattle.picture_svg.specs.declared.render.Part.TheVariants as part
 use Rattle.picture_svg.specs.declared.style.TheConstants.{STYLE}
-use Rattle.picture_svg.specs.Legend.{letter_word, pattern_of}
+use Rattle.run_plan.specs.Words.{letter_word}
+use Rattle.picture_svg.specs.Legend.{pattern_of}
 use Rattle.picture_svg.specs.Nesting.{Drawn, drawn}
 
 -- WORDS: the signs of elements are written out, and what is not printing is a question mark

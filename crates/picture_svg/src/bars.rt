@@ -5,13 +5,13 @@ ghost use Rattle.std.specs.Prelude.{◌≡◌, ◌≤◌, OnOk};
 
 use crate::markup::Markup;
 use crate::pieces::{Element, Piece, Route, at, extent};
-use crate::render::letter_word;
 use crate::scene::{Lane, Scene, Stretch, part_of};
 use crate::stretches::{Track, held_by, is_on, lead_in, positioning, stretches};
 use crate::tips::{begin_count, begin_span, begin_words};
 use drive_pictures::{Letter, Tally, plus};
 use picture_sheet::{LETTERS, count_of, letter_sign};
 use run_picture::Column;
+use run_plan::letter_word;
 use std::alloc::{AllocError, Global};
 
 /// The letters from below, if a column is several events.

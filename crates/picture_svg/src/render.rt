@@ -1,7 +1,7 @@
 //! The text of the pieces of a drawing.
 
 ghost use Rattle.std.specs.Prelude.{◌≡◌, ◌++◌, [], fold, codes, decimal, IfOk, OnOk};
-ghost use Rattle.picture_svg.specs.Legend.{letter_word, pattern_of};
+ghost use Rattle.picture_svg.specs.Legend.{pattern_of};
 ghost use Rattle.picture_svg.specs.declared.pieces.Start.TheVariants.{Svg};
 ghost use Rattle.picture_svg.specs.Texts.{with_byte, with_words, with_class, with_key, with_leg, with_point, with_part, with_start, with_end, with_fill, with_rect, with_dot, way_of, with_route, with_path, with_request, with_line, with_style, with_piece};
 
@@ -10,26 +10,8 @@ use crate::style::STYLE;
 use drive_pictures::{Letter, Request};
 use itoa::Buffer;
 use picture_sheet::outcome_word;
+use run_plan::letter_word;
 use std::alloc::{AllocError, Global};
-
-/// What a letter says that a drive does.
-pub(crate) fn letter_word(letter: Letter) -> &'static str
-    ensures { result.now ≡ letter_word letter }
-{
-    match letter {
-        Letter::Idle => "idle",
-        Letter::Seeks => "arm moves",
-        Letter::Turns => "turns to its sector",
-        Letter::Recalibrates => "recalibrates",
-        Letter::Offsets => "sets an offset",
-        Letter::Arrived => "arrived, attention up",
-        Letter::Ready => "ready, adapter busy",
-        Letter::Moves => "sectors move",
-        Letter::Retries => "tries again",
-        Letter::Replaces => "at a replacement",
-        Letter::Moved => "moved, interrupt up",
-    }
-}
 
 /// The name of a letter's pattern.
 fn pattern_of(letter: Letter) -> &'static str

@@ -14,7 +14,7 @@ letter_word letter.Ready = codes "ready, adapter busy"
 letter_word letter.Moves = codes "sectors move"
 letter_word letter.Retries = codes "tries again"
 letter_word letter.Replaces = codes "at a replacement"
-letter_word letter.Moved = codes "interrupt up"
+letter_word letter.Moved = codes "moved, interrupt up"
 
 -- A LEGEND says it of each letter that a bar can have, in this order
 abbrev pub legend_letters : List Letter

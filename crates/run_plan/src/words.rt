@@ -42,6 +42,6 @@ pub fn letter_word(letter: Letter) -> &'static str
         Letter::Moves => "sectors move",
         Letter::Retries => "tries again",
         Letter::Replaces => "at a replacement",
-        Letter::Moved => "interrupt up",
+        Letter::Moved => "moved, interrupt up",
     }
 }
