@@ -3,12 +3,13 @@ use Rattle.std.proofs.Common.{◌≡◌, inl, inr, ℕ, ◌==◌, not, List, [],
 use Rattle.std.specs.Prelude.{slice_index}
 use Rattle.std.proofs.lemmas.Grind.{flat_map-append}
 use Rattle.pack_geometry.specs.declared.DriveKind.{DriveKind}
-use Rattle.pack_geometry.specs.Pack.{Pack}
+use Rattle.pack_geometry.specs.Pack.{Pack, with_written}
 use Rattle.trace_replay.specs.Moments.{Moment, Played}
 use Rattle.trace_replay.specs.Text.{trace_text, moment_text}
-use Rattle.trace_replay.specs.Packs.{Surface}
+use Rattle.trace_replay.specs.Packs.{Surface, sector_of_block}
+use Rattle.trace_replay.specs.Service.{in_hand}
 use Rattle.trace_replay.specs.Replay.{Replay, AreLeft, after_moment, after_moments}
-use Rattle.driver_laws.specs.rules.Beginnings.{with_next}
+use Rattle.driver_laws.specs.rules.Beginnings.{IsNextSector, with_next}
 use Rattle.driver_laws.specs.rules.Stands.{Setup}
 use Rattle.driver_laws.specs.answers.Outcome.{IsFront}
 use Rattle.driver_laws.specs.declared.answers.outcome.Stop.{Stop}
@@ -16,7 +17,6 @@ use Rattle.driver_laws.specs.declared.answers.outcome.Stop.TheVariants.{Store, S
 use Rattle.driver_laws.proofs.answers.Joined.{front_more, front_of_front}
 use Rattle.driver_laws.specs.shown.RunsRuns.{Stay}
 use Rattle.driver_laws.specs.shown.Lengths.{length_behind, AreAsLong}
-use Rattle.driver_laws.specs.shown.Within.{ShowsAll}
 use Rattle.driver_laws.proofs.shown.Lengths.{long_append}
 use Rattle.driver_laws.proofs.rules.Quiet.{after_parts}
 use Rattle.driver_laws.specs.shown.NextBlock.{HasNext}
@@ -120,10 +120,11 @@ long_behind Store s xs ys old mid new one (inl long) = inl (long_both s xs ys ol
 long_behind Store s xs ys old mid new one (inr more) = inr (record {
   held = more.held;
   long = long_both s xs ys old mid more.held one more.long;
-  world = more.world;
-  sound = more.sound;
-  shows = subst (ShowsAll more.world) (sym (behind_append s xs ys)) more.shows;
-  next = more.next;
+  unit = more.unit;
+  block = more.block;
+  next = subst (λ (r : Replay). IsNextSector (r.units more.unit) (more.held more.unit) more.block) (sym (behind_append s xs ys)) more.next;
+  is = subst (λ (r : Replay). new ≡ with_written more.held more.unit more.block (sector_of_block (in_hand (r.units more.unit).service) (r.units more.unit).progress.done))
+      (sym (behind_append s xs ys)) more.is;
 })
 
 -- ---- A REQUEST THAT IS ANSWERED

@@ -1,11 +1,13 @@
 -- How long images are where a request stopped.
-use Rattle.std.proofs.Common.{◌≡◌, ◌⊎◌, inl, inr, ℕ, Bool, true, false, IsTrue, List, [], ◌∷◌, ◌++◌, length, refl, sym, ap, subst, ◌∙◌, append-nil}
+use Rattle.std.proofs.Common.{◌≡◌, ◌⊎◌, inl, inr, ℕ, ◌==◌, Bool, true, false, IsTrue, Option, List, [], ◌∷◌, ◌++◌, length, refl, sym, ap, subst, ◌∙◌, append-nil}
+use Rattle.std.specs.Prelude.{not, slice_index}
+use Rattle.pack_geometry.specs.declared.DriveKind.{DriveKind}
 use Rattle.pack_geometry.specs.Pack.{Pack}
 use Rattle.trace_replay.specs.requests.Requests.{Request}
 use Rattle.trace_replay.specs.Moments.{Moment, Played}
 use Rattle.trace_replay.specs.Script as script
 use Rattle.trace_replay.specs.Script.{Input}
-use Rattle.trace_replay.specs.Replay.{Replay, after_moments}
+use Rattle.trace_replay.specs.Replay.{Replay, AreLeft, after_moments}
 use Rattle.driver_laws.specs.rules.Beginnings.{AreNoSectors}
 use Rattle.driver_machine.specs.World.{World}
 use Rattle.driver_machine.specs.Acts.{Act}
@@ -17,6 +19,8 @@ use Rattle.driver_laws.specs.answers.Packs.{packs_after_all}
 use Rattle.driver_laws.specs.answers.Outcome.{IsNextBlock}
 use Rattle.driver_laws.specs.declared.answers.outcome.Stop.TheVariants.{Store}
 use Rattle.driver_laws.specs.shown.Within.{ShowsAll}
+use Rattle.driver_laws.specs.shown.NextBlock.{IsTorn, NextBlocksShow}
+use Rattle.driver_laws.specs.shown.RunsRuns.{AreDeclared}
 use Rattle.driver_laws.specs.shown.Lengths.{length_behind, AreAsLong}
 use Rattle.driver_laws.proofs.shown.Lengths.{long_append, quiet_long, later_events_keep_lengths}
 use Rattle.driver_laws.proofs.shown.Sectors.{event_quiet}
@@ -24,7 +28,7 @@ use Rattle.driver_laws.specs.rules.Sessions.{behind_all, waited}
 use Rattle.hp_driver.specs.Subsystem.{is_move}
 use Rattle.blocking_io.specs.Asking.{moments_in}
 use Rattle.blocking_io.specs.Calls.{Stage, EventTellsFront, MoveFails}
-use Rattle.blocking_io.specs.Stopping.{LongAt}
+use Rattle.blocking_io.specs.Stopping.{IsLongerByOne, LongAt}
 use Rattle.blocking_io.proofs.Trying.{IsMoveOf, move_of, no_move, one_front}
 use Rattle.blocking_io.proofs.Waiting.{asked_moments, drained_moments}
 
@@ -78,11 +82,30 @@ event_long line old mid new input sent s ms sound shows long told e = by (is_mov
     by true is = moves (one_front (event_acts line input e.tried mid.world) e.tells.done e.tells.left (its is).one.0 (its is).one.1 e.tells.all)
 
 -- a move at which the packs failed
-pub move_long : (line : ℕ) (r : Request) (asked moments : List Moment) (old : ℕ → Pack) (mid new : Stage) (input : Input) (s : Replay) → Sound mid.world
-    → ShowsAll mid.world (behind_all s (waited line r asked moments)) → AreAsLong s (drained_moments line r asked moments) old mid.held → IsTrue new.packs_tell → MoveFails input mid new
+pub move_long : NextBlocksShow → (drives : ℕ → Option DriveKind) (line : ℕ) (r : Request) (asked moments : List Moment) (old : ℕ → Pack) (mid new : Stage) (input : Input) (s : Replay) → Sound mid.world
+    → ShowsAll mid.world (behind_all s (waited line r asked moments)) → AreDeclared drives mid.world → AreLeft drives old mid.held (behind_all s (waited line r asked moments)).surface
+    → AreAsLong s (drained_moments line r asked moments) old mid.held → IsTrue new.packs_tell → MoveFails input mid new
     → LongAt Store (waited line r asked moments) old new.held s
-move_long line r asked moments old mid new input s sound shows long told e = by (e.packs told)
+move_long next_shows drives line r asked moments old mid new input s sound shows units packs long told e = by (e.packs told)
   where
+    torn : IsTorn drives old mid.held new.held (behind_all s (waited line r asked moments)) → IsLongerByOne (waited line r asked moments) old new.held s
+    torn t = record {
+      held = mid.held;
+      long = long_told line r asked moments s old mid.held long;
+      unit = t.at.unit;
+      block = t.at.block;
+      next = record {
+        segment = t.at.next.segment;
+        left = t.at.next.left;
+        stage = t.at.next.stage;
+        some = t.at.next.some;
+        writes = t.at.next.writes;
+        is = t.at.next.is;
+        unmarked = ap (λ (marks : List ℕ). not (slice_index marks t.at.block == 0)) (packs.marks t.at.unit) ∙ t.at.next.unmarked;
+      };
+      is = t.is;
+    }
+
     by : (new.held ≡ mid.held) ⊎ IsNextBlock mid.world mid.held new.held → LongAt Store (waited line r asked moments) old new.held s
     by (inl same) = inl (subst (AreAsLong s (moments_in (waited line r asked moments)) old) (sym same) (long_told line r asked moments s old mid.held long))
-    by (inr next) = inr (record { held = mid.held; long = long_told line r asked moments s old mid.held long; world = mid.world; sound = sound; shows = shows; next = next })
+    by (inr next) = inr (torn (next_shows drives old mid.held new.held (behind_all s (waited line r asked moments)) mid.world sound shows units packs next))

@@ -197,7 +197,8 @@ event_stopped quiet_keep next_shows Store line r asked moments input old mid new
         record {
           session = (at.part, (record { number = some; may = at.may; follows = at.begins.so_far.follows; lines_alone = alone }, tt));
           packs = event_fails next_shows line (setup_at old).drives old.held mid new input (after_moment (behind s (first_part line r asked)) (Played line script.Drain)) moments at.begins t e;
-          long = move_long line r asked moments old.held mid new input s at.begins.sound at.begins.shows (long t s q) t e;
+          long = move_long next_shows (setup_at old).drives line r asked moments old.held mid new input s at.begins.sound at.begins.shows at.begins.units at.begins.so_far.packs
+              (long t s q) t e;
         };
   };
   images = λ t reads. stopped_stays Store line input old.held mid new sent sound work t (within t reads) e;

@@ -2,20 +2,20 @@
 -- leave them, but for one block of a write.
 use Rattle.std.specs.Prelude.{◌≡◌, ◌⊎◌, ℕ, IsTrue, List, [], ◌∷◌, ◌++◌, Option, None, Some}
 use Rattle.pack_geometry.specs.declared.DriveKind.{DriveKind}
-use Rattle.pack_geometry.specs.Pack.{Pack}
+use Rattle.pack_geometry.specs.Pack.{Pack, with_written}
 use Rattle.trace_replay.specs.requests.Requests.{Request}
 use Rattle.trace_replay.specs.Moments.{Moment}
 use Rattle.trace_replay.specs.Script.{Submit}
 use Rattle.trace_replay.specs.Text.{trace_text}
+use Rattle.trace_replay.specs.Packs.{sector_of_block}
 use Rattle.trace_replay.specs.Replay.{Replay, AreLeft}
-use Rattle.driver_machine.specs.World.{World}
-use Rattle.driver_machine.specs.Sound.{Sound}
-use Rattle.driver_laws.specs.answers.Outcome.{IsFront, IsNextBlock}
+use Rattle.trace_replay.specs.Service.{in_hand}
+use Rattle.driver_laws.specs.rules.Beginnings.{IsNextSector}
+use Rattle.driver_laws.specs.answers.Outcome.{IsFront}
 use Rattle.driver_laws.specs.declared.answers.outcome.Stop.{Stop}
 use Rattle.driver_laws.specs.declared.answers.outcome.Stop.TheVariants.{Store, Sink}
 use Rattle.driver_laws.specs.shown.NextBlock.{HasNext}
 use Rattle.driver_laws.specs.shown.Lengths.{AreAsLong}
-use Rattle.driver_laws.specs.shown.Within.{ShowsAll}
 use Rattle.driver_laws.specs.rules.Sessions.{Part, IsSession, behind_all, waited, told_in}
 use Rattle.driver_laws.specs.rules.Rest.{HasTables}
 use Rattle.hp_driver.specs.Passes.{StandsQuiet}
@@ -38,14 +38,14 @@ LeftAt Sink drives old left s = AreLeft drives old left s.surface
 LeftAt Store drives old left s = AreLeft drives old left s.surface ⊎ HasNext drives old left s
 
 -- HOW LONG IMAGES ARE LEFT: each is just as long as the blocks make it that the lines wrote; and where the packs failed, perhaps with the next
--- block of a write, which the driver's world has that the replay shows.
+-- block of a write whose sectors move.
 pub record IsLongerByOne (parts : List Part) (old left : ℕ → Pack) (s : Replay) : Type 0 where
   pub held : ℕ → Pack
   pub long : AreAsLong s (moments_in parts) old held
-  pub world : World
-  pub sound : Sound world
-  pub shows : ShowsAll world (behind_all s parts)
-  pub next : IsNextBlock world held left
+  pub unit : ℕ
+  pub block : ℕ
+  pub next : IsNextSector ((behind_all s parts).units unit) (held unit) block
+  pub is : left ≡ with_written held unit block (sector_of_block (in_hand ((behind_all s parts).units unit).service) ((behind_all s parts).units unit).progress.done)
 
 abbrev pub LongAt : Stop → List Part → (old left : ℕ → Pack) → Replay → Type 0
 LongAt Sink parts old left s = AreAsLong s (moments_in parts) old left
