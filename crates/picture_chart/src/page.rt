@@ -173,7 +173,7 @@ static MARKS: [&[u8]; 4] = [
     b"marks  q asked for  ' attention up  a taken  i interrupt taken  o sector  v ok  B burst, repaired",
     b"       E not repairable  F fault  M marked  x offline  t try failed  X stopped  + - offset",
     b"       n noise  f fault armed  @ turned  d offline  u online  l locked  k unlocked  P acknowledged",
-    b"arm    0 to 9, from cylinder 0 to the last            queue  requests not answered, + above 9",
+    b"arm    0 to 9, from cylinder 0 to the highest         queue  requests not answered, + above 9",
 ];
 
 /// Puts some lines.
