@@ -1,2 +1,3 @@
 pub mod FailLaws
 pub mod MoveLaws
+pub mod HeaderLaws

@@ -5,10 +5,12 @@
 //! refusals, which set IAE, WLE or ILF; the drive status is computed from the table of bits and stored nowhere.
 //! `move_sector`: the five rules, in their order, give the verdict, with the pack's mark, the noise that strikes, the
 //! bytes that move and the registers; if the packs fail, the drive, the book and the window are as they were.
-//! `NoiseBook::strike` is that of `live_noise`.
+//! `NoiseBook::strike` is that of `live_noise`. `sector_format` has the header tables.
 //!
 //! Only tested, in `drive_rows`: worked values, beside their proofs.
 #![tactic(auto)]
+
+pub mod sector_format;
 
 mod book;
 mod drive;

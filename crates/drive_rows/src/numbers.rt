@@ -9,7 +9,7 @@ use fire_code::{
 use mass_text::{NumberFault, Radix, number};
 use pack_geometry::DriveKind;
 use partitions::{Admission, Part, admit};
-use sector_format::{HeaderFault, header_fault, header_of};
+use drive_model::sector_format::{HeaderFault, header_fault, header_of};
 
 // Whether 511 zeros and this byte have this check, by the tables and by the plain program.
 fn has_check(last: u8, check: u32) -> bool {

@@ -5,9 +5,9 @@ use Rattle.pack_geometry.specs.declared.DriveKind.TheVariants.{Rp06, Rm03, Rm05}
 use Rattle.pack_geometry.specs.Geometry.{block_count, place_at}
 use Rattle.hardware_table.specs.Drive.{DriveState}
 use Rattle.hardware_table.specs.Moves.{with_mark_bits}
-use Rattle.sector_format.specs.Headers.{fault_as_marked}
-use Rattle.sector_format.specs.declared.HeaderFault.{HeaderFault}
-use Rattle.sector_format.proofs.HeaderLaws.{shown}
+use Rattle.drive_model.specs.Headers.{fault_as_marked}
+use Rattle.drive_model.specs.declared.sector_format.HeaderFault.{HeaderFault}
+use Rattle.drive_model.proofs.HeaderLaws.{shown}
 use Rattle.promise_rows.specs.Headers.{with_header_bit, HeadersAreAsTheDriveHasThem}
 
 ten_bits : (kind : DriveKind) (block : ℕ) → block < block_count kind → (place_at kind block).cylinder < 2 ^ 10

@@ -5,9 +5,9 @@ use Rattle.drive_registers.specs.Bits as bits
 use Rattle.hardware_table.specs.Drive.{DriveState}
 use Rattle.hardware_table.specs.Moves.{after_move}
 use Rattle.hardware_table.specs.declared.Moved.TheVariants.{Marked}
-use Rattle.sector_format.specs.Headers.{header_at, fault_of}
-use Rattle.sector_format.specs.declared.HeaderFault.{HeaderFault}
-use Rattle.sector_format.specs.declared.HeaderFault.TheVariants.{Format, BadSector, Compare}
+use Rattle.drive_model.specs.Headers.{header_at, fault_of}
+use Rattle.drive_model.specs.declared.sector_format.HeaderFault.{HeaderFault}
+use Rattle.drive_model.specs.declared.sector_format.HeaderFault.TheVariants.{Format, BadSector, Compare}
 
 -- the error bit of a header's fault
 abbrev pub with_header_bit : Option HeaderFault → DriveState → DriveState

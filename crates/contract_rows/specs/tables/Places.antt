@@ -8,8 +8,8 @@ use Rattle.partitions.specs.declared.Part.{Part}
 use Rattle.partitions.specs.declared.Part.TheVariants.{G}
 use Rattle.partitions.specs.declared.Admission.TheVariants.{Inside, Outside}
 use Rattle.partitions.specs.Partitions.{admission, first_of, size_of}
-use Rattle.sector_format.specs.declared.HeaderFault.TheVariants.{Format}
-use Rattle.sector_format.specs.Headers.{cylinder_bits, fault_of}
+use Rattle.drive_model.specs.declared.sector_format.HeaderFault.TheVariants.{Format}
+use Rattle.drive_model.specs.Headers.{cylinder_bits, fault_of}
 use Rattle.picture_chart.specs.Charts.{fitted, is_plain, plain_of}
 
 -- replacement 0 is the first block of the last track, and each other one stands a block too high

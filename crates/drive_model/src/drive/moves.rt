@@ -22,7 +22,7 @@ use live_noise::Live;
 use main_memory::Window;
 use outside_traits::traits::{Packs, StoreFailed};
 use pack_geometry::{DriveKind, blocks, geometry_of, place_of, sector_word};
-use sector_format::{HeaderFault, header_fault, header_of};
+use crate::sector_format::{HeaderFault, header_fault, header_of};
 
 // The verdict on a read that noise has struck.
 fn moved_by(verdict: Verdict) -> Moved

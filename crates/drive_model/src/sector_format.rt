@@ -3,12 +3,11 @@
 //!
 //! What is proved: `header_of`, `header_fault` and `raw_sector` are the header tables. The header of the wanted block
 //! shows no fault if the sector is unmarked; if it is marked, it shows Format on an RP06, and BadSector on an RM03 or an RM05.
-#![tactic(auto)]
 
 ghost use Rattle.std.specs.Prelude.{◌≡◌, ◌<◌};
 ghost use Rattle.pack_geometry.specs.Geometry.{block_count};
 ghost use Rattle.fire_code.specs.Word.{word_remainder};
-ghost use Rattle.sector_format.specs.Headers.{cylinder_bits as the_bits, shows_bad as is_bad, header_at, fault_of, fault_as_marked};
+ghost use Rattle.drive_model.specs.Headers.{cylinder_bits as the_bits, shows_bad as is_bad, header_at, fault_of, fault_as_marked};
 
 use fire_code::{Check, encode};
 use pack_geometry::{DriveKind, place_of, sector_word};

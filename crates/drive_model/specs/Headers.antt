@@ -4,9 +4,9 @@ use Rattle.pack_geometry.specs.declared.DriveKind.{DriveKind}
 use Rattle.pack_geometry.specs.declared.DriveKind.TheVariants.{Rp06, Rm03, Rm05}
 use Rattle.pack_geometry.specs.declared.Place.{Place}
 use Rattle.pack_geometry.specs.Geometry.{place_at, track_and_sector}
-use Rattle.sector_format.specs.declared.Header.{Header}
-use Rattle.sector_format.specs.declared.HeaderFault.{HeaderFault}
-use Rattle.sector_format.specs.declared.HeaderFault.TheVariants.{Format, BadSector, Compare}
+use Rattle.drive_model.specs.declared.sector_format.Header.{Header}
+use Rattle.drive_model.specs.declared.sector_format.HeaderFault.{HeaderFault}
+use Rattle.drive_model.specs.declared.sector_format.HeaderFault.TheVariants.{Format, BadSector, Compare}
 
 -- the bits above the cylinder, on a good sector and on a marked one
 abbrev pub cylinder_bits : DriveKind → Bool → ℕ

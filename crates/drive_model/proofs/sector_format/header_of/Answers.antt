@@ -3,8 +3,8 @@ use Rattle.pack_geometry.specs.declared.DriveKind.{DriveKind}
 use Rattle.pack_geometry.specs.declared.DriveKind.TheVariants.{Rp06, Rm03, Rm05}
 use Rattle.pack_geometry.specs.declared.Place.{Place}
 use Rattle.pack_geometry.specs.Geometry.{place_at, IsInside}
-use Rattle.sector_format.proofs.HeaderLaws.{shown}
-use Rattle.sector_format.proofs.header_of.Goals as goal
+use Rattle.drive_model.proofs.HeaderLaws.{shown}
+use Rattle.drive_model.proofs.sector_format.header_of.Goals as goal
 
 -- a cylinder fits in ten bits
 ten_bits : (kind : DriveKind) (place : Place) → IsInside kind place → place.cylinder < 2 ^ 10

@@ -7,7 +7,7 @@ use Rattle.pack_geometry.specs.declared.DriveKind.{DriveKind}
 use Rattle.pack_geometry.specs.declared.DriveKind.TheVariants.{Rp06, Rm03, Rm05}
 use Rattle.pack_geometry.specs.declared.Place.{Place}
 use Rattle.pack_geometry.specs.Geometry.{place_at, track_and_sector}
-use Rattle.sector_format.specs.Headers.{header_at, is_off, names, fault_of, fault_as_marked}
+use Rattle.drive_model.specs.Headers.{header_at, is_off, names, fault_of, fault_as_marked}
 
 -- the bits above the cylinder
 high_bits : (high mask cylinder : ℕ) → cylinder < 2 ^ 10 → bit_and (bit_or cylinder (high * 2 ^ 10)) (mask * 2 ^ 10) ≡ bit_and high mask * 2 ^ 10 + bit_and cylinder 0
