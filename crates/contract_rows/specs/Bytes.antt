@@ -11,7 +11,7 @@ use Rattle.hardware_table.specs.declared.Moved.TheVariants.{Burst}
 use Rattle.hardware_table.specs.Adapter.{AdapterState}
 use Rattle.hardware_table.specs.Noise.{LiveNoise}
 use Rattle.main_memory.specs.Bytes.{filled}
-use Rattle.ecc_repair.specs.Repaired.{repaired}
+use Rattle.driver_machine.specs.Repaired.{repaired}
 use Rattle.transfer_engine.specs.State.{TransferState}
 use Rattle.trace_replay.specs.declared.requests.answers.AnswerKind.TheVariants.{ReadOk}
 use Rattle.driver_laws.specs.rules.Machine.{Blocks}

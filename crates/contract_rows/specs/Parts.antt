@@ -8,7 +8,7 @@ use Rattle.transfer_engine.specs.declared.states.Next.TheVariants.{More}
 use Rattle.trace_replay.specs.requests.ServiceOrder.{queue_with}
 use Rattle.disksort.specs.declared.Waiter.{Waiter}
 use Rattle.disksort.specs.SortQueue.{cylinder_of}
-use Rattle.ecc_repair.specs.Repaired.{repaired, data_bit, pattern_bit}
+use Rattle.driver_machine.specs.Repaired.{repaired, data_bit, pattern_bit}
 
 -- behind a block that was forwarded the rest begins one block late
 abbrev pub ContinuationOffByOne : Type 0

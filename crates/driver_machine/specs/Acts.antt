@@ -14,7 +14,7 @@ use Rattle.hardware_table.specs.Events.{arrived, attention_cleared, turned, faul
 use Rattle.hardware_table.specs.Moves.{was_read}
 use Rattle.hardware_table.specs.Noise.{Book, book_struck, book_armed}
 use Rattle.hardware_table.specs.Adapter.{AdapterState, loaded, started, stepped, drive_stepped, next_window, completed, attention_raised, attention_lowered}
-use Rattle.ecc_repair.specs.Repaired.{repaired}
+use Rattle.driver_machine.specs.Repaired.{repaired}
 use Rattle.disksort.specs.declared.Waiter.{Waiter}
 use Rattle.trace_replay.specs.requests.ServiceOrder.{queue_with}
 use Rattle.transfer_engine.specs.declared.job.Segment.{Segment}

@@ -6,7 +6,7 @@ use Rattle.hardware_table.specs.Events.{times_armed}
 use Rattle.hardware_table.specs.Moves.{IsVerdict, was_read, was_written}
 use Rattle.hardware_table.specs.Noise.{strikes}
 use Rattle.hardware_table.specs.Adapter.{AdapterState, next_block, next_window}
-use Rattle.ecc_repair.specs.Blocks.{Loan, IsLoan, size_at}
+use Rattle.main_memory.specs.Blocks.{Loan, IsLoan, size_at}
 use Rattle.trace_replay.specs.Noise.{IsNoise}
 use Rattle.trace_replay.specs.requests.Requests.{Request, first_block}
 use Rattle.trace_replay.specs.Script as script

@@ -11,3 +11,4 @@ pub mod Writes
 pub mod DueFacts
 pub mod Frame
 pub mod Passes
+pub mod Repaired

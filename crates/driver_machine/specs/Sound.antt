@@ -16,7 +16,7 @@ use Rattle.hardware_table.specs.Drive.{DriveState}
 use Rattle.hardware_table.specs.Functions.{is_addressed}
 use Rattle.hardware_table.specs.Moves.{after_move}
 use Rattle.hardware_table.specs.Adapter.{AdapterState, IsAdapter, late_after}
-use Rattle.ecc_repair.specs.Blocks.{IsLoan, size_at}
+use Rattle.main_memory.specs.Blocks.{IsLoan, size_at}
 use Rattle.disksort.specs.declared.Waiter.{Waiter}
 use Rattle.trace_replay.specs.requests.ServiceOrder.{IsInOrder}
 use Rattle.transfer_engine.specs.State.{segment_of}

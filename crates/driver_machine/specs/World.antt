@@ -6,8 +6,8 @@ use Rattle.pack_geometry.specs.TableSpelling.{Table}
 use Rattle.hardware_table.specs.Drive.{DriveState}
 use Rattle.hardware_table.specs.Adapter.{AdapterState, new_adapter}
 use Rattle.hardware_table.specs.Noise.{Book, empty_book}
-use Rattle.ecc_repair.specs.Blocks.{Loan}
-use Rattle.ecc_repair.specs.Frames.{frames_needed}
+use Rattle.main_memory.specs.Blocks.{Loan}
+use Rattle.main_memory.specs.Frames.{frames_needed}
 use Rattle.disksort.specs.declared.Waiter.{Waiter}
 use Rattle.transfer_engine.specs.declared.job.Job.{Job}
 use Rattle.transfer_engine.specs.State.{TransferState, begun}

@@ -3,13 +3,15 @@
 //! laws stand in crates above.
 //!
 //! Defined in `specs/`: what holds between two acts; what comes next at a unit, as one function, which is also the guard;
-//! what each deed leaves; the acts of each event; the lines that these acts tell; and the invariant.
+//! what each deed leaves; the acts of each event; the lines that these acts tell; and the invariant. Its only code is
+//! `ecc_repair`, the repair of a sector in memory.
 #![tactic(auto)]
 
 use drive_registers::OffsetCode;
 use hardware_table::Moved;
 
 pub mod due;
+pub mod ecc_repair;
 
 pub use trace_replay::requests::{Answer, AnswerKind, Cause};
 

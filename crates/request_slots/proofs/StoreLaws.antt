@@ -9,8 +9,8 @@ use Rattle.main_memory.specs.Blocks.{Loan, IsLoan, size_at, span_of, bytes_in}
 use Rattle.main_memory.specs.Frames.{frames_needed}
 use Rattle.main_memory.specs.Memory.{Memory, AreTaken, AreApart, with_block}
 use Rattle.main_memory.proofs.BlockLaws.{length-blocks_from}
-use Rattle.ecc_repair.specs.Repaired.{repaired}
-use Rattle.ecc_repair.proofs.Bytes.{length-repaired}
+use Rattle.driver_machine.specs.Repaired.{repaired}
+use Rattle.driver_machine.proofs.ecc_repair.Bytes.{length-repaired}
 use Rattle.driver_machine.specs.World.{Held, count_of, block_in, with_block_in}
 use Rattle.driver_machine.specs.Acts.{repaired_at}
 use Rattle.request_slots.specs.declared.slot.Slot.{Slot}

@@ -4,13 +4,13 @@ ghost use Rattle.main_memory.specs.Bytes.{filled};
 ghost use Rattle.main_memory.specs.Frames.{frames_needed};
 ghost use Rattle.main_memory.specs.Blocks.{Loan, IsLoan, size_of, span_of, bytes_in};
 ghost use Rattle.main_memory.specs.Memory.{IsMemory, IsLent, AreApart, with_block, blocks_of};
-ghost use Rattle.ecc_repair.specs.Repaired.{repaired};
+ghost use Rattle.driver_machine.specs.Repaired.{repaired};
 ghost use Rattle.driver_machine.specs.World.{pieces};
 ghost use Rattle.request_slots.specs.Requests.{IsAskable};
 ghost use Rattle.request_slots.specs.Lending.{HasLent, Stores};
 
 use crate::asked::Asked;
-use ecc_repair::repair;
+use driver_machine::ecc_repair::repair;
 use main_memory::{Buffer, Cpu, MainMemory, to_bus, to_cpu};
 
 // Piece `k` of the bytes: 512 of them, or those that are left.

@@ -2,8 +2,8 @@
 use Rattle.std.proofs.Common.{◌≡◌, inl, inr, ℕ, ◌+◌, ◌<◌, true, List, [], length, get_or-set_same, get_or-set_other, length-set, refl, sym, ap, ◌∙◌, subst}
 use Rattle.std.specs.Prelude.{slice_index_or, slice_set}
 use Rattle.std.proofs.lemmas.Bool.{cases_eq}
-use Rattle.ecc_repair.specs.Repaired.{repaired}
-use Rattle.ecc_repair.proofs.Bytes.{length-repaired}
+use Rattle.driver_machine.specs.Repaired.{repaired}
+use Rattle.driver_machine.proofs.ecc_repair.Bytes.{length-repaired}
 use Rattle.main_memory.specs.Blocks.{size_at}
 use Rattle.driver_machine.specs.declared.Phase.TheVariants.{Transferring}
 use Rattle.driver_machine.specs.World.{block_in, transfer_of}

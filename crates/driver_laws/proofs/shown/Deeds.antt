@@ -11,7 +11,7 @@ use Rattle.pack_geometry.specs.TableSpelling.{Table}
 use Rattle.hardware_table.specs.declared.Moved.{Moved}
 use Rattle.hardware_table.specs.declared.Moved.TheVariants as verdict
 use Rattle.hardware_table.specs.Adapter.{AdapterState}
-use Rattle.ecc_repair.specs.Repaired.{repaired}
+use Rattle.driver_machine.specs.Repaired.{repaired}
 use Rattle.retry_offsets.specs.declared.Step as retried
 use Rattle.retry_offsets.specs.declared.Step.TheVariants as retry
 use Rattle.transfer_engine.specs.declared.job.Job.{Job}

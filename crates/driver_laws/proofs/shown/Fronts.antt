@@ -4,7 +4,7 @@ use Rattle.std.proofs.lemmas.List.{take-set, take_more_set, get_or-set_same}
 use Rattle.std.proofs.Math.Seq.{take-length}
 use Rattle.std.specs.Prelude.{if◌then◌else◌, bit_xor, slice_set}
 use Rattle.fire_code.specs.Repair.{burst_byte}
-use Rattle.ecc_repair.specs.Repaired as machine
+use Rattle.driver_machine.specs.Repaired as machine
 use Rattle.trace_replay.specs.Packs.{repaired_from}
 use Rattle.driver_machine.specs.World.{Held, bytes_in, with_block_in, block_in}
 use Rattle.driver_laws.specs.shown.Stages.{front_of}

@@ -13,7 +13,7 @@ use Rattle.pack_geometry.specs.Homes.{home_of, content_of}
 use Rattle.pack_geometry.proofs.HomeWriteLaws.{content_same, content_other}
 use Rattle.hardware_table.specs.declared.Moved.{Moved}
 use Rattle.hardware_table.specs.declared.Moved.TheVariants.{Clean, Burst, Marked}
-use Rattle.ecc_repair.specs.Repaired.{repaired}
+use Rattle.driver_machine.specs.Repaired.{repaired}
 use Rattle.main_memory.specs.Bytes.{filled}
 use Rattle.transfer_engine.specs.State.{TransferState}
 use Rattle.driver_laws.specs.rules.Machine.{Blocks}

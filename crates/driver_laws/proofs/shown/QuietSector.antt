@@ -22,7 +22,7 @@ use Rattle.main_memory.specs.Bytes.{filled}
 use Rattle.main_memory.specs.Blocks.{size_at}
 use Rattle.main_memory.proofs.ByteLaws.{length-filled}
 use Rattle.request_slots.specs.Move.{IsFrontRead}
-use Rattle.ecc_repair.specs.Repaired.{repaired}
+use Rattle.driver_machine.specs.Repaired.{repaired}
 use Rattle.transfer_engine.specs.declared.job.Job.{Job}
 use Rattle.transfer_engine.specs.State.{TransferState, segment_by}
 use Rattle.driver_laws.specs.rules.Machine.{Blocks}

@@ -12,9 +12,9 @@ use Rattle.request_slots.specs.Move.{IsFrontRead}
 use Rattle.trace_replay.specs.Bytes.{ArePlaces}
 use Rattle.trace_replay.specs.Packs.{read_as}
 use Rattle.trace_replay.proofs.ReadBytes.{reads_as_told}
-use Rattle.ecc_repair.specs.Repaired.{repaired}
+use Rattle.driver_machine.specs.Repaired.{repaired}
 use Rattle.driver_laws.proofs.rules.Noises.{Harmless, read_clean, read_burst}
-use Rattle.ecc_repair.specs.Repaired as machine
+use Rattle.driver_machine.specs.Repaired as machine
 use Rattle.driver_laws.proofs.shown.Fronts.{repaired_same}
 
 -- two words with the same places flipped have the same bytes

@@ -11,7 +11,7 @@ use Rattle.hardware_table.specs.declared.Moved.{Moved}
 use Rattle.hardware_table.specs.declared.Moved.TheVariants.{Clean, Burst, Marked}
 use Rattle.hardware_table.specs.Adapter.{AdapterState}
 use Rattle.hardware_table.specs.Noise.{LiveNoise}
-use Rattle.ecc_repair.specs.Repaired.{repaired}
+use Rattle.driver_machine.specs.Repaired.{repaired}
 use Rattle.main_memory.specs.Blocks.{size_at}
 use Rattle.main_memory.specs.Bytes.{filled}
 use Rattle.transfer_engine.specs.State.{TransferState}

@@ -1,7 +1,7 @@
 -- Each row by computation.
 use Rattle.std.proofs.Common.{refl}
 use Rattle.trace_replay.specs.requests.ServiceOrder as order
-use Rattle.ecc_repair.specs.Repaired as repair
+use Rattle.driver_machine.specs.Repaired as repair
 use Rattle.fire_code.specs.Repair as code
 use Rattle.contract_rows.proofs.machine.rows_law.Goals as goal
 

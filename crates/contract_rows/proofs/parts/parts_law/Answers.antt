@@ -2,7 +2,7 @@ use Rattle.std.proofs.Common.{◌≡◌, ℕ, ◌==◌, nat_lt, true, false, Lis
 use Rattle.std.proofs.lemmas.Bool.{eq-eqb}
 use Rattle.std.proofs.lemmas.Bool.Decides.{nat_tests}
 use Rattle.trace_replay.specs.requests.ServiceOrder.{queue_with}
-use Rattle.ecc_repair.proofs.Laws.{places_flipped, others_stay}
+use Rattle.driver_machine.proofs.ecc_repair.Laws.{places_flipped, others_stay}
 use Rattle.contract_rows.specs.Parts.{EqualCylinderInFront, OneRunOnly}
 use Rattle.contract_rows.proofs.parts.parts_law.Goals as goal
 

@@ -3,7 +3,6 @@
 //! What is proved: `repair` flips the places of the pattern in the window's bytes, from place `at - 1` on and as far as
 //! the window reaches, and leaves all else as before. `repair_law`: at most three bytes change; a sector that is read
 //! with a short burst and repaired has the bytes that stand on the pack.
-#![tactic(auto)]
 
 ghost use Rattle.std.specs.Prelude.{◌≡◌, ◌≤◌, ◌<◌, ◌+◌, ◌-◌, ◌*◌, ◌/◌, ◌%◌, ◌^◌, ◌⊎◌, ℕ, List, All, length, slice_index};
 ghost use Rattle.fire_code.specs.Remainder.{remainder};
@@ -12,7 +11,7 @@ ghost use Rattle.fire_code.specs.Word.{IsData, word_remainder};
 ghost use Rattle.fire_code.specs.Noise.{IsFlipped};
 ghost use Rattle.main_memory.specs.Bytes.{front};
 ghost use Rattle.main_memory.specs.Windows.{Writes, memory_name, window_bytes};
-ghost use Rattle.ecc_repair.specs.Repaired.{repaired, data_bit, pattern_bit};
+ghost use Rattle.driver_machine.specs.Repaired.{repaired, data_bit, pattern_bit};
 
 use main_memory::Window;
 

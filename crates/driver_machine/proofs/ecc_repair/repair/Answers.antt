@@ -3,10 +3,10 @@ use Rattle.main_memory.specs.declared.window.Window.{Window}
 use Rattle.main_memory.specs.Bytes.{front, filled}
 use Rattle.main_memory.specs.Windows.{Writes, memory_of, window_len, window_bytes}
 use Rattle.main_memory.proofs.BlockLaws.{length-bytes_in}
-use Rattle.ecc_repair.specs.Repaired.{repaired}
+use Rattle.driver_machine.specs.Repaired.{repaired}
 use Rattle.fire_code.specs.Word.{IsData}
-use Rattle.ecc_repair.proofs.Fronts.{repaired-filled, small_bytes}
-use Rattle.ecc_repair.proofs.repair.Goals as goal
+use Rattle.driver_machine.proofs.ecc_repair.Fronts.{repaired-filled, small_bytes}
+use Rattle.driver_machine.proofs.ecc_repair.repair.Goals as goal
 
 -- the bytes that are written back
 written : (window : Window) (at q : ℕ) (read flipped : List ℕ) → length (memory_of window).bytes ≡ 8388608 → read ≡ filled 512 (window_bytes window) → flipped ≡ repaired at q read

@@ -4,7 +4,7 @@ use Rattle.std.proofs.Math.Nat.{div-eq_of_lt}
 use Rattle.std.proofs.lemmas.Nat.{shl-shr, shr-shr, pow-add, shl_below}
 use lib.Bits.{bit_xor}
 use Rattle.fire_code.specs.Repair.{burst_byte}
-use Rattle.ecc_repair.specs.Repaired.{repaired_from}
+use Rattle.driver_machine.specs.Repaired.{repaired_from}
 
 -- repaired data has as many bytes
 pub length-repaired : (i at q : ℕ) (bytes : List ℕ) → length (repaired_from i at q bytes) ≡ length bytes

@@ -1,7 +1,7 @@
 use Rattle.std.proofs.Common.{arith, ◌<◌, ◌^◌}
 use Rattle.std.proofs.lemmas.List.Elements.{All-from_get_or}
-use Rattle.ecc_repair.proofs.Flipping.{flipped_first, flipped_next, flipped_all}
-use Rattle.ecc_repair.proofs.flip.Goals as goal
+use Rattle.driver_machine.proofs.ecc_repair.Flipping.{flipped_first, flipped_next, flipped_all}
+use Rattle.driver_machine.proofs.ecc_repair.flip.Goals as goal
 
 pub loop-i-init : goal.loop-i-init
 loop-i-init c = flipped_first c.args.at c.args.pattern c.from-first.result c.from.result c.args.bytes.now c.requires.pattern c.from.ensures c.from-first.ensures

@@ -7,7 +7,7 @@ use lib.Bits.{bit_xor}
 use Rattle.fire_code.specs.Repair.{burst_byte}
 use Rattle.main_memory.specs.Bytes.{front, filled}
 use Rattle.main_memory.proofs.ByteLaws.{front-filled}
-use Rattle.ecc_repair.specs.Repaired.{repaired_from, repaired}
+use Rattle.driver_machine.specs.Repaired.{repaired_from, repaired}
 
 front_from : (i at q size : ℕ) (bytes : List ℕ) → repaired_from i at q (take size bytes) ≡ take size (repaired_from i at q bytes)
 unfolding repaired_from

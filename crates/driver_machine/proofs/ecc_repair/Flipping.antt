@@ -6,8 +6,8 @@ use Rattle.std.proofs.lemmas.Nat.{shr-shr, shl_below}
 use Rattle.std.proofs.lemmas.Grind.{same_number_lists, get_or-set_at}
 use lib.Bits.{bit_xor, xor_zero_r}
 use Rattle.fire_code.specs.Repair.{burst_byte}
-use Rattle.ecc_repair.specs.Repaired.{repaired}
-use Rattle.ecc_repair.proofs.Bytes.{length-repaired, byte-repaired, burst-behind, burst-before, burst-after}
+use Rattle.driver_machine.specs.Repaired.{repaired}
+use Rattle.driver_machine.proofs.ecc_repair.Bytes.{length-repaired, byte-repaired, burst-behind, burst-before, burst-after}
 
 -- the bytes below i are flipped, from the first on, and what is left of the burst comes next
 pub record IsFlippedBelow (at q : ℕ) (old now : List ℕ) (i burst : ℕ) : Type 0 where

@@ -15,8 +15,8 @@ use Rattle.fire_code.specs.Word.{IsData, word_remainder}
 use Rattle.fire_code.specs.declared.Verdict.TheVariants.{Burst}
 use Rattle.fire_code.proofs.Laws.{burst_named, repaired as word_named}
 use Rattle.fire_code.proofs.Repairs.{byte_repaired}
-use Rattle.ecc_repair.specs.Repaired.{repaired, data_bit, pattern_bit}
-use Rattle.ecc_repair.proofs.Bytes.{length-repaired, byte-repaired, burst-before, burst-after}
+use Rattle.driver_machine.specs.Repaired.{repaired, data_bit, pattern_bit}
+use Rattle.driver_machine.proofs.ecc_repair.Bytes.{length-repaired, byte-repaired, burst-before, burst-after}
 
 -- a byte of repaired data
 byte_here : (at q j : ℕ) (bytes : List ℕ) → j < length bytes → get_or (repaired at q bytes) j 0 ≡ bit_xor (get_or bytes j 0) (burst_byte at q j)
