@@ -5,8 +5,8 @@ use Rattle.drive_registers.specs.Codes.{offset_field}
 use Rattle.hardware_table.specs.declared.Moved.{Moved}
 use Rattle.hardware_table.specs.declared.Moved.TheVariants as verdict
 use Rattle.hardware_table.specs.Drive.{DriveState}
-use Rattle.retry_offsets.specs.declared.Step.{Step}
-use Rattle.retry_offsets.specs.declared.Step.TheVariants as retry
+use Rattle.trace_replay.specs.declared.retry_offsets.Step.{Step}
+use Rattle.trace_replay.specs.declared.retry_offsets.Step.TheVariants as retry
 use Rattle.driver_machine.specs.Passes.{Waiter}
 use Rattle.driver_machine.specs.declared.Task.{Task}
 use Rattle.driver_machine.specs.declared.Task.TheVariants.{Clear, Judge, Command}

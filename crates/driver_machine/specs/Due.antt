@@ -9,9 +9,9 @@ use Rattle.hardware_table.specs.declared.Moved.TheVariants as verdict
 use Rattle.seek_engine.specs.Seek.{position_for}
 use Rattle.seek_engine.specs.declared.Position.{Position}
 use Rattle.seek_engine.specs.declared.Position.TheVariants as position
-use Rattle.retry_offsets.specs.Schedule.{step_after}
-use Rattle.retry_offsets.specs.declared.Step.{Step}
-use Rattle.retry_offsets.specs.declared.Step.TheVariants as retry
+use Rattle.trace_replay.specs.Schedule.{step_after}
+use Rattle.trace_replay.specs.declared.retry_offsets.Step.{Step}
+use Rattle.trace_replay.specs.declared.retry_offsets.Step.TheVariants as retry
 use Rattle.transfer_engine.specs.State.{TransferState, begun, segment_of, failures_after}
 use Rattle.transfer_engine.specs.Calls.{entry_for, step_for}
 use Rattle.trace_replay.specs.declared.requests.answers.AnswerKind.{AnswerKind}

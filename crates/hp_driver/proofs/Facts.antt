@@ -5,8 +5,8 @@ use Rattle.drive_registers.specs.declared.OffsetCode.{OffsetCode}
 use Rattle.pack_geometry.specs.Geometry.{block_count}
 use Rattle.hardware_table.specs.declared.Moved.{Moved}
 use Rattle.hardware_table.specs.declared.Moved.TheVariants as verdict
-use Rattle.retry_offsets.specs.declared.Step.{Step}
-use Rattle.retry_offsets.specs.declared.Step.TheVariants as retry
+use Rattle.trace_replay.specs.declared.retry_offsets.Step.{Step}
+use Rattle.trace_replay.specs.declared.retry_offsets.Step.TheVariants as retry
 use Rattle.transfer_engine.specs.declared.job.Job.{Job}
 use Rattle.transfer_engine.specs.State.{segment_by, segment_of}
 use Rattle.driver_machine.specs.declared.RetryStep.{RetryStep}

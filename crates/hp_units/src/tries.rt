@@ -5,7 +5,7 @@ ghost use Rattle.pack_geometry.specs.Geometry.{block_count, place_at};
 ghost use Rattle.pack_geometry.specs.Homes.{index_in};
 ghost use Rattle.transfer_engine.specs.State.{segment_of, moved_on, forwarded, failures_after};
 ghost use Rattle.transfer_engine.specs.Calls.{state_of, entry_for, step_for, next_at};
-ghost use Rattle.retry_offsets.specs.Schedule.{step_after};
+ghost use Rattle.trace_replay.specs.Schedule.{step_after};
 ghost use Rattle.driver_machine.specs.World.{no_transfer};
 ghost use Rattle.driver_machine.specs.Acts.{transfer_tried};
 ghost use Rattle.driver_machine.specs.Due.{steps_of, steps_for, offset_steps, seek_steps, task_for};
@@ -14,7 +14,7 @@ use bad144_table::{BadTable, position};
 use drive_registers::OffsetCode;
 use driver_machine::{RetryStep, Task};
 use pack_geometry::{DriveKind, data_limit, place_of};
-use retry_offsets::{Step, next_step};
+use trace_replay::retry_offsets::{Step, next_step};
 use transfer_engine::{Next, Segment, Transfer};
 
 /// What the next transfer command moves. Without a transfer it moves nothing.

@@ -13,9 +13,9 @@ use Rattle.hardware_table.specs.declared.Moved.{Moved}
 use Rattle.hardware_table.specs.declared.Moved.TheVariants as verdict
 use Rattle.hardware_table.specs.Drive.{DriveState}
 use Rattle.seek_engine.specs.Seek.{distance, is_near, sector_before}
-use Rattle.retry_offsets.specs.Schedule.{step_after}
-use Rattle.retry_offsets.specs.declared.Step.{Step}
-use Rattle.retry_offsets.specs.declared.Step.TheVariants as retry
+use Rattle.trace_replay.specs.Schedule.{step_after}
+use Rattle.trace_replay.specs.declared.retry_offsets.Step.{Step}
+use Rattle.trace_replay.specs.declared.retry_offsets.Step.TheVariants as retry
 use Rattle.trace_replay.specs.requests.Requests.{Request, first_block, Offline, Locked, Unforwarded, Fault}
 use Rattle.trace_replay.specs.requests.Requests.{Answer, ReadOk, WriteOk, Failed}
 use Rattle.trace_replay.specs.Moments.{Deed, Search, Seek, Recal, Offset, Centre, Clear, Pack, Transfer, Arrive, Sector, Intr, Try, Attn, End}

@@ -22,3 +22,4 @@ pub use Rattle.fire_code.specs.Noise
 pub use Rattle.hardware_table.specs.declared.Moved
 pub use Rattle.hardware_table.specs.declared.NoiseSpan
 pub use Rattle.hardware_table.specs.declared.FaultKind
+pub mod Schedule

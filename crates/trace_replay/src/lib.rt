@@ -10,6 +10,7 @@
 #![tactic(auto)]
 
 pub mod requests;
+pub mod retry_offsets;
 
 ghost use Rattle.trace_replay.specs.Rules.{KeepsEach, FollowOn};
 ghost use Rattle.trace_replay.specs.Bytes.{ReadsAsTold, RepairsBursts};

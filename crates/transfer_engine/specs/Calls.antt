@@ -4,8 +4,8 @@ use Rattle.pack_geometry.specs.declared.Place.{Place}
 use Rattle.pack_geometry.specs.Geometry.{place_at}
 use Rattle.pack_geometry.specs.Homes.{index_in}
 use Rattle.pack_geometry.specs.TableSpelling.{Table}
-use Rattle.retry_offsets.specs.declared.Step.{Step}
-use Rattle.retry_offsets.specs.Schedule.{step_after}
+use Rattle.trace_replay.specs.declared.retry_offsets.Step.{Step}
+use Rattle.trace_replay.specs.Schedule.{step_after}
 use Rattle.transfer_engine.specs.State.{TransferState, segment_of, moved_on, forwarded, failures_after}
 use Rattle.transfer_engine.specs.declared.states.Transfer.{Transfer}
 use Rattle.transfer_engine.specs.declared.states.Transfer.TheVariants.{Direct, Forwarded, Continued}

@@ -2,7 +2,7 @@
 ghost use Rattle.std.specs.Prelude.{◌≡◌, ◌≢◌, ◌<◌, ◌≤◌, ◌+◌, ◌↔◌, IfOk, IfErr, IfSome, IsErr, Option};
 ghost use Rattle.std.specs.Option.{option_copied};
 ghost use Rattle.pack_geometry.specs.Homes.{index_in};
-ghost use Rattle.retry_offsets.specs.declared.Step.TheVariants.{GiveUp};
+ghost use Rattle.trace_replay.specs.declared.retry_offsets.Step.TheVariants.{GiveUp};
 ghost use Rattle.transfer_engine.specs.State.{TransferState, IsJob, IsTransfer, begun, seen_as, segment_of, failures_after, failed};
 ghost use Rattle.transfer_engine.specs.Calls.{state_of, with_state, next_at, after_done, after_corrected, entry_for, after_bad_sector, step_for};
 
@@ -11,7 +11,7 @@ use crate::progress::Progress;
 use crate::states::{Continued, Direct, Exhausted, Forwarded, Next, Transfer, Unforwarded};
 use bad144_table::{BadTable, entries, position};
 use pack_geometry::{Place, place_of, replacement};
-use retry_offsets::{Step, next_step};
+use trace_replay::retry_offsets::{Step, next_step};
 
 /// A job at its beginning: no block is done, and no try has failed.
 pub fn begin(job: Job) -> Direct

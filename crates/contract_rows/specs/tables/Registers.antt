@@ -7,8 +7,8 @@ use Rattle.drive_registers.specs.declared.Function.TheVariants.{Nop, Recal, Seek
 use Rattle.drive_registers.specs.declared.OffsetCode.TheVariants.{Plus400}
 use Rattle.drive_registers.specs.Bits.{volume_valid}
 use Rattle.drive_registers.specs.Codes.{function_code, function_field}
-use Rattle.retry_offsets.specs.declared.Step.TheVariants as step
-use Rattle.retry_offsets.specs.Schedule.{step_after}
+use Rattle.trace_replay.specs.declared.retry_offsets.Step.TheVariants as step
+use Rattle.trace_replay.specs.Schedule.{step_after}
 use Rattle.seek_engine.specs.declared.Position.TheVariants as position
 use Rattle.seek_engine.specs.Seek.{position_for}
 

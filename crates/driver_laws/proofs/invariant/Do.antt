@@ -4,9 +4,9 @@ use Rattle.std.specs.Prelude.{if◌then◌else◌, ◌==◌}
 use Rattle.pack_geometry.specs.Geometry.{cylinders_of, place_at}
 use Rattle.drive_registers.specs.declared.OffsetCode.{OffsetCode}
 use Rattle.hardware_table.specs.Drive.{DriveState}
-use Rattle.retry_offsets.specs.declared.Step as retried
-use Rattle.retry_offsets.specs.declared.Step.TheVariants as retry
-use Rattle.retry_offsets.specs.Schedule.{step_after}
+use Rattle.trace_replay.specs.declared.retry_offsets.Step as retried
+use Rattle.trace_replay.specs.declared.retry_offsets.Step.TheVariants as retry
+use Rattle.trace_replay.specs.Schedule.{step_after}
 use Rattle.transfer_engine.specs.declared.job.Job.{Job}
 use Rattle.transfer_engine.specs.State.{TransferState, segment_of}
 use Rattle.driver_machine.specs.declared.Phase.TheVariants.{Positioning, Due}

@@ -7,9 +7,9 @@ use Rattle.pack_geometry.specs.Geometry.{place_at}
 use Rattle.pack_geometry.specs.PackTable.{places_of}
 use Rattle.hardware_table.specs.declared.Moved.{Moved}
 use Rattle.hardware_table.specs.declared.Moved.TheVariants as verdict
-use Rattle.retry_offsets.specs.declared.Step as retried
-use Rattle.retry_offsets.specs.declared.Step.TheVariants as retry
-use Rattle.retry_offsets.specs.Schedule.{step_after}
+use Rattle.trace_replay.specs.declared.retry_offsets.Step as retried
+use Rattle.trace_replay.specs.declared.retry_offsets.Step.TheVariants as retry
+use Rattle.trace_replay.specs.Schedule.{step_after}
 use Rattle.transfer_engine.specs.declared.job.Job.{Job}
 use Rattle.transfer_engine.specs.State.{TransferState, segment_by, segment_of, failures_after}
 use Rattle.transfer_engine.specs.State as transfer

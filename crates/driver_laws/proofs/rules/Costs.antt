@@ -11,8 +11,8 @@ use Rattle.drive_registers.specs.declared.OffsetCode.{OffsetCode}
 use Rattle.hardware_table.specs.declared.Moved.{Moved}
 use Rattle.hardware_table.specs.declared.Moved.TheVariants as verdict
 use Rattle.hardware_table.specs.Drive.{DriveState}
-use Rattle.retry_offsets.specs.Schedule.{offset_after, recalibrates_after}
-use Rattle.retry_offsets.specs.declared.Step.TheVariants as retry
+use Rattle.trace_replay.specs.Schedule.{offset_after, recalibrates_after}
+use Rattle.trace_replay.specs.declared.retry_offsets.Step.TheVariants as retry
 use Rattle.trace_replay.specs.requests.Requests.{Request, Failed, Offline}
 use Rattle.trace_replay.specs.Moments.{Deed, Search, Seek, Recal, Offset, Centre, Clear, Pack, Transfer, Sector, Intr, Try, Attn, End}
 use Rattle.trace_replay.specs.Conversation.{Positioning, SearchFor, SeekTo, Segment, OwnBlocks, Replacement, Hand, is_write, start_of, length_of, transfer_of, command_of, needs_unlocked, guarded, due, entry_of}

@@ -8,9 +8,9 @@ use Rattle.hardware_table.specs.declared.Moved.{Moved}
 use Rattle.hardware_table.specs.declared.Moved.TheVariants as verdict
 use Rattle.hardware_table.specs.declared.Work.{Work}
 use Rattle.hardware_table.specs.Drive.{DriveState, is_writing, is_transferring}
-use Rattle.retry_offsets.specs.Schedule.{step_after}
-use Rattle.retry_offsets.specs.declared.Step.{Step}
-use Rattle.retry_offsets.specs.declared.Step.TheVariants as retry
+use Rattle.trace_replay.specs.Schedule.{step_after}
+use Rattle.trace_replay.specs.declared.retry_offsets.Step.{Step}
+use Rattle.trace_replay.specs.declared.retry_offsets.Step.TheVariants as retry
 use Rattle.pack_geometry.specs.Geometry.{place_at}
 use Rattle.trace_replay.specs.requests.Requests.{Request, ReadOk, WriteOk}
 use Rattle.trace_replay.specs.Moments.{Deed, Centre, Clear, Transfer, Try, End}

@@ -3,7 +3,7 @@ use Rattle.std.proofs.Common.{◌≡◌, ℕ, ◌+◌, ◌-◌, ◌*◌, ◌<◌
 use Rattle.std.specs.Prelude.{if◌then◌else◌}
 use Rattle.std.proofs.lemmas.Bool.Decides.{nat_tests}
 use Rattle.drive_registers.specs.declared.OffsetCode.{OffsetCode}
-use Rattle.retry_offsets.specs.Schedule.{offsets, offset_after, recalibrates_after}
+use Rattle.trace_replay.specs.Schedule.{offsets, offset_after, recalibrates_after}
 use Rattle.trace_replay.specs.Conversation.{Segment, OwnBlocks, Replacement}
 use Rattle.driver_laws.specs.rules.Measure.{tries_left, returns_left, offsets_left, steps_left}
 

@@ -12,8 +12,8 @@ use Rattle.hardware_table.specs.declared.Moved.{Moved}
 use Rattle.hardware_table.specs.declared.Moved.TheVariants as verdict
 use Rattle.hardware_table.specs.Adapter.{AdapterState}
 use Rattle.driver_machine.specs.Repaired.{repaired}
-use Rattle.retry_offsets.specs.declared.Step as retried
-use Rattle.retry_offsets.specs.declared.Step.TheVariants as retry
+use Rattle.trace_replay.specs.declared.retry_offsets.Step as retried
+use Rattle.trace_replay.specs.declared.retry_offsets.Step.TheVariants as retry
 use Rattle.transfer_engine.specs.declared.job.Job.{Job}
 use Rattle.transfer_engine.specs.State.{TransferState, begun, segment_by, segment_of, forwarded, moved_on}
 use Rattle.transfer_engine.specs.State as engine

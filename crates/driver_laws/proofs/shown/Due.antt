@@ -1,8 +1,8 @@
 -- A deed that is due at a unit: it is silent, or its line is the one that is due for the unit.
 use Rattle.std.proofs.Common.{◌≡◌, ◌⊎◌, inl, inr, ℕ, ◌<◌, Bool, true, false, List, [], ◌∷◌, length, Option, Some, None, refl, sym, ap, subst, arith, ◌∙◌}
 use Rattle.std.specs.Prelude.{if◌then◌else◌, drop, ◌==◌}
-use Rattle.retry_offsets.specs.declared.Step.{Step}
-use Rattle.retry_offsets.specs.declared.Step.TheVariants as retry
+use Rattle.trace_replay.specs.declared.retry_offsets.Step.{Step}
+use Rattle.trace_replay.specs.declared.retry_offsets.Step.TheVariants as retry
 use Rattle.hardware_table.specs.declared.Moved.{Moved}
 use Rattle.hardware_table.specs.declared.Moved.TheVariants as verdict
 use Rattle.hardware_table.specs.Adapter.{AdapterState}

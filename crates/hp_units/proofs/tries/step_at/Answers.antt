@@ -1,5 +1,5 @@
 use Rattle.std.proofs.Common.{◌≡◌, ℕ, zero, suc, ◌-◌, ◌<◌, List, ◌∷◌, sym, ap, ◌∙◌, slice_get, arith}
-use Rattle.retry_offsets.specs.declared.Step.{Step}
+use Rattle.trace_replay.specs.declared.retry_offsets.Step.{Step}
 use Rattle.driver_machine.specs.declared.RetryStep.TheVariants.{Recalibrate}
 use Rattle.driver_machine.specs.Due.{steps_for}
 use Rattle.hp_units.proofs.tries.step_at.Goals as goal

@@ -1,8 +1,8 @@
 use Rattle.std.proofs.Common.{◌≡◌, sym, ap, ◌∙◌, subst, ℕ, zero, suc, ◌+◌, List, [], ◌∷◌, drop, refl, Bool, not, Option, None, Some, slice_get, unwrap_or, IfSome, IfNone}
 use Rattle.std.specs.Option.{option_map}
 use Rattle.pack_geometry.specs.Geometry.{place_at}
-use Rattle.retry_offsets.specs.declared.Step.{Step}
-use Rattle.retry_offsets.specs.Schedule.{step_after}
+use Rattle.trace_replay.specs.declared.retry_offsets.Step.{Step}
+use Rattle.trace_replay.specs.Schedule.{step_after}
 use Rattle.transfer_engine.specs.State.{TransferState, segment_of}
 use Rattle.transfer_engine.specs.Calls.{state_of}
 use Rattle.transfer_engine.specs.declared.states.Transfer.{Transfer}

@@ -1,7 +1,7 @@
 use Rattle.std.proofs.Common.{◌≡◌, ◌≢◌, ◌+◌, ℕ, Bool, Some, refl, sym, ap, ◌∙◌, subst}
-use Rattle.retry_offsets.specs.declared.Step.{Step}
-use Rattle.retry_offsets.specs.declared.Step.TheVariants as retry
-use Rattle.retry_offsets.specs.Schedule.{step_after}
+use Rattle.trace_replay.specs.declared.retry_offsets.Step.{Step}
+use Rattle.trace_replay.specs.declared.retry_offsets.Step.TheVariants as retry
+use Rattle.trace_replay.specs.Schedule.{step_after}
 use Rattle.transfer_engine.specs.State.{TransferState, failed}
 use Rattle.transfer_engine.specs.Calls.{state_of, with_state, step_for}
 use Rattle.transfer_engine.specs.declared.states.Transfer.{Transfer}

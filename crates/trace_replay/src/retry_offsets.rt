@@ -4,11 +4,10 @@
 //! What is proved: `next_step` is the schedule, and gives GiveUp exactly at failure 28.
 //!
 //! Nothing here is only tested.
-#![tactic(auto)]
 
 ghost use Rattle.std.specs.Prelude.{◌≡◌, ◌≤◌, ◌↔◌};
-ghost use Rattle.retry_offsets.specs.declared.Step.TheVariants.{GiveUp};
-ghost use Rattle.retry_offsets.specs.Schedule.{offset_after, step_after};
+ghost use Rattle.trace_replay.specs.declared.retry_offsets.Step.TheVariants.{GiveUp};
+ghost use Rattle.trace_replay.specs.Schedule.{offset_after, step_after};
 
 use drive_registers::OffsetCode;
 
