@@ -7,9 +7,9 @@ use Rattle.drive_registers.specs.Codes.{offset_field}
 use Rattle.hardware_table.specs.declared.Moved.{Moved}
 use Rattle.hardware_table.specs.declared.Moved.TheVariants as verdict
 use Rattle.pack_geometry.specs.Geometry.{sectors_of}
-use Rattle.seek_engine.specs.Seek.{is_near, distance, sector_before}
-use Rattle.seek_engine.specs.declared.Position.{Position}
-use Rattle.seek_engine.specs.declared.Position.TheVariants as position
+use Rattle.trace_replay.specs.Seek.{is_near, distance, sector_before}
+use Rattle.trace_replay.specs.declared.seek_engine.Position.{Position}
+use Rattle.trace_replay.specs.declared.seek_engine.Position.TheVariants as position
 use Rattle.driver_machine.specs.Passes.{segment_of}
 use Rattle.driver_machine.specs.Passes.{entry_for}
 use Rattle.trace_replay.specs.declared.requests.answers.AnswerKind.TheVariants.{Error}

@@ -6,9 +6,9 @@ use Rattle.drive_registers.specs.Codes.{offset_field}
 use Rattle.drive_registers.specs.declared.OffsetCode.{OffsetCode}
 use Rattle.hardware_table.specs.declared.Moved.{Moved}
 use Rattle.hardware_table.specs.declared.Moved.TheVariants as verdict
-use Rattle.seek_engine.specs.Seek.{position_for}
-use Rattle.seek_engine.specs.declared.Position.{Position}
-use Rattle.seek_engine.specs.declared.Position.TheVariants as position
+use Rattle.trace_replay.specs.Seek.{position_for}
+use Rattle.trace_replay.specs.declared.seek_engine.Position.{Position}
+use Rattle.trace_replay.specs.declared.seek_engine.Position.TheVariants as position
 use Rattle.trace_replay.specs.Schedule.{step_after}
 use Rattle.trace_replay.specs.declared.retry_offsets.Step.{Step}
 use Rattle.trace_replay.specs.declared.retry_offsets.Step.TheVariants as retry

@@ -4,7 +4,7 @@ use Rattle.drive_registers.specs.Codes.{offset_field}
 use Rattle.hardware_table.specs.declared.Moved.{Moved}
 use Rattle.hardware_table.specs.declared.Moved.TheVariants as verdict
 use Rattle.hardware_table.specs.Drive.{DriveState}
-use Rattle.seek_engine.specs.declared.Position.TheVariants as position
+use Rattle.trace_replay.specs.declared.seek_engine.Position.TheVariants as position
 use Rattle.driver_machine.specs.Passes.{TransferState, begun, segment_of}
 use Rattle.driver_machine.specs.Passes.{entry_for}
 use Rattle.trace_replay.specs.declared.requests.answers.AnswerKind.{AnswerKind}

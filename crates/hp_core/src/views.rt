@@ -2,7 +2,7 @@
 ghost use Rattle.std.specs.Prelude.{◌≡◌, ◌<◌, ◌/◌, ◌∷◌, ◌==◌, [], drop, not, length, true, false, IsSome, IfSome, IfNone};
 ghost use Rattle.pack_geometry.specs.Geometry.{IsInside};
 ghost use Rattle.main_memory.specs.Bytes.{filled, IsFill};
-ghost use Rattle.seek_engine.specs.Seek.{position_for};
+ghost use Rattle.trace_replay.specs.Seek.{position_for};
 ghost use Rattle.driver_machine.specs.World.{unit_at, adapter_at, slot_at, held_in, unit_of, block_in};
 ghost use Rattle.driver_machine.specs.Events.{can_arrive, lowest};
 ghost use Rattle.driver_machine.specs.Sound.{Sound};
@@ -14,7 +14,7 @@ use hp_units::DiskUnit;
 use hp_units::row::lowest;
 use pack_geometry::Place;
 use request_slots::Asked;
-use seek_engine::Position;
+use trace_replay::seek_engine::Position;
 
 // The units.
 impl Core {

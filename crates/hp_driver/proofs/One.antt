@@ -3,9 +3,9 @@ use Rattle.std.proofs.Common.{◌≡◌, ◌⊎◌, inl, inr, ℕ, ◌+◌, ◌/
 use Rattle.std.specs.Prelude.{Result, Ok, if◌then◌else◌, ◌==◌, ◌≢◌}
 use Rattle.std.proofs.lemmas.Bool.{ne_eqb}
 use Rattle.pack_geometry.specs.declared.Place.{Place}
-use Rattle.seek_engine.specs.declared.Position.{Position}
-use Rattle.seek_engine.specs.declared.Position.TheVariants.{Ready, Seek}
-use Rattle.seek_engine.specs.Seek.{position_for}
+use Rattle.trace_replay.specs.declared.seek_engine.Position.{Position}
+use Rattle.trace_replay.specs.declared.seek_engine.Position.TheVariants.{Ready, Seek}
+use Rattle.trace_replay.specs.Seek.{position_for}
 use Rattle.transfer_engine.specs.State.{segment_of}
 use Rattle.hp_core.specs.Asked.{Asked}
 use Rattle.hp_core.specs.Requests.{asked_of}

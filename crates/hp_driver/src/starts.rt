@@ -18,7 +18,7 @@ use driver_machine::{AnswerKind, RetryStep};
 use hp_core::{Asked, Core, Stop};
 use outside_traits::traits::Sink;
 use pack_geometry::{Place, place_of};
-use seek_engine::Position;
+use trace_replay::seek_engine::Position;
 use transfer_engine::Segment;
 
 /// A command that is due at a drive.

@@ -30,7 +30,7 @@ use Rattle.trace_replay.proofs.Kept.{UnitFits, UnitTold, HandOver, AllFit, told_
 use Rattle.trace_replay.proofs.Following.{follow_on}
 use Rattle.trace_replay.proofs.Unchanged.{drained_keeps}
 use Rattle.pack_geometry.specs.Geometry.{sectors_of}
-use Rattle.seek_engine.specs.Seek.{sector_before}
+use Rattle.trace_replay.specs.Seek.{sector_before}
 use Rattle.trace_replay.specs.Causes.{IsOk, AskSome}
 
 -- a segment of the request's own blocks

@@ -12,7 +12,7 @@ use Rattle.drive_registers.specs.Codes.{offset_field}
 use Rattle.hardware_table.specs.declared.Moved.{Moved}
 use Rattle.hardware_table.specs.declared.Moved.TheVariants as verdict
 use Rattle.hardware_table.specs.Drive.{DriveState}
-use Rattle.seek_engine.specs.Seek.{distance, is_near, sector_before}
+use Rattle.trace_replay.specs.Seek.{distance, is_near, sector_before}
 use Rattle.trace_replay.specs.Schedule.{step_after}
 use Rattle.trace_replay.specs.declared.retry_offsets.Step.{Step}
 use Rattle.trace_replay.specs.declared.retry_offsets.Step.TheVariants as retry

@@ -23,3 +23,4 @@ pub use Rattle.hardware_table.specs.declared.Moved
 pub use Rattle.hardware_table.specs.declared.NoiseSpan
 pub use Rattle.hardware_table.specs.declared.FaultKind
 pub mod Schedule
+pub mod Seek

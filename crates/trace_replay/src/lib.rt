@@ -1,6 +1,7 @@
 //! Which traces are legal: the rules of a trace of the whole subsystem. They speak only of what is seen of a run: the
 //! script, the packs, and the lines of the trace with the answers that they make. The definitions stand in `specs/`, and
-//! know nothing of how a driver works. The functions here do nothing: each stands for a law. `requests` has what is asked and how it is answered.
+//! know nothing of how a driver works. The functions of this file do nothing: each stands for a law. `requests` has what is
+//! asked and how it is answered. `seek_engine` and `retry_offsets` have two choices that the rules cite, also as code.
 //!
 //! Defined in `specs/`: which traces are legal, over the script, the packs and the lines alone, as one state with a rule for each aspect.
 //!
@@ -10,6 +11,7 @@
 #![tactic(auto)]
 
 pub mod requests;
+pub mod seek_engine;
 pub mod retry_offsets;
 
 ghost use Rattle.trace_replay.specs.Rules.{KeepsEach, FollowOn};

@@ -9,8 +9,8 @@ use Rattle.drive_registers.specs.Bits.{volume_valid}
 use Rattle.drive_registers.specs.Codes.{function_code, function_field}
 use Rattle.trace_replay.specs.declared.retry_offsets.Step.TheVariants as step
 use Rattle.trace_replay.specs.Schedule.{step_after}
-use Rattle.seek_engine.specs.declared.Position.TheVariants as position
-use Rattle.seek_engine.specs.Seek.{position_for}
+use Rattle.trace_replay.specs.declared.seek_engine.Position.TheVariants as position
+use Rattle.trace_replay.specs.Seek.{position_for}
 
 -- SEEK has the code of RECALIBRATE, and this has that of SEEK
 abbrev pub CodesOfTwoFunctionsSwapped : Type 0

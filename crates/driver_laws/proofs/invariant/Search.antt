@@ -5,9 +5,9 @@ use Rattle.pack_geometry.specs.declared.DriveKind.{DriveKind}
 use Rattle.pack_geometry.specs.declared.Place.{Place}
 use Rattle.pack_geometry.specs.Geometry.{sectors_of, IsInside}
 use Rattle.hardware_table.specs.Drive.{DriveState}
-use Rattle.seek_engine.specs.declared.Position.{Position}
-use Rattle.seek_engine.specs.declared.Position.TheVariants as position
-use Rattle.seek_engine.specs.Seek.{position_for, sector_before}
+use Rattle.trace_replay.specs.declared.seek_engine.Position.{Position}
+use Rattle.trace_replay.specs.declared.seek_engine.Position.TheVariants as position
+use Rattle.trace_replay.specs.Seek.{position_for, sector_before}
 use Rattle.trace_replay.specs.Drives.{search_place}
 use Rattle.driver_machine.specs.declared.Phase.TheVariants.{Waiting, Positioning}
 use Rattle.driver_machine.specs.Acts.{Scene, effect, searching}

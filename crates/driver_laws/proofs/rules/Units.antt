@@ -5,7 +5,7 @@ use Rattle.pack_geometry.specs.declared.Place.{Place}
 use Rattle.pack_geometry.specs.Geometry.{sectors_of}
 use Rattle.pack_geometry.specs.TableSpelling.{Table}
 use Rattle.hardware_table.specs.Drive.{DriveState, is_positioning}
-use Rattle.seek_engine.specs.Seek.{sector_before}
+use Rattle.trace_replay.specs.Seek.{sector_before}
 use Rattle.trace_replay.specs.requests.ServiceOrder.{Waiting as Waiter, put, Service, after_leave}
 use Rattle.trace_replay.proofs.requests.ServiceOrderRuns.{newcomer, after_join-waiting}
 use Rattle.trace_replay.specs.requests.Requests.{Request}

@@ -1,7 +1,7 @@
 -- Each deed that is allowed: its line is said, or it is silent.
 use Rattle.std.proofs.Common.{◌≡◌, inl, inr, ℕ, [], ◌∷◌, ◌+◌, sym, ap, subst, arith, ◌∙◌}
 use Rattle.pack_geometry.specs.declared.Place.{Place}
-use Rattle.seek_engine.specs.declared.Position.TheVariants as position
+use Rattle.trace_replay.specs.declared.seek_engine.Position.TheVariants as position
 use Rattle.transfer_engine.specs.declared.job.Segment.{Segment}
 use Rattle.transfer_engine.specs.State.{failures_after}
 use Rattle.transfer_engine.specs.State as engine

@@ -7,8 +7,8 @@ use Rattle.hardware_table.specs.declared.Work.TheVariants as work
 use Rattle.hardware_table.specs.Adapter.{AdapterState}
 use Rattle.hardware_table.specs.Drive.{DriveState}
 use Rattle.hardware_table.specs.Functions.{performed}
-use Rattle.seek_engine.specs.declared.Position.TheVariants as position
-use Rattle.seek_engine.specs.Seek.{sector_before}
+use Rattle.trace_replay.specs.declared.seek_engine.Position.TheVariants as position
+use Rattle.trace_replay.specs.Seek.{sector_before}
 use Rattle.transfer_engine.specs.State as engine
 use Rattle.trace_replay.specs.requests.Requests.{Request}
 use Rattle.trace_replay.specs.Replay.{UnitSeen, Replay, hand_of, at_unit}

@@ -3,8 +3,8 @@ use Rattle.std.proofs.Common.{◌≡◌, inl, inr, ℕ, List, [], ◌∷◌, ◌
 use Rattle.std.specs.Prelude.{if◌then◌else◌}
 use Rattle.pack_geometry.specs.Geometry.{sectors_of}
 use Rattle.hardware_table.specs.Adapter.{AdapterState}
-use Rattle.seek_engine.specs.declared.Position.TheVariants as position
-use Rattle.seek_engine.specs.Seek.{sector_before}
+use Rattle.trace_replay.specs.declared.seek_engine.Position.TheVariants as position
+use Rattle.trace_replay.specs.Seek.{sector_before}
 use Rattle.transfer_engine.specs.State.{TransferState, begun}
 use Rattle.trace_replay.specs.Replay.{UnitSeen, Replay, at_unit}
 use Rattle.trace_replay.specs.Conversation as told

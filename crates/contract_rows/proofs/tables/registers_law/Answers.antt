@@ -1,6 +1,6 @@
 use Rattle.std.proofs.Common.{◌≡◌, ℕ, ◌==◌, Bool, true, false, if◌then◌else◌, ap, arith}
-use Rattle.seek_engine.specs.declared.Position.{Position}
-use Rattle.seek_engine.specs.declared.Position.TheVariants.{Ready, Search, Seek}
+use Rattle.trace_replay.specs.declared.seek_engine.Position.{Position}
+use Rattle.trace_replay.specs.declared.seek_engine.Position.TheVariants.{Ready, Search, Seek}
 use Rattle.contract_rows.specs.tables.Registers.{LaterTryWaitsForTheSector, Search4Ahead}
 use Rattle.contract_rows.proofs.tables.registers_law.Goals as goal
 

@@ -1,6 +1,6 @@
 use Rattle.std.proofs.Common.{false, sym, ap, ◌∙◌}
 use Rattle.pack_geometry.specs.declared.Place.{Place}
-use Rattle.seek_engine.specs.declared.Position.{Position}
+use Rattle.trace_replay.specs.declared.seek_engine.Position.{Position}
 use Rattle.driver_machine.specs.World.{unit_at}
 use Rattle.driver_machine.specs.Acts.{Search}
 use Rattle.driver_machine.specs.Due.{start_by, sensed}

@@ -2,12 +2,11 @@
 //!
 //! What is proved: `decide` is exact; `position` gives Queued exactly for Ready; the states are moved from one to the
 //! next, and the goal of a positioning is never Ready.
-#![tactic(auto)]
 
 ghost use Rattle.std.specs.Prelude.{◌≡◌, ◌≢◌, ◌<◌, ◌↔◌, IfOk, IsErr};
 ghost use Rattle.pack_geometry.specs.Geometry.{cylinders_of, sectors_of, IsInside};
-ghost use Rattle.seek_engine.specs.declared.Position.TheVariants.{Ready};
-ghost use Rattle.seek_engine.specs.Seek.{position_for};
+ghost use Rattle.trace_replay.specs.declared.seek_engine.Position.TheVariants.{Ready};
+ghost use Rattle.trace_replay.specs.Seek.{position_for};
 
 use pack_geometry::{DriveKind, Place, geometry_of};
 use std::marker::Model;
@@ -74,8 +73,8 @@ pub struct Queued;
 
 impl Model for Positioning {
     ghost use Rattle.std.specs.Prelude.{◌≢◌};
-    ghost use Rattle.seek_engine.specs.declared.Position.{Position};
-    ghost use Rattle.seek_engine.specs.declared.Position.TheVariants.{Ready};
+    ghost use Rattle.trace_replay.specs.declared.seek_engine.Position.{Position};
+    ghost use Rattle.trace_replay.specs.declared.seek_engine.Position.TheVariants.{Ready};
 
     ghost Value = { Position };
 
