@@ -12,3 +12,4 @@ pub mod DueFacts
 pub mod Frame
 pub mod Passes
 pub mod Repaired
+pub mod Free

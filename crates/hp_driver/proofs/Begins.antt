@@ -1,16 +1,14 @@
 -- Where an event begins, what is due behind its first act finds the adapter free.
-use Rattle.std.proofs.Common.{◌≡◌, ℕ, ◌<◌, true, sym, ap, ◌∙◌, subst}
-use Rattle.std.proofs.Common.{get_or-set_same}
+use Rattle.std.proofs.Common.{◌≡◌, ℕ, ◌<◌, sym, ap, ◌∙◌, subst}
 use Rattle.hardware_table.specs.declared.Moved.{Moved}
-use Rattle.driver_machine.specs.declared.Phase.{Phase}
-use Rattle.driver_machine.specs.declared.Phase.TheVariants.{Waiting, Positioning, Queued, Transferring, Due}
-use Rattle.driver_machine.specs.World.{World, UnitView, AdapterView, Held, no_unit, unit_at, slot_in_hand}
-use Rattle.driver_machine.specs.Acts.{Of, Submit, Intr, Attn, effect, joined, scene_of, after}
-use Rattle.driver_machine.specs.Sound.{Sound, AtWork, WorkOf}
+use Rattle.driver_machine.specs.World.{World, UnitView, AdapterView, unit_at, slot_in_hand}
+use Rattle.driver_machine.specs.Acts.{Of, Intr, Attn, effect, scene_of, after}
+use Rattle.driver_machine.specs.Sound.{Sound}
 use Rattle.driver_machine.proofs.DueFacts.{false_true}
 use Rattle.driver_machine.proofs.Until.{own_unit}
 use Rattle.driver_laws.proofs.invariant.Deeds.{own_adapter}
-use Rattle.hp_driver.specs.Free.{needs_free, IsFree}
+use Rattle.driver_machine.specs.Free.{needs_free}
+use Rattle.hp_driver.specs.Free.{IsFree}
 
 module _ (w : World) (line u id : ℕ) (sound : Sound w) (lt : u < 32) where
   -- the data interrupt frees it

@@ -13,7 +13,8 @@ use Rattle.driver_machine.specs.DueFacts.{IsDue}
 use Rattle.driver_machine.proofs.DueFacts.{chosen_facts, false_true}
 use Rattle.driver_machine.proofs.Until.{own_unit}
 use Rattle.driver_laws.proofs.invariant.Deeds.{in_hand_is}
-use Rattle.hp_driver.specs.Free.{needs_free, IsFree}
+use Rattle.driver_machine.specs.Free.{needs_free}
+use Rattle.hp_driver.specs.Free.{IsFree}
 use Rattle.hp_driver.specs.Hand.{hand_at}
 
 not_queued : (phase : Phase) (task : Task) → phase ≡ Due task → phase ≡ Queued → ⊥

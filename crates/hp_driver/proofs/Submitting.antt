@@ -1,38 +1,24 @@
 -- A request joins, and what is due behind it is done.
-use Rattle.std.proofs.Common.{◌≡◌, ℕ, ◌/◌, ◌<◌, Bool, true, List, [], ◌∷◌, sym, ap, ◌∙◌, subst, get_or-set_same}
+use Rattle.std.proofs.Common.{◌≡◌, ℕ, ◌/◌, Bool, List, [], ◌∷◌, sym, ap, subst}
 use Rattle.std.specs.Prelude.{Result, Ok, Err}
 use Rattle.std.specs.Result.{IsErrAnd}
-use Rattle.disksort.specs.declared.Waiter.{Waiter}
-use Rattle.driver_machine.specs.declared.Phase.{Phase}
-use Rattle.driver_machine.specs.declared.Phase.TheVariants.{Waiting, Positioning, Queued, Transferring, Due}
-use Rattle.driver_machine.specs.World.{World, UnitView, Held, adapter_of, unit_at, no_unit}
-use Rattle.driver_machine.specs.Acts.{Submit, joined, after}
+use Rattle.driver_machine.specs.World.{adapter_of}
+use Rattle.driver_machine.specs.Acts.{Submit}
 use Rattle.driver_machine.specs.Events.{and_then, due_acts, adapter_start}
-use Rattle.driver_machine.specs.Sound.{Sound, AtWork, WorkOf}
-use Rattle.driver_machine.proofs.DueFacts.{false_true}
+use Rattle.driver_machine.specs.Sound.{Sound, AtWork}
 use Rattle.hp_core.specs.Asked.{Asked}
 use Rattle.driver_laws.proofs.invariant.Sound.{sound_after}
 use Rattle.hp_core.specs.Passes.{Stop}
 use Rattle.hp_core.specs.State.{State}
 use Rattle.hp_core.specs.Joins.{Joins}
 use Rattle.hp_driver.specs.Done.{DoesActs}
-use Rattle.hp_driver.specs.Free.{needs_free, IsFree}
+use Rattle.driver_laws.proofs.invariant.Calls.{join_free}
+use Rattle.hp_driver.specs.Free.{IsFree}
 use Rattle.hp_driver.specs.Submissions.{Submits}
 use Rattle.hp_driver.proofs.Joined.{of_silent, then_part, stopped_part}
 use Rattle.hp_driver.proofs.Exits.{as_acts, handed}
 
 -- A REQUEST JOINS where no task is due
-task_needs : (phase : Phase) (queue : List Waiter) → WorkOf phase queue → needs_free phase ≡ true → ⊥
-task_needs (Due task) queue at needs = at
-task_needs other queue at needs = false_true needs
-
-pub join_free : (w : World) (line p : ℕ) (h : Held) → Sound w → AtWork w → h.unit < 32 → IsFree (after w (Submit line p h)) h.unit
-join_free w line p h sound at less =
-    let own : unit_at (after w (Submit line p h)) h.unit ≡ joined p h (unit_at w h.unit) =
-    get_or-set_same w.units h.unit (joined p h (unit_at w h.unit)) no_unit (subst (λ (k : ℕ). h.unit < k) (sym sound.units) less) in
-    λ needs. absurd (task_needs (unit_at w h.unit).phase (unit_at w h.unit).queue (at.units h.unit less)
-    (sym (ap (λ (v : UnitView). needs_free v.phase) own) ∙ needs))
-
 module _ (line slot : ℕ) (asked : Asked) (bytes : List ℕ) (old mid : State) (j : Joins line slot asked bytes old mid) where
   its_unit : j.held.unit ≡ asked.unit
   its_unit = ap (λ (a : Asked). a.unit) j.is.same

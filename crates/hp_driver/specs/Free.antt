@@ -1,17 +1,8 @@
 -- Where a transfer command may come at once.
-use Rattle.std.specs.Prelude.{◌≡◌, ℕ, Bool, true, false}
-use Rattle.driver_machine.specs.declared.Task.TheVariants.{Clear, Judge, Command}
-use Rattle.driver_machine.specs.declared.Phase.{Phase}
-use Rattle.driver_machine.specs.declared.Phase.TheVariants.{Due}
+use Rattle.std.specs.Prelude.{ℕ}
+use Rattle.driver_machine.specs.Free as machine
 use Rattle.driver_machine.specs.World.{World, unit_at, adapter_at, adapter_of}
-
--- inside an event, behind the verdict of a transfer, the next transfer command comes without a choice of the adapter
-abbrev pub needs_free : Phase → Bool
-needs_free (Due (Clear moved last)) = true
-needs_free (Due (Judge moved last)) = true
-needs_free (Due Command) = true
-needs_free phase = false
 
 -- a unit that may issue one without a choice finds its adapter free
 abbrev pub IsFree : World → ℕ → Type 0
-IsFree w u = needs_free (unit_at w u).phase ≡ true → (adapter_at w (adapter_of u)).state.busy ≡ false
+IsFree w u = machine.IsFree (unit_at w u) (adapter_at w (adapter_of u))

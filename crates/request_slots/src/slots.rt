@@ -14,15 +14,12 @@ mod steps;
 use crate::asked::Asked;
 use crate::fill::{lend_filled, repair_block};
 use crate::slot::{Holder, Slot, end_slot, free_slots, put_slot, slot_at, take_slot};
-use main_memory::MainMemory;
+use main_memory::{FRAMES, MainMemory};
 use mba_adapter::{Adapter, Ended};
 use outside_traits::traits::NoMemory;
 use slab::Slab;
 use std::alloc::Global;
 use std::marker::Model;
-
-// How many frames there are. At most this many requests can have buffers at a time.
-const FRAMES: u32 = 16384;
 
 /// The slots of outstanding requests, by number: each is free, or has a request and its buffer.
 #[derive(Drop)]

@@ -26,7 +26,8 @@ use Rattle.driver_machine.proofs.Frame.{other_unit, other_adapter}
 use Rattle.driver_machine.proofs.Until.{own_unit}
 use Rattle.driver_machine.specs.Runs.{SoundAfter, Works, MaySubmit, MayCome}
 use Rattle.driver_laws.proofs.invariant.Leads.{Leads, nothing, alone, then_part}
-use Rattle.driver_laws.proofs.invariant.Deeds.{OthersWork, IsFree, needs_free, Doing, deed_at, scene_after, outstanding, deed_done, is_unit, in_hand_is, own_adapter}
+use Rattle.driver_machine.specs.Free.{needs_free, IsFree}
+use Rattle.driver_laws.proofs.invariant.Deeds.{OthersWork, Doing, deed_at, scene_after, outstanding, deed_done, is_unit, in_hand_is, own_adapter}
 use Rattle.driver_laws.proofs.invariant.Due.{UnitsWork, Rests, in_hand_one, due_leads, begun_leads}
 use Rattle.driver_laws.proofs.invariant.Start.{IsOver, no_more, start_leads}
 
@@ -66,16 +67,21 @@ work_needs : (phase : Phase) (queue : List Waiter) → WorkOf phase queue → ne
 work_needs (Due task) queue work needs = work
 work_needs other queue work needs = false_true needs
 
+-- behind it the adapter is as free as the unit wants it
+pub join_free : (w : World) (line p : ℕ) (h : Held) → Sound w → AtWork w → h.unit < 32
+    → IsFree (unit_at (after w (Submit line p h)) h.unit) (adapter_at (after w (Submit line p h)) (adapter_of h.unit))
+join_free w line p h sound at less =
+    let own : unit_at (after w (Submit line p h)) h.unit ≡ joined p h (unit_at w h.unit) =
+    get_or-set_same w.units h.unit (joined p h (unit_at w h.unit)) no_unit (subst (λ (k : ℕ). h.unit < k) (sym sound.units) less) in
+    λ needs. absurd (work_needs (unit_at w h.unit).phase (unit_at w h.unit).queue (at.units h.unit less)
+    (sym (ap (λ (v : UnitView). needs_free v.phase) own) ∙ needs))
+
 join_doing : SoundAfter → (line p : ℕ) (h : Held) (w : World) → Sound w → AtWork w → Allowed w (Submit line p h)
     → Doing (Unit {0}) h.unit (outstanding (after w (Submit line p h))) (after w (Submit line p h))
 join_doing stays line p h w sound work allowed =
-    let own : unit_at (after w (Submit line p h)) h.unit ≡ joined p h (unit_at w h.unit) =
-    get_or-set_same w.units h.unit (joined p h (unit_at w h.unit)) no_unit
-    (subst (λ (k : ℕ). h.unit < k) (sym sound.units) allowed.unit.unit) in
     record {
       sound = stays w (Submit line p h) sound allowed;
-      free = λ needs. absurd (work_needs (unit_at w h.unit).phase (unit_at w h.unit).queue (work.units h.unit allowed.unit.unit)
-          (sym (ap (λ (v : UnitView). needs_free v.phase) own) ∙ needs));
+      free = join_free w line p h sound work allowed.unit.unit;
       others = λ e. record {
         units = λ x less other. subst (λ (v : UnitView). WorkOf v.phase v.queue)
             (sym (get_or-set_other w.units h.unit x (joined p h (unit_at w h.unit)) no_unit other)) (work.units x less);

@@ -4,13 +4,14 @@ use Rattle.std.specs.Prelude.{slice_index_or, slice_set, sum_by, unwrap_or}
 use Rattle.std.proofs.lemmas.List.Sums.{sum_by-set}
 use Rattle.std.proofs.lemmas.List.Elements.{Contains-get_or}
 use Rattle.std.proofs.lemmas.List.{get_or_past}
-use Rattle.driver_machine.specs.declared.Task.TheVariants.{Clear, Judge, Command}
+use Rattle.driver_machine.specs.declared.Task.TheVariants.{Command}
 use Rattle.driver_machine.specs.declared.Phase.{Phase}
 use Rattle.driver_machine.specs.declared.Phase.TheVariants.{Queued, Due}
 use Rattle.driver_machine.specs.World.{World, UnitView, AdapterView, Held, adapter_of, unit_at, adapter_at, slot_at, held_in, slot_in_hand, no_unit, no_held, new_adapter_view}
 use Rattle.driver_machine.specs.Acts as deed
 use Rattle.driver_machine.specs.Acts.{Act, Of, Deed, Scene, effect, scene_of, with_scene, after}
 use Rattle.driver_machine.specs.Due.{next_of, next_by}
+use Rattle.driver_machine.specs.Free.{needs_free, IsFree}
 use Rattle.driver_machine.specs.Guards.{InHand, May, Allowed}
 use Rattle.driver_machine.specs.Sound.{Sound, IsOutstanding, WorkOf}
 use Rattle.driver_machine.specs.DueFacts.{IsDue}
@@ -30,16 +31,6 @@ one_in (Some h) = one_by h.ended
 
 abbrev pub outstanding : World → ℕ
 outstanding w = sum_by one_in w.slots
-
--- WHERE A TRANSFER COMMAND MAY COME AT ONCE the adapter is free.
-abbrev pub needs_free : Phase → Bool
-needs_free (Due (Clear moved last)) = true
-needs_free (Due (Judge moved last)) = true
-needs_free (Due Command) = true
-needs_free phase = false
-
-abbrev pub IsFree : UnitView → AdapterView → Type 0
-IsFree v a = needs_free v.phase ≡ true → a.state.busy ≡ false
 
 -- all other units than one are at work, and all other adapters than its own
 pub record OthersWork (w : World) (u : ℕ) : Type 0 where

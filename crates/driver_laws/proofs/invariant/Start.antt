@@ -21,7 +21,8 @@ use Rattle.driver_machine.proofs.DueFacts.{either, false_true}
 use Rattle.driver_machine.proofs.Until.{resting, until_none}
 use Rattle.driver_machine.specs.Runs.{SoundAfter}
 use Rattle.driver_laws.proofs.invariant.Leads.{Leads, nothing, one_more, then_part, so_too}
-use Rattle.driver_laws.proofs.invariant.Deeds.{IsFree, needs_free, one_by, one_in, Doing, Done, deed_at, outstanding, ended_by, fewer, deed_done, head_of, slot_there}
+use Rattle.driver_machine.specs.Free.{needs_free, IsFree}
+use Rattle.driver_laws.proofs.invariant.Deeds.{one_by, one_in, Doing, Done, deed_at, outstanding, ended_by, fewer, deed_done, head_of, slot_there}
 use Rattle.driver_laws.proofs.invariant.Due.{UnitsWork, Rests, rests, begun_one, begun_leads}
 
 -- THE DEEDS that an adapter takes a unit with: the command, PACK in front of it, or an end

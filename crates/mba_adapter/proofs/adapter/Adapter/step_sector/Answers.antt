@@ -1,5 +1,6 @@
-use Rattle.std.proofs.Common.{◌≡◌, ℕ, ◌+◌, ◌<◌, true, false, List, rules, refl, sym, ap, ◌∙◌, subst}
+use Rattle.std.proofs.Common.{◌≡◌, ℕ, ◌+◌, ◌<◌, List, rules, refl, sym, ap, ◌∙◌, subst}
 use Rattle.main_memory.specs.declared.span.Span.{Span}
+use Rattle.std.proofs.lemmas.Bool.{false≢true}
 use Rattle.std.proofs.lemmas.Result.{IfOk-from_err}
 use Rattle.main_memory.specs.Memory.{Memory}
 use Rattle.main_memory.specs.Windows.{memory_of}
@@ -17,9 +18,6 @@ use Rattle.mba_adapter.proofs.WindowLaws.{same_span, shown, memory_after, ended,
 use Rattle.mba_adapter.proofs.WorkLaws.{still_transferring}
 use Rattle.mba_adapter.proofs.adapter.Adapter.step_sector.Goals as goal
 use Rattle.mba_adapter.proofs.adapter.Adapter.step_sector.Goals.{then-self, else-self}
-
-not_ok : false ≡ true → ⊥
-not_ok e = cc
 
 pub returns-in_err-verdict-clause-moves : goal.returns-in_err-verdict-clause-moves
 returns-in_err-verdict-clause-moves g c = IfOk-from_err _ _ c.from_residual.ensures.0
@@ -93,7 +91,7 @@ pub take-requires : goal.take-requires
 take-requires g c = record { busy = c.requires.may.is.busy; under_way = c.requires.may.is.going_on }
 
 pub returns-in_err-verdict-clause-stopped : goal.returns-in_err-verdict-clause-stopped
-returns-in_err-verdict-clause-stopped g c = λ some. absurd (not_ok (c.in_err-verdict.ensures.stopped some).0)
+returns-in_err-verdict-clause-stopped g c = λ some. absurd (false≢true (c.in_err-verdict.ensures.stopped some).0)
 
 pub move_sector-requires : goal.move_sector-requires
 move_sector-requires g c = record {
