@@ -10,11 +10,10 @@
 //! Only tested, in `drive_rows`: worked values, beside their proofs.
 #![tactic(auto)]
 
-pub mod sector_format;
-
 mod book;
 mod drive;
 mod laws;
+pub mod sector_format;
 
 pub use book::NoiseBook;
 pub use drive::Drive;

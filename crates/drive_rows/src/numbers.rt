@@ -2,6 +2,7 @@
 use Admission::{Eof, Inside, Outside};
 use DriveKind::{Rm03, Rm05, Rp06};
 use NumberFault::{Digit, Empty, Large};
+use drive_model::sector_format::{HeaderFault, header_fault, header_of};
 use drive_registers::{RM03_TYPE, RM05_TYPE, RP06_TYPE};
 use fire_code::{
     Check, Noise, NoiseClass, Verdict, apply, class_of, encode, judge, judge_noise, plain, syndrome,
@@ -9,7 +10,6 @@ use fire_code::{
 use mass_text::{NumberFault, Radix, number};
 use pack_geometry::DriveKind;
 use partitions::{Admission, Part, admit};
-use drive_model::sector_format::{HeaderFault, header_fault, header_of};
 
 // Whether 511 zeros and this byte have this check, by the tables and by the plain program.
 fn has_check(last: u8, check: u32) -> bool {

@@ -27,9 +27,9 @@ use hardware_table::{FaultKind, Register, status_law};
 use hp_interrupts::{DataCause, Sensed, TransferRegs, data_interrupt, needs_pack, sense};
 use outside_traits::traits::NoMemory;
 use pack_geometry::{DriveKind, Place};
-use trace_replay::seek_engine::{Position, decide};
 use std::alloc::Global;
 use std::marker::Model;
+use trace_replay::seek_engine::{Position, decide};
 use transfer_engine::{Segment, Transfer};
 
 /// How many slots there can be. All of them can wait at one unit.

@@ -11,8 +11,8 @@
 #![tactic(auto)]
 
 pub mod requests;
-pub mod seek_engine;
 pub mod retry_offsets;
+pub mod seek_engine;
 
 ghost use Rattle.trace_replay.specs.Rules.{KeepsEach, FollowOn};
 ghost use Rattle.trace_replay.specs.Bytes.{ReadsAsTold, RepairsBursts};

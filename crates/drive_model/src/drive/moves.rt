@@ -14,6 +14,7 @@ ghost use Rattle.fire_code.specs.Verdict.{Judges};
 
 use crate::book::NoiseBook;
 use crate::drive::Drive;
+use crate::sector_format::{HeaderFault, header_fault, header_of};
 use bitflags::Flags;
 use drive_registers::{Er1, Er2};
 use fire_code::{Check, Verdict, apply, data_law, judge_noise};
@@ -22,7 +23,6 @@ use live_noise::Live;
 use main_memory::Window;
 use outside_traits::traits::{Packs, StoreFailed};
 use pack_geometry::{DriveKind, blocks, geometry_of, place_of, sector_word};
-use crate::sector_format::{HeaderFault, header_fault, header_of};
 
 // The verdict on a read that noise has struck.
 fn moved_by(verdict: Verdict) -> Moved
