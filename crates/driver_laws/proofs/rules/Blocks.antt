@@ -2,7 +2,7 @@
 use Rattle.std.proofs.Common.{◌==◌, ◌≡◌, ◌≢◌, ℕ, zero, suc, ◌≤◌, ◌+◌, ◌-◌, ◌*◌, ◌&&◌, nat_le, nat_lt, Bool, true, false, List, [], ◌∷◌, ◌++◌, length, take, drop, replicate, Option, None, Some, refl, ap, arith, length-append, ◌<◌, ◌∙◌}
 use Rattle.std.specs.Prelude.{is_some, if◌then◌else◌}
 use Rattle.std.proofs.lemmas.Bool.Decides.{nat_tests}
-use Rattle.std.proofs.lemmas.Bool.{eq-eqb, ne_eqb}
+use Rattle.std.proofs.lemmas.Bool.{eq-eqb, ne_eqb, true≢false}
 use Rattle.std.proofs.lemmas.List.{length-take-le, length-replicate}
 use Rattle.trace_replay.specs.requests.Requests.{Request}
 use Rattle.trace_replay.specs.Packs.{size_of_block, sector_of_block, bytes_of_write, read_as, repaired_from}
@@ -57,10 +57,7 @@ next_bytes n blocks first r = ap (λ k. bytes_of_first k blocks first r) (more n
 -- ---- options
 pub not_written : (w : Option (List ℕ)) → is_some w ≡ false → w ≡ None
 not_written None is = refl
-not_written (Some bytes) is = absurd (none is)
-  where
-    none : true ≡ false → ⊥
-    none e = cc
+not_written (Some bytes) is = absurd (true≢false is)
 
 pub reads_so : (w : Option (List ℕ)) → w ≡ None → is_some w ≡ false
 reads_so w is = ap is_some is

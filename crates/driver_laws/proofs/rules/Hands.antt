@@ -1,6 +1,7 @@
 -- The request in hand stands for blocks of the map: as it begins, as a block more is done, and as it ends.
-use Rattle.std.proofs.Common.{◌≡◌, ◌≢◌, inl, inr, ℕ, ◌<◌, ◌+◌, true, false, List, ◌++◌, take, Option, None, Some, refl, sym, ap, ◌∙◌, subst, arith, suc, length, length-append}
+use Rattle.std.proofs.Common.{◌≡◌, ◌≢◌, inl, inr, ℕ, ◌<◌, ◌+◌, true, List, ◌++◌, take, Option, None, Some, refl, sym, ap, ◌∙◌, subst, arith, suc, length, length-append}
 use Rattle.std.specs.Prelude.{is_some, IsSome}
+use Rattle.std.proofs.lemmas.Bool.{true≢false}
 use Rattle.std.proofs.lemmas.Bool.Decides.{eqb_tells}
 use Rattle.trace_replay.specs.requests.Requests.{Request}
 use Rattle.trace_replay.specs.Packs.{size_of_block, sector_of_block}
@@ -67,13 +68,10 @@ pub written_more : (sure : ℕ → Type 0) (homes : ℕ → Option ℕ) (first :
 written_more sure homes first r p q sectors new blocks sector apart done writes home here there h = record {
   contents = λ b. contents b ∙ ap (λ n. blocks_done blocks first r n b) (sym done);
   usable = λ k lt. one_more (λ j. IsSome (blocks (first + j))) p.done k (subst (λ n. k < n) done lt) h.usable (ap is_some (at_home sure homes first r p sectors blocks sector h home));
-  size = λ reads. absurd (both (sym writes ∙ reads_so r.written reads));
-  read = λ reads is_sure. absurd (both (sym writes ∙ reads_so r.written reads));
+  size = λ reads. absurd (true≢false (sym writes ∙ reads_so r.written reads));
+  read = λ reads is_sure. absurd (true≢false (sym writes ∙ reads_so r.written reads));
 }
   where
-    both : true ≡ false → ⊥
-    both e = cc
-
     contents : (b : ℕ) → held_at new (homes b) ≡ blocks_done blocks first r (p.done + 1) b
     contents b = elim (eqb_tells b (first + p.done)) [
       | inl same ↦ subst (λ z. held_at new (homes z) ≡ blocks_done blocks first r (p.done + 1) z) (sym same.1)

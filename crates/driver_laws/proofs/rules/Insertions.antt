@@ -2,6 +2,7 @@
 use Rattle.std.proofs.Common.{◌≡◌, inl, inr, ℕ, ◌-◌, ◌==◌, ◌&&◌, Bool, true, false, List, [], ◌∷◌, ◌++◌, take, Option, None, Some, refl, sym, ap, ◌∙◌, subst}
 use Rattle.std.specs.Prelude.{if◌then◌else◌, IsSome}
 use Rattle.std.specs.List.{AllByRecursion}
+use Rattle.std.proofs.lemmas.Bool.{true≢false}
 use Rattle.std.proofs.lemmas.Option.{none-some}
 use Rattle.driver_laws.specs.rules.Requests.{Map, writes, behind_one, behind}
 use Rattle.driver_laws.proofs.rules.Requested.{read_same, behind_more}
@@ -117,9 +118,6 @@ module _ (map : Map) (unit block : ℕ) (from : List ℕ) (s : State) (is : IsCa
     through_fit : AllFit (behind_one Made (writes unit block from)) (with_room s).entries
     through_fit = keeps_fit Made Own (with_room s).entries (away (with_room s).entries (none_misses unit block (with_room s).entries (room.none unit block none))) room.kept_fit
 
-  true_false : true ≡ false → ⊥
-  true_false e = cc
-
   hit_usable : (e : Entry) → entry_of unit block s.entries ≡ Some e → IsSome (map unit block)
   hit_usable e some =
       let key : IsKey unit block e = is_key unit block e (found_key unit block s.entries e some) in
@@ -129,14 +127,14 @@ module _ (map : Map) (unit block : ℕ) (from : List ℕ) (s : State) (is : IsCa
       → Takes map (behind map (write_found held refuses s unit block from).asked) unit block done from s.entries (write_found held refuses s unit block from).state.entries
   takes_in None refuses true none held given = absurd (none-some from (sym given))
   takes_in None refuses false none held given = subst (λ z. Takes map z unit block false from s.entries s.entries) (sym (read_same map unit block))
-      (record { usable = λ e. absurd (true_false (sym e)); unusable = λ e. sym held; contents = λ u b. refl; fit = fit })
+      (record { usable = λ e. absurd (true≢false (sym e)); unusable = λ e. sym held; contents = λ u b. refl; fit = fit })
   takes_in (Some bytes) refuses false none held given = absurd (none-some from given)
   takes_in (Some bytes) true true none held given =
       subst (λ z. Takes map z unit block true from s.entries (with_room s).entries)
       (sym (ap (λ z. behind z (write_backs (to_write_back s) ++ writes unit block from ∷ [])) (read_same map unit block) ∙ behind_more map (write_backs (to_write_back s)) (writes unit block from ∷ [])))
       (record {
         usable = λ e. some_is (map unit block) (sym held);
-        unusable = λ e. absurd (true_false e);
+        unusable = λ e. absurd (true≢false e);
         contents = through_contents none (some_is (map unit block) (sym held));
         fit = through_fit none (some_is (map unit block) (sym held));
       })
@@ -145,12 +143,12 @@ module _ (map : Map) (unit block : ℕ) (from : List ℕ) (s : State) (is : IsCa
       (sym (ap (λ z. behind z (write_backs (to_write_back s) ++ [])) (read_same map unit block) ∙ behind_more map (write_backs (to_write_back s)) []))
       (record {
         usable = λ e. some_is (map unit block) (sym held);
-        unusable = λ e. absurd (true_false e);
+        unusable = λ e. absurd (true≢false e);
         contents = λ u b. elim (tells u b Own) [
           | inl key ↦ new_own map unit block s is fit Made (with_room s).entries (room none (some_is (map unit block) (sym held))) none from true u b key ∙ sym (taken_own u b key)
           | inr not ↦ new_other map unit block s is fit Made (with_room s).entries (room none (some_is (map unit block) (sym held))) none from true u b not ∙ sym (taken_other u b not)
         ];
-        fit = new_fit map unit block s is fit Made (with_room s).entries (room none (some_is (map unit block) (sym held))) none from true (some_is (map unit block) (sym held)) (λ e. absurd (true_false e));
+        fit = new_fit map unit block s is fit Made (with_room s).entries (room none (some_is (map unit block) (sym held))) none from true (some_is (map unit block) (sym held)) (λ e. absurd (true≢false e));
       })
 
   pub takes_of : (held : Option (List ℕ)) (refuses done : Bool) → (entry_of unit block s.entries ≡ None → held ≡ map unit block) → (if done then Some from else None) ≡ (write_done held refuses s unit block from).given
@@ -167,7 +165,7 @@ module _ (map : Map) (unit block : ℕ) (from : List ℕ) (s : State) (is : IsCa
           hit e some false given = absurd (none-some from given)
           hit e some true given = subst (λ z. Takes map map unit block true from s.entries (in_front (rewritten from z) s.entries)) (sym some) (record {
             usable = λ x. hit_usable e some;
-            unusable = λ x. absurd (true_false x);
+            unusable = λ x. absurd (true≢false x);
             contents = change_contents map unit block from s.entries e some;
             fit = change_fit map unit block from s.entries e some fit;
           })

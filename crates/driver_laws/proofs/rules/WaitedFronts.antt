@@ -1,6 +1,7 @@
 -- A block that is an entry comes to the front.
-use Rattle.std.proofs.Common.{◌≡◌, inl, inr, ℕ, ◌==◌, ◌&&◌, true, false, List, Option, None, Some, refl, sym, ap, ◌∙◌, subst}
+use Rattle.std.proofs.Common.{◌≡◌, inl, inr, ℕ, ◌==◌, ◌&&◌, true, List, Option, None, Some, refl, sym, ap, ◌∙◌, subst}
 use Rattle.std.specs.Prelude.{if◌then◌else◌}
+use Rattle.std.proofs.lemmas.Bool.{true≢false}
 use Rattle.driver_laws.specs.rules.Requests.{Map}
 use Rattle.driver_laws.specs.declared.rules.cached.Entry.{Entry}
 use Rattle.driver_laws.specs.rules.Entries.{is_of, entry_of, others, in_front, rewritten}
@@ -49,9 +50,6 @@ change_contents map unit block from entries e is u b = elim (tells u b e) [
 pub change_fit : (map : Map) (unit block : ℕ) (from : List ℕ) (entries : List Entry) (e : Entry) → entry_of unit block entries ≡ Some e → AllFit map entries
     → AllFit map (in_front (rewritten from (Some e)) entries)
 change_fit map unit block from entries e is all = (
-  record { usable = (found_all (Fits map) unit block entries e all is).usable; same = λ never. absurd (no never) },
+  record { usable = (found_all (Fits map) unit block entries e all is).usable; same = λ never. absurd (true≢false never) },
   others_all (Fits map) e.unit e.block entries all,
 )
-  where
-    no : true ≡ false → ⊥
-    no never = cc
