@@ -15,10 +15,6 @@ abbrev pub Run : World → List Act → Type 0
 Run w [] = Unit {0}
 Run w (act ∷ acts) = Allowed w act × Run (after w act) acts
 
--- an act that is allowed leaves what holds between any two acts
-abbrev pub SoundAfter : Type 0
-SoundAfter = (w : World) (act : Act) → Sound w → Allowed w act → Sound (after w act)
-
 -- acts of an event: they run, and behind the last one the driver is sound and at work
 pub record Works (w : World) (acts : List Act) : Type 0 where
   pub run : Run w acts

@@ -24,7 +24,8 @@ use Rattle.driver_machine.specs.Sound.{Sound, AtWork, WorkOf, IsPhase, is_waitin
 use Rattle.driver_machine.proofs.DueFacts.{false_true}
 use Rattle.driver_machine.proofs.Frame.{other_unit, other_adapter}
 use Rattle.driver_machine.proofs.Until.{own_unit}
-use Rattle.driver_machine.specs.Runs.{SoundAfter, Works, MaySubmit, MayCome}
+use Rattle.driver_machine.specs.Runs.{Works, MaySubmit, MayCome}
+use Rattle.driver_laws.specs.invariant.InvariantKept.{EachActKeeps}
 use Rattle.driver_laws.proofs.invariant.Leads.{Leads, nothing, alone, then_part}
 use Rattle.driver_machine.specs.Free.{needs_free, IsFree}
 use Rattle.driver_laws.proofs.invariant.Deeds.{OthersWork, Doing, deed_at, scene_after, outstanding, deed_done, is_unit, in_hand_is, own_adapter}
@@ -76,7 +77,7 @@ join_free w line p h sound at less =
     λ needs. absurd (work_needs (unit_at w h.unit).phase (unit_at w h.unit).queue (at.units h.unit less)
     (sym (ap (λ (v : UnitView). needs_free v.phase) own) ∙ needs))
 
-join_doing : SoundAfter → (line p : ℕ) (h : Held) (w : World) → Sound w → AtWork w → Allowed w (Submit line p h)
+join_doing : EachActKeeps → (line p : ℕ) (h : Held) (w : World) → Sound w → AtWork w → Allowed w (Submit line p h)
     → Doing (Unit {0}) h.unit (outstanding (after w (Submit line p h))) (after w (Submit line p h))
 join_doing stays line p h w sound work allowed =
     record {
@@ -90,7 +91,7 @@ join_doing stays line p h w sound work allowed =
       few = least (outstanding (after w (Submit line p h)));
     }
 
-submit_works_by : SoundAfter → (refused : Option AnswerKind) (r : Request) (line p : ℕ) (h : Held) (w : World) → refusal_of r w ≡ refused
+submit_works_by : EachActKeeps → (refused : Option AnswerKind) (r : Request) (line p : ℕ) (h : Held) (w : World) → refusal_of r w ≡ refused
     → Sound w → AtWork w → MaySubmit w r p h → Works w (submit_by refused r line p h w)
 submit_works_by stays (Some kind) r line p h w is sound work may =
     works line (adapter_of r.unit) (outstanding w) w _ (eighth r.unit may.unit.unit)
@@ -118,7 +119,7 @@ submit_works_by stays None r line p h w is sound work may = joins (may.new is)
         (λ y. λ rests. start_leads stays (Unit {0}) line (adapter_of h.unit) (outstanding (after w (Submit line p h))) y
         (eighth h.unit new.unit.unit) rests)))
 
-pub submit_works : SoundAfter → (r : Request) (line p : ℕ) (h : Held) (w : World) → Sound w → AtWork w → MaySubmit w r p h
+pub submit_works : EachActKeeps → (r : Request) (line p : ℕ) (h : Held) (w : World) → Sound w → AtWork w → MaySubmit w r p h
     → Works w (submit_acts r line p h w)
 submit_works stays r line p h w sound work may = submit_works_by stays (refusal_of r w) r line p h w refl sound work may
 
@@ -168,7 +169,7 @@ same_work w u p s sound lt phase queue waits busy work = record {
         ap (λ (v : AdapterView). v.queue) (other_adapter w u p a s other)
         ∙ work.adapters a less (sym (ap (λ (v : AdapterView). v.state.busy) (other_adapter w u p a s other)) ∙ free)
 
-one_deed : SoundAfter → (line u : ℕ) (d : Deed) (w : World) → Sound w → AtWork w → u < 32 → 0 < length (unit_at w u).queue
+one_deed : EachActKeeps → (line u : ℕ) (d : Deed) (w : World) → Sound w → AtWork w → u < 32 → 0 < length (unit_at w u).queue
     → May u d (scene_of w u) → (AtWork w → AtWork (after w (deed_at line u d w))) → Works w (in_hand line u d w)
 one_deed stays line u d w sound work lt some may keeps =
     subst (Works w) (sym (in_hand_one line u d w some))
@@ -179,7 +180,7 @@ one_deed stays line u d w sound work lt some may keeps =
     })
 
 -- ARRIVE
-arrive_by : SoundAfter → (line u : ℕ) (queue : List Waiter) (w : World) → (unit_at w u).queue ≡ queue → Sound w → AtWork w
+arrive_by : EachActKeeps → (line u : ℕ) (queue : List Waiter) (w : World) → (unit_at w u).queue ≡ queue → Sound w → AtWork w
     → can_arrive (unit_at w u) ≡ true → Works w (in_hand line u deed.Arrive w)
 arrive_by stays line u [] w is sound work can =
     subst (Works w) (sym (ap (λ (q : List Waiter). in_hand_by q line u deed.Arrive w) is)) (no_acts w sound work)
@@ -249,7 +250,7 @@ busy_for w a done is busy completion =
     subst (λ (b : ℕ). IsBusyFor (adapter_at w b).state (drive_of (unit_of w a)) done) (sym is.its)
     (record { busy = busy; drive = is.drive; completion = completion })
 
-move_by : SoundAfter → (line a : ℕ) (tried : Tried) (w : World) → Sound w → AtWork w → can_move (adapter_at w a) ≡ true
+move_by : EachActKeeps → (line a : ℕ) (tried : Tried) (w : World) → Sound w → AtWork w → can_move (adapter_at w a) ≡ true
     → IsTried (unit_of w a) (next_block (adapter_at w a).state) tried (scene_of w (unit_of w a))
     → Works w (in_hand line (unit_of w a) (deed.Sector (next_block (adapter_at w a).state) tried) w)
 move_by stays line a tried w sound work can is =
@@ -269,7 +270,7 @@ others_of w a u its work = record {
   adapters = λ b less other. work.adapters b less (λ same. other (same ∙ sym its));
 }
 
-behind : SoundAfter → (line a u n : ℕ) (d : Deed) (w : World) → adapter_of u ≡ a → u < 32 → 0 < length (unit_at w u).queue
+behind : EachActKeeps → (line a u n : ℕ) (d : Deed) (w : World) → adapter_of u ≡ a → u < 32 → 0 < length (unit_at w u).queue
     → Rests (Unit {0}) a n w → May u d (scene_of w u) → IsFree (scene_after line u d w).unit (scene_after line u d w).adapter
     → Leads (Rests (Unit {0}) a n) w (begun line u d w)
 behind stays line a u n d w its lt some at may free =
@@ -285,7 +286,7 @@ pub was_busy : (b c : Bool) → (b ≡ false → c ≡ false) → c ≡ true →
 was_busy true c rest up = refl
 was_busy false c rest up = absurd (false_true (sym (rest refl) ∙ up))
 
-interrupt_by : SoundAfter → (line a n : ℕ) (up : Bool) (w : World) → a < 4 → (adapter_at w a).state.completion ≡ up → Rests (Unit {0}) a n w
+interrupt_by : EachActKeeps → (line a n : ℕ) (up : Bool) (w : World) → a < 4 → (adapter_at w a).state.completion ≡ up → Rests (Unit {0}) a n w
     → Leads (Rests (Unit {0}) a n) w
     (when_by up (begun line (unit_of w a) (deed.Intr (adapter_at w a).state.moved (adapter_at w a).state.verdict)) w)
 interrupt_by stays line a n false w four is at = nothing (Rests (Unit {0}) a n) w at
@@ -308,7 +309,7 @@ attn_phase u (Due task) v a h is work up = absurd work
 attn_phase u (Positioning taken) v a h is work up = refl
 attn_phase u other v a h is work up = absurd (false_true (sym is.1.attention ∙ up))
 
-attention_by : SoundAfter → (line a n k : ℕ) (up : Bool) (w : World) → a < 4 → k < 8 → (unit_at w (unit_on a k)).drive.attention ≡ up
+attention_by : EachActKeeps → (line a n k : ℕ) (up : Bool) (w : World) → a < 4 → k < 8 → (unit_at w (unit_on a k)).drive.attention ≡ up
     → Rests (Unit {0}) a n w
     → Leads (Rests (Unit {0}) a n) w
     (when_by up (begun line (unit_on a k) (deed.Attn (steps_taken (unit_at w (unit_on a k)).phase))) w)
@@ -332,7 +333,7 @@ AreDrives : List ℕ → Type 0
 AreDrives [] = Unit {0}
 AreDrives (k ∷ ks) = (k < 8) × AreDrives ks
 
-attentions : SoundAfter → (line a n : ℕ) (ks : List ℕ) (w : World) → a < 4 → AreDrives ks → Rests (Unit {0}) a n w
+attentions : EachActKeeps → (line a n : ℕ) (ks : List ℕ) (w : World) → a < 4 → AreDrives ks → Rests (Unit {0}) a n w
     → Leads (Rests (Unit {0}) a n) w (each (attention line a) ks w)
 unfolding AreDrives
 attentions stays line a n [] w four small at = nothing (Rests (Unit {0}) a n) w at
@@ -347,7 +348,7 @@ eight_drives =
     (omega arith, (omega arith, (omega arith, (omega arith, (omega arith, (omega arith, (omega arith, (omega arith, tt))))))))
 
 -- and adapter start
-attended_leads : SoundAfter → (line a n : ℕ) (w : World) → a < 4 → Rests (Unit {0}) a n w
+attended_leads : EachActKeeps → (line a n : ℕ) (w : World) → a < 4 → Rests (Unit {0}) a n w
     → Leads (IsOver (Unit {0}) line a n) w (attended line a w)
 attended_leads stays line a n w four at =
     then_part (Rests (Unit {0}) a n) (IsOver (Unit {0}) line a n) w (data_interrupt line a w)
@@ -357,7 +358,7 @@ attended_leads stays line a n w four at =
     (attentions stays line a n drives x four eight_drives now)
     (λ y. λ then. start_leads stays (Unit {0}) line a n y four then))
 
-attend_by : SoundAfter → (line a : ℕ) (w : World) → Sound w → AtWork w → can_attend (adapter_at w a) ≡ true → Works w (attended line a w)
+attend_by : EachActKeeps → (line a : ℕ) (w : World) → Sound w → AtWork w → can_attend (adapter_at w a) ≡ true → Works w (attended line a w)
 attend_by stays line a w sound work can =
     of_four (is_adapter w a sound (λ e. false_true (sym (ap can_attend e) ∙ can)))
   where
@@ -390,7 +391,7 @@ changed_work (script.SetOnline u on) w sound work may = drive_work u (online_set
 changed_work (script.SetLocked u on) w sound work may = drive_work u (locked_set on) w sound may.unit work
 changed_work input w sound work may = absurd may
 
-change : SoundAfter → (input : Input) (w : World) → Sound w → AtWork w → MayChange w input → Works w (Change input ∷ [])
+change : EachActKeeps → (input : Input) (w : World) → Sound w → AtWork w → MayChange w input → Works w (Change input ∷ [])
 change stays input w sound work may = record {
   run = (may, tt);
   sound = stays w (Change input) sound may;
@@ -398,7 +399,7 @@ change stays input w sound work may = record {
 }
 
 -- EACH INPUT
-pub event_works : SoundAfter → (line : ℕ) (input : Input) (tried : Tried) (w : World) → Sound w → AtWork w → MayCome w input tried
+pub event_works : EachActKeeps → (line : ℕ) (input : Input) (tried : Tried) (w : World) → Sound w → AtWork w → MayCome w input tried
     → Works w (event_acts line input tried w)
 event_works stays line (script.ArriveAt u) tried w sound work may =
     only_where (can_arrive (unit_at w u)) line (in_hand line u deed.Arrive) w sound work
@@ -413,7 +414,7 @@ event_works stays line script.Drain tried w sound work may = absurd may
 event_works stays line other tried w sound work may = change stays other w sound work may
 
 -- AN ANSWER IS TAKEN
-pub taken_works : SoundAfter → (w : World) → Sound w → AtWork w → 0 < length w.answers → Works w (Taken ∷ [])
+pub taken_works : EachActKeeps → (w : World) → Sound w → AtWork w → 0 < length w.answers → Works w (Taken ∷ [])
 taken_works stays w sound work some = record {
   run = (some, tt);
   sound = stays w Taken sound some;

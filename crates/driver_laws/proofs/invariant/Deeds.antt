@@ -18,7 +18,7 @@ use Rattle.driver_machine.specs.DueFacts.{IsDue}
 use Rattle.driver_machine.proofs.DueFacts.{due_facts, none_some, false_true}
 use Rattle.driver_machine.proofs.Frame.{other_unit, other_adapter}
 use Rattle.driver_machine.proofs.Until.{own_unit}
-use Rattle.driver_machine.specs.Runs.{SoundAfter}
+use Rattle.driver_laws.specs.invariant.InvariantKept.{EachActKeeps}
 
 -- HOW MANY REQUESTS ARE OUTSTANDING.
 abbrev pub one_by : Bool → ℕ
@@ -180,7 +180,7 @@ pub record Done (E : Type 0) (line u n : ℕ) (d : Deed) (w : World) : Type 0 wh
   pub adapter : adapter_at (after w (deed_at line u d w)) (adapter_of u) ≡ (scene_after line u d w).adapter
   pub doing : Doing E u n (after w (deed_at line u d w))
 
-pub deed_done : SoundAfter → (E : Type 0) (line u n : ℕ) (d : Deed) (w : World) → Sound w → u < 32 → 0 < length (unit_at w u).queue
+pub deed_done : EachActKeeps → (E : Type 0) (line u n : ℕ) (d : Deed) (w : World) → Sound w → u < 32 → 0 < length (unit_at w u).queue
     → May u d (scene_of w u) → IsFree (scene_after line u d w).unit (scene_after line u d w).adapter → (E → OthersWork w u)
     → outstanding w ≤ n + ended_by d → Done E line u n d w
 deed_done stays E line u n d w sound lt some may free others few =
@@ -207,7 +207,7 @@ deed_done stays E line u n d w sound lt some may free others few =
     numbers new old ended n falls few = omega (arith, falls, few)
 
 -- one that is due
-pub due_done : SoundAfter → (E : Type 0) (line u n : ℕ) (d : Deed) (w : World) → u < 32 → 0 < length (unit_at w u).queue
+pub due_done : EachActKeeps → (E : Type 0) (line u n : ℕ) (d : Deed) (w : World) → u < 32 → 0 < length (unit_at w u).queue
     → next_of (unit_at w u) (held_in w (slot_in_hand (unit_at w u))) ≡ Some d → Doing E u n w → Done E line u n d w
 due_done stays E line u n d w lt some next doing =
     deed_done stays E line u n d w doing.sound lt some (may_come u d (scene_of w u) next doing.free)

@@ -10,7 +10,7 @@ use Rattle.driver_machine.specs.Due.{next_of, next_by}
 use Rattle.driver_machine.specs.Events.{followed, go_on, until, in_hand, in_hand_by, due_by, next_acts, due_acts, begun}
 use Rattle.driver_machine.specs.Sound.{Sound, WorkOf, is_waiting}
 use Rattle.driver_machine.proofs.Until.{IsNext, next_cases, due_over}
-use Rattle.driver_machine.specs.Runs.{SoundAfter}
+use Rattle.driver_laws.specs.invariant.InvariantKept.{EachActKeeps}
 use Rattle.driver_laws.proofs.invariant.Leads.{Leads, nothing, one_more, so_too}
 use Rattle.driver_laws.proofs.invariant.Deeds.{OthersWork, Doing, Done, deed_at, outstanding, due_done}
 
@@ -24,7 +24,7 @@ in_hand_one line u d w some = by_queue (unit_at w u).queue refl some
         ap (λ (l : List Waiter). Of line u (held_in w (slice_index_or l 0 (record { number = 0; cylinder = 0 })).number).id d ∷ []) (sym is)
 
 -- EACH DEED THAT IS DUE, one behind another
-due_turn : SoundAfter → (E : Type 0) (line u n fuel : ℕ) (w : World) → u < 32 → Doing E u n w
+due_turn : EachActKeeps → (E : Type 0) (line u n fuel : ℕ) (w : World) → u < 32 → Doing E u n w
     → ((x : World) → Doing E u n x → Leads (Doing E u n) x (until fuel (next_acts line u) x))
     → ((next_acts line u w ≡ []) ⊎ IsNext w line u (next_acts line u w))
     → Leads (Doing E u n) w (go_on (next_acts line u w) (until fuel (next_acts line u)) w)
@@ -38,7 +38,7 @@ due_turn stays E line u n fuel w lt doing later (inr is) =
     (one_more (Doing E u n) w (deed_at line u is.deed w) (until fuel (next_acts line u) (after w (deed_at line u is.deed w))) done.allowed
     (later (after w (deed_at line u is.deed w)) done.doing))
 
-due_turns : SoundAfter → (E : Type 0) (line u n fuel : ℕ) (w : World) → u < 32 → Doing E u n w
+due_turns : EachActKeeps → (E : Type 0) (line u n fuel : ℕ) (w : World) → u < 32 → Doing E u n w
     → Leads (Doing E u n) w (until fuel (next_acts line u) w)
 due_turns stays E line u n zero w lt doing = nothing (Doing E u n) w doing
 due_turns stays E line u n (suc fuel) w lt doing =
@@ -86,7 +86,7 @@ rests E line u n w lt doing none = record {
     by others x less (inr other) = others.units x less other
 
 -- WHAT IS DUE AT A UNIT
-pub due_leads : SoundAfter → (E : Type 0) (line u n : ℕ) (w : World) → u < 32 → Doing E u n w
+pub due_leads : EachActKeeps → (E : Type 0) (line u n : ℕ) (w : World) → u < 32 → Doing E u n w
     → Leads (Rests E (adapter_of u) n) w (due_acts line u w)
 due_leads stays E line u n w lt doing =
     so_too (Doing E u n) (Rests E (adapter_of u) n) w (due_acts line u w)
@@ -99,7 +99,7 @@ pub begun_one : (line u : ℕ) (d : Deed) (w : World) → 0 < length (unit_at w 
     → begun line u d w ≡ deed_at line u d w ∷ due_acts line u (after w (deed_at line u d w))
 begun_one line u d w some = ap (λ (acts : List Act). followed acts (due_acts line u) w) (in_hand_one line u d w some)
 
-pub begun_leads : SoundAfter → (E : Type 0) (line u n : ℕ) (d : Deed) (w : World) → u < 32 → 0 < length (unit_at w u).queue
+pub begun_leads : EachActKeeps → (E : Type 0) (line u n : ℕ) (d : Deed) (w : World) → u < 32 → 0 < length (unit_at w u).queue
     → Done E line u n d w → Leads (Rests E (adapter_of u) n) w (begun line u d w)
 begun_leads stays E line u n d w lt some done =
     subst (Leads (Rests E (adapter_of u) n) w) (sym (begun_one line u d w some))

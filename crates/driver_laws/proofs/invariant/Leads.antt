@@ -5,7 +5,8 @@ use Rattle.driver_machine.specs.Acts.{Act, after, after_all}
 use Rattle.driver_machine.specs.Events.{Part, followed}
 use Rattle.driver_machine.specs.Guards.{Allowed}
 use Rattle.driver_machine.specs.Sound.{Sound}
-use Rattle.driver_machine.specs.Runs.{Run, SoundAfter}
+use Rattle.driver_machine.specs.Runs.{Run}
+use Rattle.driver_laws.specs.invariant.InvariantKept.{EachActKeeps}
 
 -- the acts run, and P holds of the world behind them
 pub record Leads (P : World → Type 0) (w : World) (acts : List Act) : Type 0 where
@@ -44,7 +45,7 @@ run_split w (x ∷ xs) ys run =
     ((run.0, rest.0), rest.1)
 
 -- what holds between any two acts holds all along a run
-pub sound_along : SoundAfter → (w : World) (acts : List Act) → Sound w → Run w acts → Sound (after_all w acts)
+pub sound_along : EachActKeeps → (w : World) (acts : List Act) → Sound w → Run w acts → Sound (after_all w acts)
 sound_along stays w [] sound run = sound
 sound_along stays w (act ∷ acts) sound run = sound_along stays (after w act) acts (stays w act sound run.0) run.1
 

@@ -1,13 +1,11 @@
 -- Each act keeps what holds of the driver, from its parts.
-use Rattle.driver_laws.specs.invariant.Passes.{World}
-use Rattle.driver_laws.specs.invariant.Passes.{Act, after}
-use Rattle.driver_laws.specs.invariant.Passes.{Allowed}
-use Rattle.driver_laws.specs.invariant.Passes.{Sound}
+use Rattle.driver_laws.specs.invariant.Passes.{after}
+use Rattle.driver_laws.specs.invariant.InvariantKept.{EachActKeeps}
 use Rattle.driver_laws.proofs.invariant.EachAct.{Keeps, act_keeps}
 use Rattle.driver_laws.proofs.invariant.SlotsEachAct.{queues_after, slots_after, frames_after, answers_after}
 use Rattle.driver_laws.proofs.invariant.SlotsWhole.{sound_from}
 
-pub sound_after : (w : World) (act : Act) → Sound w → Allowed w act → Sound (after w act)
+pub sound_after : EachActKeeps
 sound_after w act s may =
     let keeps : Keeps (after w act) = act_keeps w act s may in
     sound_from (after w act) (λ u lt. queues_after w act u s may lt) (slots_after w act s may) (frames_after w act s may) (answers_after w act s may)

@@ -19,7 +19,7 @@ use Rattle.driver_machine.proofs.Measure.{is_resting}
 use Rattle.driver_machine.specs.Sound.{Sound, Among, is_waiting}
 use Rattle.driver_machine.proofs.DueFacts.{either, false_true}
 use Rattle.driver_machine.proofs.Until.{resting, until_none}
-use Rattle.driver_machine.specs.Runs.{SoundAfter}
+use Rattle.driver_laws.specs.invariant.InvariantKept.{EachActKeeps}
 use Rattle.driver_laws.proofs.invariant.Leads.{Leads, nothing, one_more, then_part, so_too}
 use Rattle.driver_machine.specs.Free.{needs_free, IsFree}
 use Rattle.driver_laws.proofs.invariant.Deeds.{one_by, one_in, Doing, Done, deed_at, outstanding, ended_by, fewer, deed_done, head_of, slot_there}
@@ -71,7 +71,7 @@ turn_of w u = command_of (unit_at w u) (held_in w (slot_in_hand (unit_at w u)))
 some_asked : (w : World) (u : ℕ) → Sound w → u < 32 → (unit_at w u).phase ≡ Queued → 0 < length (unit_at w u).queue
 some_asked w u sound lt queued = (sound.each_unit u lt).head (ap is_waiting queued)
 
-turn_done : SoundAfter → (E : Type 0) (line u n : ℕ) (rest : List ℕ) (d : Deed) (w : World) → IsFirst E u rest w → turn_of w u ≡ d
+turn_done : EachActKeeps → (E : Type 0) (line u n : ℕ) (rest : List ℕ) (d : Deed) (w : World) → IsFirst E u rest w → turn_of w u ≡ d
     → outstanding w ≤ n + ended_by d → Done E line u n d w
 turn_done stays E line u n rest d w first is few =
     let turn : IsTurn (unit_at w u) (held_in w (slot_in_hand (unit_at w u))) d =
@@ -120,7 +120,7 @@ quiet_turn line u d w some quiet =
     (resting (after w (deed_at line u d w)) line u quiet))
 
 -- THE COMMAND is the last turn
-last_turn : SoundAfter → (E : Type 0) (line u n fuel : ℕ) (rest : List ℕ) (write : Bool) (segment : _) (w : World) → IsFirst E u rest w
+last_turn : EachActKeeps → (E : Type 0) (line u n fuel : ℕ) (rest : List ℕ) (write : Bool) (segment : _) (w : World) → IsFirst E u rest w
     → turn_of w u ≡ deed.Move write segment → outstanding w ≤ n
     → Leads (IsOver E line (adapter_of u) n) w (until (suc fuel) (choose_acts line (adapter_of u)) w)
 last_turn stays E line u n fuel rest write segment w first is few =
@@ -156,7 +156,7 @@ sensed_goes writes v command on free valid =
     ∙ ap (λ (b : Bool). if b then failed cause.Locked 0 v else if v.drive.valid then command else deed.Pack) free
     ∙ ap (λ (b : Bool). if b then command else deed.Pack) valid
 
-pack_turn : SoundAfter → (E : Type 0) (line u n fuel : ℕ) (rest : List ℕ) (w : World) → IsFirst E u rest w
+pack_turn : EachActKeeps → (E : Type 0) (line u n fuel : ℕ) (rest : List ℕ) (w : World) → IsFirst E u rest w
     → turn_of w u ≡ deed.Pack → IsTurn (unit_at w u) (held_in w (slot_in_hand (unit_at w u))) deed.Pack → outstanding w ≤ n
     → Leads (IsOver E line (adapter_of u) n) w (until (suc (suc fuel)) (choose_acts line (adapter_of u)) w)
 pack_turn stays E line u n fuel rest w first is turn few =
@@ -203,7 +203,7 @@ pack_turn stays E line u n fuel rest w first is turn few =
 go_on_some : (acts : List Act) (act : Act) (rest : List Act) (again : Part) (w : World) → acts ≡ act ∷ rest → go_on acts again w ≡ followed acts again w
 go_on_some acts act rest again w is = subst (λ (l : List Act). go_on l again w ≡ followed l again w) (sym is) refl
 
-end_turn : SoundAfter → (E : Type 0) (line u n m fuel : ℕ) (rest : List ℕ) (kind : _) (w : World) → IsFirst E u rest w
+end_turn : EachActKeeps → (E : Type 0) (line u n m fuel : ℕ) (rest : List ℕ) (kind : _) (w : World) → IsFirst E u rest w
     → turn_of w u ≡ deed.End kind → outstanding w ≤ m + 1
     → ((x : World) → Rests E (adapter_of u) m x → Leads (IsOver E line (adapter_of u) n) x (until fuel (choose_acts line (adapter_of u)) x))
     → Leads (IsOver E line (adapter_of u) n) w (until (suc fuel) (choose_acts line (adapter_of u)) w)
@@ -218,7 +218,7 @@ end_turn stays E line u n m fuel rest kind w first is few later =
     (until fuel (choose_acts line (adapter_of u))) (begun_leads stays E line u m (deed.End kind) w first.unit some done) later))
 
 -- ALL TURNS
-turn_by : SoundAfter → (E : Type 0) (line u n fuel : ℕ) (rest : List ℕ) (d : Deed) (w : World) → IsFirst E u rest w → turn_of w u ≡ d
+turn_by : EachActKeeps → (E : Type 0) (line u n fuel : ℕ) (rest : List ℕ) (d : Deed) (w : World) → IsFirst E u rest w → turn_of w u ≡ d
     → IsTurn (unit_at w u) (held_in w (slot_in_hand (unit_at w u))) d → outstanding w ≤ n → outstanding w + 2 ≤ suc fuel
     → ((x : World) → Rests E (adapter_of u) n x → outstanding x + 2 ≤ fuel
     → Leads (IsOver E line (adapter_of u) n) x (until fuel (choose_acts line (adapter_of u)) x))
@@ -245,7 +245,7 @@ turn_by stays E line u n fuel rest (deed.End kind) w first is turn few enough la
     left x y k fuel at falls enough = omega (arith, at, falls, enough)
 turn_by stays E line u n fuel rest other w first is turn few enough later = absurd turn
 
-turn : SoundAfter → (E : Type 0) (line a n fuel : ℕ) (busy : Bool) (queue : List ℕ) (w : World) → a < 4
+turn : EachActKeeps → (E : Type 0) (line a n fuel : ℕ) (busy : Bool) (queue : List ℕ) (w : World) → a < 4
     → (adapter_at w a).state.busy ≡ busy → (adapter_at w a).queue ≡ queue → Rests E a n w → outstanding w + 2 ≤ suc fuel
     → ((x : World) → Rests E a n x → outstanding x + 2 ≤ fuel → Leads (IsOver E line a n) x (until fuel (choose_acts line a) x))
     → Leads (IsOver E line a n) w (until (suc fuel) (choose_acts line a) w)
@@ -277,7 +277,7 @@ turn stays E line a n fuel false (u ∷ rest) w lt busy is at enough later =
         (subst (λ (b : ℕ). (x : World) → Rests E b n x → outstanding x + 2 ≤ fuel → Leads (IsOver E line b n) x (until fuel (choose_acts line b) x))
         (sym own) later))
 
-turns : SoundAfter → (E : Type 0) (line a n fuel : ℕ) (w : World) → a < 4 → Rests E a n w → outstanding w + 2 ≤ fuel
+turns : EachActKeeps → (E : Type 0) (line a n fuel : ℕ) (w : World) → a < 4 → Rests E a n w → outstanding w + 2 ≤ fuel
     → Leads (IsOver E line a n) w (until fuel (choose_acts line a) w)
 turns stays E line a n zero w lt at enough = absurd (grind (arith, enough))
 turns stays E line a n (suc fuel) w lt at enough =
@@ -319,7 +319,7 @@ most_out slots =
     numbers : (sum slots : ℕ) → sum ≤ slots * 1 → sum ≤ slots
     numbers sum slots few = omega (arith, few)
 
-pub start_leads : SoundAfter → (E : Type 0) (line a n : ℕ) (w : World) → a < 4 → Rests E a n w
+pub start_leads : EachActKeeps → (E : Type 0) (line a n : ℕ) (w : World) → a < 4 → Rests E a n w
     → Leads (IsOver E line a n) w (adapter_start line a w)
 start_leads stays E line a n w lt at =
     turns stays E line a n (2 + length w.slots) w lt at (numbers (outstanding w) (length w.slots) (most_out w.slots))
@@ -328,7 +328,7 @@ start_leads stays E line a n w lt at =
     numbers out slots most = omega (arith, most)
 
 -- whichever adapter: one that is none of the four has no unit that waits
-start_where : SoundAfter → (line a : ℕ) (w : World) → Sound w → (a < 4) ⊎ (4 ≤ a)
+start_where : EachActKeeps → (line a : ℕ) (w : World) → Sound w → (a < 4) ⊎ (4 ≤ a)
     → Leads (λ (x : World). choose_acts line a x ≡ []) w (adapter_start line a w)
 start_where stays line a w sound (inl four) =
     so_too (IsOver ⊥ line a (outstanding w)) (λ (x : World). choose_acts line a x ≡ []) w (adapter_start line a w)
@@ -344,7 +344,7 @@ start_where stays line a w sound (inr more) =
     subst (Leads (λ (x : World). choose_acts line a x ≡ []) w)
     (sym (until_stop (2 + length w.slots) (choose_acts line a) w none)) (nothing (λ (x : World). choose_acts line a x ≡ []) w none)
 
-pub start_is : SoundAfter → (line a : ℕ) (w : World) → Sound w → Leads (λ (x : World). choose_acts line a x ≡ []) w (adapter_start line a w)
+pub start_is : EachActKeeps → (line a : ℕ) (w : World) → Sound w → Leads (λ (x : World). choose_acts line a x ≡ []) w (adapter_start line a w)
 start_is stays line a w sound = start_where stays line a w sound (less_or a)
   where
     less_or : (a : ℕ) → (a < 4) ⊎ (4 ≤ a)
