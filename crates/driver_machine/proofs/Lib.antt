@@ -4,4 +4,3 @@ pub mod Falls
 pub mod Frame
 pub mod KindStays
 pub mod Until
-pub mod ecc_repair
