@@ -330,10 +330,39 @@ def row_specs(row):
         if row['packs'] else f'over_zeros {name}_script'
     for line in row['start']:
         start = f'record ({start}) {{ frames = {line.split()[1]} }}'
-    moments = '\n    ∷ '.join([m for m, _ in moments_of(row)] + ['[]'])
+    groups = ''.join('    ' + line + '\n' for group in groups_of(row) for line in group_lines(*group))
     return (f"-- {name}: {row['what']}\nabbrev pub {name}_script : Script\n{name}_script = {script_term(row)}\n\n"
             f'abbrev pub {name}_start : Replay\n{name}_start = {start}\n\n'
-            f'abbrev pub {name} : List Moment\n{name} =\n    {moments}\n')
+            f'abbrev pub {name} : List Moment\n{name} = run_of {name}_script (\n{groups}    []\n    )\n')
+
+
+def groups_of(row):
+    """the lines of the trace, those together that follow each other and have one line, unit and id: the words before their deeds, and these"""
+    out = []
+    for moment, _ in moments_of(row):
+        if moment.startswith('Idle'):
+            out.append(('Waits' + moment[4:], None))
+        elif moment.startswith('Told'):
+            _, line, unit, request, deed = moment.split(' ', 4)
+            head = f'Says {line} {unit} {request}'
+            deed = deed[1:-1] if deed.startswith('(') else deed
+            if not out or out[-1][0] != head:
+                out.append((head, []))
+            out[-1][1].append(deed)
+    return out
+
+
+def group_lines(head, deeds):
+    """a group as lines of at most some 140 columns"""
+    if deeds is None:
+        return [f'{head} ∷']
+    lines, line = [], f'{head} ('
+    for deed in deeds:
+        if len(line) + len(deed) > 130 or ' Try ' in line:
+            lines.append(line.rstrip())
+            line = ''
+        line += f'{deed} ∷ '
+    return lines + [f'{line}[]) ∷']
 
 
 # ---- write: proofs
@@ -493,7 +522,7 @@ use Rattle.trace_replay.specs.requests.Requests.{Offline, Locked, Unforwarded, F
 use Rattle.trace_replay.specs.Script.{Submit, ArriveAt, MoveAt, AttendTo, Drain, Turn, Noise, Arm, SetOnline, SetLocked, Script, Declares, Plays}
 use Rattle.trace_replay.specs.Moments.{Search, Seek, Recal, Offset, Centre, Clear, Pack, Transfer, Arrive, Sector, Intr, Try, Attn, End, Moment, Played, Told, Idle}
 use Rattle.trace_replay.specs.Replay.{Replay}
-use Rattle.trace_rows.specs.Accepted.{over, over_zeros}
+use Rattle.trace_rows.specs.Accepted.{over, over_zeros, run_of, Says, Waits}
 use Rattle.trace_rows.specs.Sequences.{sequence}
 """
 

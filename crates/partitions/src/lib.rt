@@ -8,7 +8,7 @@
 ghost use Rattle.std.specs.Prelude.{◌≡◌, ◌<◌, ◌≤◌, ◌+◌, ◌↔◌, ◌⊎◌, ℕ, IsSome};
 ghost use Rattle.pack_geometry.specs.Geometry.{limit_of};
 ghost use Rattle.partitions.specs.declared.Part.{Part};
-ghost use Rattle.partitions.specs.Partitions.{letter_of, size_of, cylinder_of, first_of, admission};
+ghost use Rattle.partitions.specs.Partitions.{letter_of, extent_of, size_of, first_of, admission};
 
 use pack_geometry::{DriveKind, data_limit, geometry_of};
 
@@ -79,7 +79,7 @@ pub fn part_range(kind: DriveKind, part: Part) -> PartRange
 
 /// The first cylinder and the size of an RP06's partition.
 fn rp06_part(part: Part) -> (u32, u32)
-    ensures { result ≡ (cylinder_of DriveKind.Rp06 part, size_of DriveKind.Rp06 part) }
+    ensures { result ≡ extent_of DriveKind.Rp06 part }
 {
     match part {
         Part::A => (0, 15884),
@@ -95,7 +95,7 @@ fn rp06_part(part: Part) -> (u32, u32)
 
 /// The first cylinder and the size of an RM03's partition.
 fn rm03_part(part: Part) -> (u32, u32)
-    ensures { result ≡ (cylinder_of DriveKind.Rm03 part, size_of DriveKind.Rm03 part) }
+    ensures { result ≡ extent_of DriveKind.Rm03 part }
 {
     match part {
         Part::A => (0, 15884),
@@ -111,7 +111,7 @@ fn rm03_part(part: Part) -> (u32, u32)
 
 /// The first cylinder and the size of an RM05's partition.
 fn rm05_part(part: Part) -> (u32, u32)
-    ensures { result ≡ (cylinder_of DriveKind.Rm05 part, size_of DriveKind.Rm05 part) }
+    ensures { result ≡ extent_of DriveKind.Rm05 part }
 {
     match part {
         Part::A => (0, 15884),

@@ -77,10 +77,8 @@ fn last(word: &[u8], fields: &mut Fields) -> Result<u16, ScriptKind>
     if !is_word(word, b"last".as_slice()) {
         return Err(ScriptKind::Word);
     }
-    match next_number(fields, 1, 512) {
-        Ok(last) => alone(last as u16, fields),
-        Err(kind) => Err(kind),
-    }
+    let last = next_number(fields, 1, 512)?;
+    alone(last as u16, fields)
 }
 
 /// `[last M]`, at the end of a line.
@@ -111,10 +109,7 @@ fn offset_and_last(fields: &mut Fields) -> Result<(u16, u16), ScriptKind>
     match fields.next() {
         None => Ok((0, 512)),
         Some(word) if is_word(word, b"off".as_slice()) => behind_off(fields),
-        Some(word) => match last(word, fields) {
-            Ok(last) => Ok((0, last)),
-            Err(kind) => Err(kind),
-        },
+        Some(word) => last(word, fields).map(|last| (0, last)),
     }
 }
 
@@ -137,10 +132,8 @@ fn spelled(count: u32, span: Span, fields: &mut Fields) -> Result<Content<Span>,
     requires { count ≤ 127 }
     ensures { Parses (mapped (content_by {C = List ℕ} (λ _. span)) (next (field (digits_field count)) (λ digits. gives (Content.Hex digits)))) fields.old result fields.new }
 {
-    match digits(count, fields) {
-        Ok(()) => Ok(Content::Hex(span)),
-        Err(kind) => Err(kind),
-    }
+    digits(count, fields)?;
+    Ok(Content::Hex(span))
 }
 
 /// `fill HH`, `seq N` or `hex DIGITS`, of which the first word was read, on the line that stands at `span`.
@@ -228,15 +221,13 @@ fn noise_line(known: &Known, fields: &mut Fields) -> Result<Struck, ScriptKind>
     let (unit, kind) = old_unit(known, fields)?;
     let block = next_number(fields, 0, blocks(kind) - 1)?;
     let span = noise_span(fields)?;
-    match places(fields) {
-        Ok(places) => Ok(Struck {
-            unit,
-            block,
-            span,
-            places,
-        }),
-        Err(kind) => Err(kind),
-    }
+    let places = places(fields)?;
+    Ok(Struck {
+        unit,
+        block,
+        span,
+        places,
+    })
 }
 
 fn fault_line(known: &Known, fields: &mut Fields) -> Result<Read, ScriptKind>
@@ -264,10 +255,8 @@ fn of_unit(verb: Verb, unit: u8) -> Read
 fn unit_alone(known: &Known, verb: Verb, fields: &mut Fields) -> Result<Read, ScriptKind>
     ensures { (span : Span) → Parses (mapped (λ u. read_of span (of_unit verb u)) (unit_number_form (known_in known.now))) fields.old result fields.new }
 {
-    match old_unit(known, fields) {
-        Ok((unit, _)) => Ok(of_unit(verb, unit)),
-        Err(kind) => Err(kind),
-    }
+    let (unit, _) = old_unit(known, fields)?;
+    Ok(of_unit(verb, unit))
 }
 
 /// What a line says of an adapter alone, by its word.
@@ -283,10 +272,8 @@ fn of_adapter(verb: Verb, adapter: u8) -> Read
 fn adapter_alone(verb: Verb, fields: &mut Fields) -> Result<Read, ScriptKind>
     ensures { (span : Span) → Parses (mapped (λ a. read_of span (of_adapter verb a)) adapter_form) fields.old result fields.new }
 {
-    match next_number(fields, 0, 3) {
-        Ok(adapter) => Ok(of_adapter(verb, adapter as u8)),
-        Err(kind) => Err(kind),
-    }
+    let adapter = next_number(fields, 0, 3)?;
+    Ok(of_adapter(verb, adapter as u8))
 }
 
 /// What the fields after a word say, for any word except `noise`.

@@ -32,10 +32,8 @@ pub struct Known {
 fn unit_number(field: &[u8]) -> Result<u8, ScriptKind>
     ensures { result ≡ number_field 0 31 field.now }
 {
-    match number_field(field, 0, 31) {
-        Ok(unit) => Ok(unit as u8),
-        Err(kind) => Err(kind),
-    }
+    let unit = number_field(field, 0, 31)?;
+    Ok(unit as u8)
 }
 
 impl Known {
@@ -87,12 +85,10 @@ impl Known {
     pub(crate) fn new_unit_field(&self, field: &[u8]) -> Result<u8, ScriptKind>
         ensures { result ≡ new_unit_field (known_in self.now) field.now }
     {
-        match unit_number(field) {
-            Ok(unit) => match self.kind(unit) {
-                Some(_) => Err(ScriptKind::UnitTwice),
-                None => Ok(unit),
-            },
-            Err(kind) => Err(kind),
+        let unit = unit_number(field)?;
+        match self.kind(unit) {
+            Some(_) => Err(ScriptKind::UnitTwice),
+            None => Ok(unit),
         }
     }
 
@@ -100,12 +96,10 @@ impl Known {
     pub(crate) fn unit_field(&self, field: &[u8]) -> Result<(u8, DriveKind), ScriptKind>
         ensures { result ≡ unit_field (known_in self.now) field.now }
     {
-        match unit_number(field) {
-            Ok(unit) => match self.kind(unit) {
-                Some(kind) => Ok((unit, kind)),
-                None => Err(ScriptKind::UnitUnknown),
-            },
-            Err(kind) => Err(kind),
+        let unit = unit_number(field)?;
+        match self.kind(unit) {
+            Some(kind) => Ok((unit, kind)),
+            None => Err(ScriptKind::UnitUnknown),
         }
     }
 
@@ -158,10 +152,8 @@ impl Known {
             self.next = number + 1;
             return Ok(());
         }
-        match self.ids.insert(id) {
-            Ok(_) => Ok(()),
-            Err(failed) => Err(failed),
-        }
+        self.ids.insert(id)?;
+        Ok(())
     }
 
     /// Takes an id in, and that a request came.

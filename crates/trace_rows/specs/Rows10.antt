@@ -6,10 +6,10 @@ use Rattle.drive_registers.specs.declared.OffsetCode.TheVariants.{Plus400, Minus
 use Rattle.hardware_table.specs.declared.NoiseSpan.TheVariants.{Until}
 use Rattle.hardware_table.specs.declared.Moved.TheVariants.{Clean, Hard}
 use Rattle.trace_replay.specs.requests.Requests.{ReadOk}
-use Rattle.trace_replay.specs.Script.{Submit, Drain, Noise, Script, Declares, Plays}
-use Rattle.trace_replay.specs.Moments.{Recal, Offset, Centre, Clear, Transfer, Arrive, Sector, Intr, Try, Attn, End, Moment, Played, Told}
+use Rattle.trace_replay.specs.Script.{Submit, Noise, Script, Declares, Plays}
+use Rattle.trace_replay.specs.Moments.{Recal, Offset, Centre, Clear, Transfer, Arrive, Sector, Intr, Try, Attn, End, Moment}
 use Rattle.trace_replay.specs.Replay.{Replay}
-use Rattle.trace_rows.specs.Accepted.{over_zeros}
+use Rattle.trace_rows.specs.Accepted.{over_zeros, run_of, Says}
 
 -- until_offset: noise that an offset ends
 abbrev pub until_offset_script : Script
@@ -19,111 +19,25 @@ abbrev pub until_offset_start : Replay
 until_offset_start = over_zeros until_offset_script
 
 abbrev pub until_offset : List Moment
-until_offset =
-    Played 2 (Noise (record { unit = 0; block = 5; span = Until Minus400; places = 0 ∷ 7 ∷ 14 ∷ [] }))
-    ∷ Played 3 (Submit (record { id = 1; unit = 0; part = part.C; block = 5; count = 1; last = 512; offset = 0; written = None }))
-    ∷ Told 3 0 1 (Transfer false 5 1)
-    ∷ Played 4 Drain
-    ∷ Told 4 0 1 (Sector 5 Hard)
-    ∷ Told 4 0 1 Intr
-    ∷ Told 4 0 1 Clear
-    ∷ Told 4 0 1 (Try 5 1)
-    ∷ Told 4 0 1 (Transfer false 5 1)
-    ∷ Told 4 0 1 (Sector 5 Hard)
-    ∷ Told 4 0 1 Intr
-    ∷ Told 4 0 1 Clear
-    ∷ Told 4 0 1 (Try 5 2)
-    ∷ Told 4 0 1 (Transfer false 5 1)
-    ∷ Told 4 0 1 (Sector 5 Hard)
-    ∷ Told 4 0 1 Intr
-    ∷ Told 4 0 1 Clear
-    ∷ Told 4 0 1 (Try 5 3)
-    ∷ Told 4 0 1 (Transfer false 5 1)
-    ∷ Told 4 0 1 (Sector 5 Hard)
-    ∷ Told 4 0 1 Intr
-    ∷ Told 4 0 1 Clear
-    ∷ Told 4 0 1 (Try 5 4)
-    ∷ Told 4 0 1 Recal
-    ∷ Told 4 0 1 Arrive
-    ∷ Told 4 0 1 Attn
-    ∷ Told 4 0 1 (Transfer false 5 1)
-    ∷ Told 4 0 1 (Sector 5 Hard)
-    ∷ Told 4 0 1 Intr
-    ∷ Told 4 0 1 Clear
-    ∷ Told 4 0 1 (Try 5 5)
-    ∷ Told 4 0 1 (Transfer false 5 1)
-    ∷ Told 4 0 1 (Sector 5 Hard)
-    ∷ Told 4 0 1 Intr
-    ∷ Told 4 0 1 Clear
-    ∷ Told 4 0 1 (Try 5 6)
-    ∷ Told 4 0 1 (Transfer false 5 1)
-    ∷ Told 4 0 1 (Sector 5 Hard)
-    ∷ Told 4 0 1 Intr
-    ∷ Told 4 0 1 Clear
-    ∷ Told 4 0 1 (Try 5 7)
-    ∷ Told 4 0 1 (Transfer false 5 1)
-    ∷ Told 4 0 1 (Sector 5 Hard)
-    ∷ Told 4 0 1 Intr
-    ∷ Told 4 0 1 Clear
-    ∷ Told 4 0 1 (Try 5 8)
-    ∷ Told 4 0 1 (Transfer false 5 1)
-    ∷ Told 4 0 1 (Sector 5 Hard)
-    ∷ Told 4 0 1 Intr
-    ∷ Told 4 0 1 Clear
-    ∷ Told 4 0 1 (Try 5 9)
-    ∷ Told 4 0 1 (Transfer false 5 1)
-    ∷ Told 4 0 1 (Sector 5 Hard)
-    ∷ Told 4 0 1 Intr
-    ∷ Told 4 0 1 Clear
-    ∷ Told 4 0 1 (Try 5 10)
-    ∷ Told 4 0 1 (Transfer false 5 1)
-    ∷ Told 4 0 1 (Sector 5 Hard)
-    ∷ Told 4 0 1 Intr
-    ∷ Told 4 0 1 Clear
-    ∷ Told 4 0 1 (Try 5 11)
-    ∷ Told 4 0 1 (Transfer false 5 1)
-    ∷ Told 4 0 1 (Sector 5 Hard)
-    ∷ Told 4 0 1 Intr
-    ∷ Told 4 0 1 Clear
-    ∷ Told 4 0 1 (Try 5 12)
-    ∷ Told 4 0 1 Recal
-    ∷ Told 4 0 1 Arrive
-    ∷ Told 4 0 1 Attn
-    ∷ Told 4 0 1 (Transfer false 5 1)
-    ∷ Told 4 0 1 (Sector 5 Hard)
-    ∷ Told 4 0 1 Intr
-    ∷ Told 4 0 1 Clear
-    ∷ Told 4 0 1 (Try 5 13)
-    ∷ Told 4 0 1 (Transfer false 5 1)
-    ∷ Told 4 0 1 (Sector 5 Hard)
-    ∷ Told 4 0 1 Intr
-    ∷ Told 4 0 1 Clear
-    ∷ Told 4 0 1 (Try 5 14)
-    ∷ Told 4 0 1 (Transfer false 5 1)
-    ∷ Told 4 0 1 (Sector 5 Hard)
-    ∷ Told 4 0 1 Intr
-    ∷ Told 4 0 1 Clear
-    ∷ Told 4 0 1 (Try 5 15)
-    ∷ Told 4 0 1 (Transfer false 5 1)
-    ∷ Told 4 0 1 (Sector 5 Hard)
-    ∷ Told 4 0 1 Intr
-    ∷ Told 4 0 1 Clear
-    ∷ Told 4 0 1 (Try 5 16)
-    ∷ Told 4 0 1 (Offset Plus400)
-    ∷ Told 4 0 1 Arrive
-    ∷ Told 4 0 1 Attn
-    ∷ Told 4 0 1 (Transfer false 5 1)
-    ∷ Told 4 0 1 (Sector 5 Hard)
-    ∷ Told 4 0 1 Intr
-    ∷ Told 4 0 1 Clear
-    ∷ Told 4 0 1 Centre
-    ∷ Told 4 0 1 (Try 5 17)
-    ∷ Told 4 0 1 (Offset Minus400)
-    ∷ Told 4 0 1 Arrive
-    ∷ Told 4 0 1 Attn
-    ∷ Told 4 0 1 (Transfer false 5 1)
-    ∷ Told 4 0 1 (Sector 5 Clean)
-    ∷ Told 4 0 1 Intr
-    ∷ Told 4 0 1 Centre
-    ∷ Told 4 0 1 (End (ReadOk (replicate 512 0)))
-    ∷ []
+until_offset = run_of until_offset_script (
+    Says 3 0 1 (Transfer false 5 1 ∷ []) ∷
+    Says 4 0 1 (Sector 5 Hard ∷ Intr ∷ Clear ∷ Try 5 1 ∷
+    Transfer false 5 1 ∷ Sector 5 Hard ∷ Intr ∷ Clear ∷ Try 5 2 ∷
+    Transfer false 5 1 ∷ Sector 5 Hard ∷ Intr ∷ Clear ∷ Try 5 3 ∷
+    Transfer false 5 1 ∷ Sector 5 Hard ∷ Intr ∷ Clear ∷ Try 5 4 ∷
+    Recal ∷ Arrive ∷ Attn ∷ Transfer false 5 1 ∷ Sector 5 Hard ∷ Intr ∷ Clear ∷ Try 5 5 ∷
+    Transfer false 5 1 ∷ Sector 5 Hard ∷ Intr ∷ Clear ∷ Try 5 6 ∷
+    Transfer false 5 1 ∷ Sector 5 Hard ∷ Intr ∷ Clear ∷ Try 5 7 ∷
+    Transfer false 5 1 ∷ Sector 5 Hard ∷ Intr ∷ Clear ∷ Try 5 8 ∷
+    Transfer false 5 1 ∷ Sector 5 Hard ∷ Intr ∷ Clear ∷ Try 5 9 ∷
+    Transfer false 5 1 ∷ Sector 5 Hard ∷ Intr ∷ Clear ∷ Try 5 10 ∷
+    Transfer false 5 1 ∷ Sector 5 Hard ∷ Intr ∷ Clear ∷ Try 5 11 ∷
+    Transfer false 5 1 ∷ Sector 5 Hard ∷ Intr ∷ Clear ∷ Try 5 12 ∷
+    Recal ∷ Arrive ∷ Attn ∷ Transfer false 5 1 ∷ Sector 5 Hard ∷ Intr ∷ Clear ∷ Try 5 13 ∷
+    Transfer false 5 1 ∷ Sector 5 Hard ∷ Intr ∷ Clear ∷ Try 5 14 ∷
+    Transfer false 5 1 ∷ Sector 5 Hard ∷ Intr ∷ Clear ∷ Try 5 15 ∷
+    Transfer false 5 1 ∷ Sector 5 Hard ∷ Intr ∷ Clear ∷ Try 5 16 ∷
+    Offset Plus400 ∷ Arrive ∷ Attn ∷ Transfer false 5 1 ∷ Sector 5 Hard ∷ Intr ∷ Clear ∷ Centre ∷ Try 5 17 ∷
+    Offset Minus400 ∷ Arrive ∷ Attn ∷ Transfer false 5 1 ∷ Sector 5 Clean ∷ Intr ∷ Centre ∷ End (ReadOk (replicate 512 0)) ∷ []) ∷
+    []
+    )

@@ -6,9 +6,9 @@ use Rattle.hardware_table.specs.declared.FaultKind.TheVariants as kind
 use Rattle.hardware_table.specs.declared.Moved.TheVariants.{Clean, Faulted}
 use Rattle.trace_replay.specs.requests.Requests.{ReadOk, WriteOk}
 use Rattle.trace_replay.specs.Script.{Submit, ArriveAt, MoveAt, AttendTo, Drain, Arm, Script, Declares, Plays}
-use Rattle.trace_replay.specs.Moments.{Search, Recal, Clear, Transfer, Arrive, Sector, Intr, Try, Attn, End, Moment, Played, Told}
+use Rattle.trace_replay.specs.Moments.{Search, Recal, Clear, Transfer, Arrive, Sector, Intr, Try, Attn, End, Moment}
 use Rattle.trace_replay.specs.Replay.{Replay}
-use Rattle.trace_rows.specs.Accepted.{over_zeros}
+use Rattle.trace_rows.specs.Accepted.{over_zeros, run_of, Says}
 
 -- write_by_events: a write of two blocks event by event, and a read
 abbrev pub write_by_events_script : Script
@@ -18,32 +18,17 @@ abbrev pub write_by_events_start : Replay
 write_by_events_start = over_zeros write_by_events_script
 
 abbrev pub write_by_events : List Moment
-write_by_events =
-    Played 2 (Submit (record { id = 1; unit = 0; part = part.C; block = 418; count = 2; last = 512; offset = 0; written = Some (replicate 1024 17) }))
-    ∷ Told 2 0 1 (Search 1 19)
-    ∷ Played 3 (ArriveAt 0)
-    ∷ Told 3 0 1 Arrive
-    ∷ Played 4 (AttendTo 0)
-    ∷ Told 4 0 1 Attn
-    ∷ Told 4 0 1 (Transfer true 418 2)
-    ∷ Played 5 (MoveAt 0)
-    ∷ Told 5 0 1 (Sector 418 Clean)
-    ∷ Played 6 (MoveAt 0)
-    ∷ Told 6 0 1 (Sector 419 Clean)
-    ∷ Played 7 (AttendTo 0)
-    ∷ Told 7 0 1 Intr
-    ∷ Told 7 0 1 (End WriteOk)
-    ∷ Played 8 (Submit (record { id = 2; unit = 0; part = part.C; block = 418; count = 2; last = 512; offset = 0; written = None }))
-    ∷ Told 8 0 2 (Search 1 19)
-    ∷ Played 9 Drain
-    ∷ Told 9 0 2 Arrive
-    ∷ Told 9 0 2 Attn
-    ∷ Told 9 0 2 (Transfer false 418 2)
-    ∷ Told 9 0 2 (Sector 418 Clean)
-    ∷ Told 9 0 2 (Sector 419 Clean)
-    ∷ Told 9 0 2 Intr
-    ∷ Told 9 0 2 (End (ReadOk (replicate 1024 17)))
-    ∷ []
+write_by_events = run_of write_by_events_script (
+    Says 2 0 1 (Search 1 19 ∷ []) ∷
+    Says 3 0 1 (Arrive ∷ []) ∷
+    Says 4 0 1 (Attn ∷ Transfer true 418 2 ∷ []) ∷
+    Says 5 0 1 (Sector 418 Clean ∷ []) ∷
+    Says 6 0 1 (Sector 419 Clean ∷ []) ∷
+    Says 7 0 1 (Intr ∷ End WriteOk ∷ []) ∷
+    Says 8 0 2 (Search 1 19 ∷ []) ∷
+    Says 9 0 2 (Arrive ∷ Attn ∷ Transfer false 418 2 ∷ Sector 418 Clean ∷ Sector 419 Clean ∷ Intr ∷ End (ReadOk (replicate 1024 17)) ∷ []) ∷
+    []
+    )
 
 -- written_as_far_as_done: a write is tried again where it failed, and not from its beginning
 abbrev pub written_as_far_as_done_script : Script
@@ -53,60 +38,21 @@ abbrev pub written_as_far_as_done_start : Replay
 written_as_far_as_done_start = over_zeros written_as_far_as_done_script
 
 abbrev pub written_as_far_as_done : List Moment
-written_as_far_as_done =
-    Played 2 (Submit (record { id = 1; unit = 0; part = part.C; block = 5; count = 4; last = 512; offset = 0; written = Some (replicate 2048 119) }))
-    ∷ Told 2 0 1 (Transfer true 5 4)
-    ∷ Played 3 (MoveAt 0)
-    ∷ Told 3 0 1 (Sector 5 Clean)
-    ∷ Played 4 (MoveAt 0)
-    ∷ Told 4 0 1 (Sector 6 Clean)
-    ∷ Played 5 (Arm 0 kind.Opi 5)
-    ∷ Played 6 Drain
-    ∷ Told 6 0 1 (Sector 7 (Faulted kind.Opi))
-    ∷ Told 6 0 1 Intr
-    ∷ Told 6 0 1 Clear
-    ∷ Told 6 0 1 (Try 7 1)
-    ∷ Told 6 0 1 (Transfer true 7 2)
-    ∷ Told 6 0 1 (Sector 7 (Faulted kind.Opi))
-    ∷ Told 6 0 1 Intr
-    ∷ Told 6 0 1 Clear
-    ∷ Told 6 0 1 (Try 7 2)
-    ∷ Told 6 0 1 (Transfer true 7 2)
-    ∷ Told 6 0 1 (Sector 7 (Faulted kind.Opi))
-    ∷ Told 6 0 1 Intr
-    ∷ Told 6 0 1 Clear
-    ∷ Told 6 0 1 (Try 7 3)
-    ∷ Told 6 0 1 (Transfer true 7 2)
-    ∷ Told 6 0 1 (Sector 7 (Faulted kind.Opi))
-    ∷ Told 6 0 1 Intr
-    ∷ Told 6 0 1 Clear
-    ∷ Told 6 0 1 (Try 7 4)
-    ∷ Told 6 0 1 Recal
-    ∷ Told 6 0 1 Arrive
-    ∷ Told 6 0 1 Attn
-    ∷ Told 6 0 1 (Transfer true 7 2)
-    ∷ Told 6 0 1 (Sector 7 (Faulted kind.Opi))
-    ∷ Told 6 0 1 Intr
-    ∷ Told 6 0 1 Clear
-    ∷ Told 6 0 1 (Try 7 5)
-    ∷ Told 6 0 1 (Transfer true 7 2)
-    ∷ Told 6 0 1 (Sector 7 Clean)
-    ∷ Told 6 0 1 (Sector 8 Clean)
-    ∷ Told 6 0 1 Intr
-    ∷ Told 6 0 1 (End WriteOk)
-    ∷ Played 7 (Submit (record { id = 2; unit = 0; part = part.C; block = 5; count = 4; last = 512; offset = 0; written = None }))
-    ∷ Told 7 0 2 (Search 0 2)
-    ∷ Played 8 Drain
-    ∷ Told 8 0 2 Arrive
-    ∷ Told 8 0 2 Attn
-    ∷ Told 8 0 2 (Transfer false 5 4)
-    ∷ Told 8 0 2 (Sector 5 Clean)
-    ∷ Told 8 0 2 (Sector 6 Clean)
-    ∷ Told 8 0 2 (Sector 7 Clean)
-    ∷ Told 8 0 2 (Sector 8 Clean)
-    ∷ Told 8 0 2 Intr
-    ∷ Told 8 0 2 (End (ReadOk (replicate 2048 119)))
-    ∷ []
+written_as_far_as_done = run_of written_as_far_as_done_script (
+    Says 2 0 1 (Transfer true 5 4 ∷ []) ∷
+    Says 3 0 1 (Sector 5 Clean ∷ []) ∷
+    Says 4 0 1 (Sector 6 Clean ∷ []) ∷
+    Says 6 0 1 (Sector 7 (Faulted kind.Opi) ∷ Intr ∷ Clear ∷ Try 7 1 ∷
+    Transfer true 7 2 ∷ Sector 7 (Faulted kind.Opi) ∷ Intr ∷ Clear ∷ Try 7 2 ∷
+    Transfer true 7 2 ∷ Sector 7 (Faulted kind.Opi) ∷ Intr ∷ Clear ∷ Try 7 3 ∷
+    Transfer true 7 2 ∷ Sector 7 (Faulted kind.Opi) ∷ Intr ∷ Clear ∷ Try 7 4 ∷
+    Recal ∷ Arrive ∷ Attn ∷ Transfer true 7 2 ∷ Sector 7 (Faulted kind.Opi) ∷ Intr ∷ Clear ∷ Try 7 5 ∷
+    Transfer true 7 2 ∷ Sector 7 Clean ∷ Sector 8 Clean ∷ Intr ∷ End WriteOk ∷ []) ∷
+    Says 7 0 2 (Search 0 2 ∷ []) ∷
+    Says 8 0 2 (Arrive ∷ Attn ∷ Transfer false 5 4 ∷ Sector 5 Clean ∷ Sector 6 Clean ∷ Sector 7 Clean ∷ Sector 8 Clean ∷ Intr ∷
+    End (ReadOk (replicate 2048 119)) ∷ []) ∷
+    []
+    )
 
 -- written_short: a write of 515 bytes, and a read of the two blocks
 abbrev pub written_short_script : Script
@@ -116,21 +62,10 @@ abbrev pub written_short_start : Replay
 written_short_start = over_zeros written_short_script
 
 abbrev pub written_short : List Moment
-written_short =
-    Played 2 (Submit (record { id = 1; unit = 0; part = part.C; block = 5; count = 2; last = 3; offset = 0; written = Some (replicate 515 119) }))
-    ∷ Told 2 0 1 (Transfer true 5 2)
-    ∷ Played 3 (Submit (record { id = 2; unit = 0; part = part.C; block = 5; count = 2; last = 512; offset = 0; written = None }))
-    ∷ Played 4 Drain
-    ∷ Told 4 0 1 (Sector 5 Clean)
-    ∷ Told 4 0 1 (Sector 6 Clean)
-    ∷ Told 4 0 1 Intr
-    ∷ Told 4 0 1 (End WriteOk)
-    ∷ Told 4 0 2 (Search 0 2)
-    ∷ Told 4 0 2 Arrive
-    ∷ Told 4 0 2 Attn
-    ∷ Told 4 0 2 (Transfer false 5 2)
-    ∷ Told 4 0 2 (Sector 5 Clean)
-    ∷ Told 4 0 2 (Sector 6 Clean)
-    ∷ Told 4 0 2 Intr
-    ∷ Told 4 0 2 (End (ReadOk (replicate 515 119 ++ replicate 509 0)))
-    ∷ []
+written_short = run_of written_short_script (
+    Says 2 0 1 (Transfer true 5 2 ∷ []) ∷
+    Says 4 0 1 (Sector 5 Clean ∷ Sector 6 Clean ∷ Intr ∷ End WriteOk ∷ []) ∷
+    Says 4 0 2 (Search 0 2 ∷ Arrive ∷ Attn ∷ Transfer false 5 2 ∷ Sector 5 Clean ∷ Sector 6 Clean ∷ Intr ∷
+    End (ReadOk (replicate 515 119 ++ replicate 509 0)) ∷ []) ∷
+    []
+    )

@@ -6,10 +6,10 @@ use Rattle.hardware_table.specs.declared.NoiseSpan.TheVariants.{Times}
 use Rattle.hardware_table.specs.declared.Moved.TheVariants as verdict
 use Rattle.hardware_table.specs.declared.Moved.TheVariants.{Clean, Burst, Marked}
 use Rattle.trace_replay.specs.requests.Requests.{Offline, Locked, Unforwarded, ReadOk, WriteOk, NoFrames, Failed}
-use Rattle.trace_replay.specs.Script.{Submit, ArriveAt, MoveAt, AttendTo, Drain, Noise, SetOnline, SetLocked, Script, Declares, Plays}
-use Rattle.trace_replay.specs.Moments.{Search, Clear, Pack, Transfer, Arrive, Sector, Intr, Attn, End, Moment, Played, Told, Idle}
+use Rattle.trace_replay.specs.Script.{Submit, ArriveAt, MoveAt, AttendTo, Noise, SetOnline, SetLocked, Script, Declares, Plays}
+use Rattle.trace_replay.specs.Moments.{Search, Clear, Pack, Transfer, Arrive, Sector, Intr, Attn, End, Moment}
 use Rattle.trace_replay.specs.Replay.{Replay}
-use Rattle.trace_rows.specs.Accepted.{over, over_zeros}
+use Rattle.trace_rows.specs.Accepted.{over, over_zeros, run_of, Says, Waits}
 
 -- frames_run_out: a request that does not find its frames, and one that does
 abbrev pub frames_run_out_script : Script
@@ -19,16 +19,12 @@ abbrev pub frames_run_out_start : Replay
 frames_run_out_start = record (over_zeros frames_run_out_script) { frames = 16383 }
 
 abbrev pub frames_run_out : List Moment
-frames_run_out =
-    Played 2 (Submit (record { id = 1; unit = 0; part = part.C; block = 5; count = 1; last = 512; offset = 1; written = None }))
-    ∷ Told 2 0 1 (End NoFrames)
-    ∷ Played 3 (Submit (record { id = 2; unit = 0; part = part.C; block = 5; count = 1; last = 511; offset = 1; written = None }))
-    ∷ Told 3 0 2 (Transfer false 5 1)
-    ∷ Played 4 Drain
-    ∷ Told 4 0 2 (Sector 5 Clean)
-    ∷ Told 4 0 2 Intr
-    ∷ Told 4 0 2 (End (ReadOk (replicate 511 0)))
-    ∷ []
+frames_run_out = run_of frames_run_out_script (
+    Says 2 0 1 (End NoFrames ∷ []) ∷
+    Says 3 0 2 (Transfer false 5 1 ∷ []) ∷
+    Says 4 0 2 (Sector 5 Clean ∷ Intr ∷ End (ReadOk (replicate 511 0)) ∷ []) ∷
+    []
+    )
 
 -- last_data_block: a write and a read of the last data block
 abbrev pub last_data_block_script : Script
@@ -38,25 +34,12 @@ abbrev pub last_data_block_start : Replay
 last_data_block_start = over_zeros last_data_block_script
 
 abbrev pub last_data_block : List Moment
-last_data_block =
-    Played 2 (Submit (record { id = 1; unit = 0; part = part.C; block = 340521; count = 1; last = 512; offset = 0; written = Some (replicate 512 165) }))
-    ∷ Told 2 0 1 (Search 814 2)
-    ∷ Played 3 (Submit (record { id = 2; unit = 0; part = part.C; block = 340521; count = 1; last = 512; offset = 0; written = None }))
-    ∷ Played 4 Drain
-    ∷ Told 4 0 1 Arrive
-    ∷ Told 4 0 1 Attn
-    ∷ Told 4 0 1 (Transfer true 340521 1)
-    ∷ Told 4 0 1 (Sector 340521 Clean)
-    ∷ Told 4 0 1 Intr
-    ∷ Told 4 0 1 (End WriteOk)
-    ∷ Told 4 0 2 (Search 814 2)
-    ∷ Told 4 0 2 Arrive
-    ∷ Told 4 0 2 Attn
-    ∷ Told 4 0 2 (Transfer false 340521 1)
-    ∷ Told 4 0 2 (Sector 340521 Clean)
-    ∷ Told 4 0 2 Intr
-    ∷ Told 4 0 2 (End (ReadOk (replicate 512 165)))
-    ∷ []
+last_data_block = run_of last_data_block_script (
+    Says 2 0 1 (Search 814 2 ∷ []) ∷
+    Says 4 0 1 (Arrive ∷ Attn ∷ Transfer true 340521 1 ∷ Sector 340521 Clean ∷ Intr ∷ End WriteOk ∷ []) ∷
+    Says 4 0 2 (Search 814 2 ∷ Arrive ∷ Attn ∷ Transfer false 340521 1 ∷ Sector 340521 Clean ∷ Intr ∷ End (ReadOk (replicate 512 165)) ∷ []) ∷
+    []
+    )
 
 -- locked: a write on a locked unit, and one when it is unlocked
 abbrev pub locked_script : Script
@@ -66,18 +49,12 @@ abbrev pub locked_start : Replay
 locked_start = over_zeros locked_script
 
 abbrev pub locked : List Moment
-locked =
-    Played 2 (SetLocked 0 true)
-    ∷ Played 3 (Submit (record { id = 1; unit = 0; part = part.C; block = 5; count = 1; last = 512; offset = 0; written = Some (replicate 512 1) }))
-    ∷ Told 3 0 1 (End (Failed Locked 0))
-    ∷ Played 4 (SetLocked 0 false)
-    ∷ Played 5 (Submit (record { id = 2; unit = 0; part = part.C; block = 5; count = 1; last = 512; offset = 0; written = Some (replicate 512 1) }))
-    ∷ Told 5 0 2 (Transfer true 5 1)
-    ∷ Played 6 Drain
-    ∷ Told 6 0 2 (Sector 5 Clean)
-    ∷ Told 6 0 2 Intr
-    ∷ Told 6 0 2 (End WriteOk)
-    ∷ []
+locked = run_of locked_script (
+    Says 3 0 1 (End (Failed Locked 0) ∷ []) ∷
+    Says 5 0 2 (Transfer true 5 1 ∷ []) ∷
+    Says 6 0 2 (Sector 5 Clean ∷ Intr ∷ End WriteOk ∷ []) ∷
+    []
+    )
 
 -- marked_replacement: a marked block whose replacement is marked
 abbrev pub marked_replacement_script : Script
@@ -87,24 +64,12 @@ abbrev pub marked_replacement_start : Replay
 marked_replacement_start = over marked_replacement_script (λ unit. if unit == 0 then Some (record { kind = Rp06; serial = 1; places = record { cylinder = 2; track = 7; sector = 10 } ∷ [] }) else None) (λ unit block. if (unit == 0) && (block == 340647) then (replicate 512 90) else if (unit == 0) && (block == 340648) then (replicate 1 1 ++ replicate 7 0 ++ replicate 1 2 ++ replicate 1 0 ++ replicate 1 10 ++ replicate 1 7 ++ replicate 500 255) else replicate 512 0) (λ unit block. if (unit == 0) && (block == 1000) then true else if (unit == 0) && (block == 340647) then true else false)
 
 abbrev pub marked_replacement : List Moment
-marked_replacement =
-    Played 2 (Submit (record { id = 1; unit = 0; part = part.C; block = 998; count = 5; last = 512; offset = 0; written = None }))
-    ∷ Told 2 0 1 (Search 2 5)
-    ∷ Played 3 Drain
-    ∷ Told 3 0 1 Arrive
-    ∷ Told 3 0 1 Attn
-    ∷ Told 3 0 1 (Transfer false 998 5)
-    ∷ Told 3 0 1 (Sector 998 Clean)
-    ∷ Told 3 0 1 (Sector 999 Clean)
-    ∷ Told 3 0 1 (Sector 1000 Marked)
-    ∷ Told 3 0 1 Intr
-    ∷ Told 3 0 1 Clear
-    ∷ Told 3 0 1 (Transfer false 340647 1)
-    ∷ Told 3 0 1 (Sector 340647 Marked)
-    ∷ Told 3 0 1 Intr
-    ∷ Told 3 0 1 Clear
-    ∷ Told 3 0 1 (End (Failed Unforwarded 2))
-    ∷ []
+marked_replacement = run_of marked_replacement_script (
+    Says 2 0 1 (Search 2 5 ∷ []) ∷
+    Says 3 0 1 (Arrive ∷ Attn ∷ Transfer false 998 5 ∷ Sector 998 Clean ∷ Sector 999 Clean ∷ Sector 1000 Marked ∷ Intr ∷ Clear ∷
+    Transfer false 340647 1 ∷ Sector 340647 Marked ∷ Intr ∷ Clear ∷ End (Failed Unforwarded 2) ∷ []) ∷
+    []
+    )
 
 -- near_enough: a block that is near enough to start at once
 abbrev pub near_enough_script : Script
@@ -114,17 +79,13 @@ abbrev pub near_enough_start : Replay
 near_enough_start = over_zeros near_enough_script
 
 abbrev pub near_enough : List Moment
-near_enough =
-    Played 2 (Submit (record { id = 1; unit = 0; part = part.C; block = 5; count = 1; last = 512; offset = 0; written = None }))
-    ∷ Told 2 0 1 (Transfer false 5 1)
-    ∷ Played 3 (MoveAt 0)
-    ∷ Told 3 0 1 (Sector 5 Clean)
-    ∷ Played 4 (AttendTo 0)
-    ∷ Told 4 0 1 Intr
-    ∷ Told 4 0 1 (End (ReadOk (replicate 512 0)))
-    ∷ Played 5 Drain
-    ∷ Idle 5
-    ∷ []
+near_enough = run_of near_enough_script (
+    Says 2 0 1 (Transfer false 5 1 ∷ []) ∷
+    Says 3 0 1 (Sector 5 Clean ∷ []) ∷
+    Says 4 0 1 (Intr ∷ End (ReadOk (replicate 512 0)) ∷ []) ∷
+    Waits 5 ∷
+    []
+    )
 
 -- offline: requests that end as the unit is offline; PACK when it is back
 abbrev pub offline_script : Script
@@ -134,29 +95,15 @@ abbrev pub offline_start : Replay
 offline_start = over_zeros offline_script
 
 abbrev pub offline : List Moment
-offline =
-    Played 2 (Submit (record { id = 1; unit = 0; part = part.C; block = 418; count = 1; last = 512; offset = 0; written = None }))
-    ∷ Told 2 0 1 (Search 1 19)
-    ∷ Played 3 (SetOnline 0 false)
-    ∷ Played 4 (Submit (record { id = 2; unit = 0; part = part.C; block = 0; count = 1; last = 512; offset = 0; written = None }))
-    ∷ Played 5 (ArriveAt 0)
-    ∷ Told 5 0 1 Arrive
-    ∷ Played 6 (AttendTo 0)
-    ∷ Told 6 0 1 Attn
-    ∷ Told 6 0 1 (End (Failed Offline 0))
-    ∷ Told 6 0 2 (End (Failed Offline 0))
-    ∷ Played 7 (SetOnline 0 true)
-    ∷ Played 8 (Submit (record { id = 3; unit = 0; part = part.C; block = 0; count = 1; last = 512; offset = 0; written = None }))
-    ∷ Told 8 0 3 Pack
-    ∷ Told 8 0 3 (Search 0 19)
-    ∷ Played 9 Drain
-    ∷ Told 9 0 3 Arrive
-    ∷ Told 9 0 3 Attn
-    ∷ Told 9 0 3 (Transfer false 0 1)
-    ∷ Told 9 0 3 (Sector 0 Clean)
-    ∷ Told 9 0 3 Intr
-    ∷ Told 9 0 3 (End (ReadOk (replicate 512 0)))
-    ∷ []
+offline = run_of offline_script (
+    Says 2 0 1 (Search 1 19 ∷ []) ∷
+    Says 5 0 1 (Arrive ∷ []) ∷
+    Says 6 0 1 (Attn ∷ End (Failed Offline 0) ∷ []) ∷
+    Says 6 0 2 (End (Failed Offline 0) ∷ []) ∷
+    Says 8 0 3 (Pack ∷ Search 0 19 ∷ []) ∷
+    Says 9 0 3 (Arrive ∷ Attn ∷ Transfer false 0 1 ∷ Sector 0 Clean ∷ Intr ∷ End (ReadOk (replicate 512 0)) ∷ []) ∷
+    []
+    )
 
 -- offline_behind_a_burst: a request that has all its blocks ends ok, offline or not
 abbrev pub offline_behind_a_burst_script : Script
@@ -166,20 +113,13 @@ abbrev pub offline_behind_a_burst_start : Replay
 offline_behind_a_burst_start = over_zeros offline_behind_a_burst_script
 
 abbrev pub offline_behind_a_burst : List Moment
-offline_behind_a_burst =
-    Played 2 (Noise (record { unit = 0; block = 5; span = Times 1; places = 4090 ∷ 4100 ∷ [] }))
-    ∷ Played 3 (Submit (record { id = 1; unit = 0; part = part.C; block = 5; count = 1; last = 512; offset = 0; written = None }))
-    ∷ Told 3 0 1 (Transfer false 5 1)
-    ∷ Played 4 (MoveAt 0)
-    ∷ Told 4 0 1 (Sector 5 (Burst 4091 1025))
-    ∷ Played 5 (SetOnline 0 false)
-    ∷ Played 6 (AttendTo 0)
-    ∷ Told 6 0 1 Intr
-    ∷ Told 6 0 1 Clear
-    ∷ Told 6 0 1 (End (ReadOk (replicate 512 0)))
-    ∷ Played 7 Drain
-    ∷ Idle 7
-    ∷ []
+offline_behind_a_burst = run_of offline_behind_a_burst_script (
+    Says 3 0 1 (Transfer false 5 1 ∷ []) ∷
+    Says 4 0 1 (Sector 5 (Burst 4091 1025) ∷ []) ∷
+    Says 6 0 1 (Intr ∷ Clear ∷ End (ReadOk (replicate 512 0)) ∷ []) ∷
+    Waits 7 ∷
+    []
+    )
 
 -- offline_in_a_transfer: a unit that goes offline within a segment, beside one that waits
 abbrev pub offline_in_a_transfer_script : Script
@@ -189,24 +129,13 @@ abbrev pub offline_in_a_transfer_start : Replay
 offline_in_a_transfer_start = over_zeros offline_in_a_transfer_script
 
 abbrev pub offline_in_a_transfer : List Moment
-offline_in_a_transfer =
-    Played 3 (Submit (record { id = 1; unit = 0; part = part.C; block = 5; count = 3; last = 512; offset = 0; written = None }))
-    ∷ Told 3 0 1 (Transfer false 5 3)
-    ∷ Played 4 (Submit (record { id = 2; unit = 0; part = part.C; block = 6; count = 1; last = 512; offset = 0; written = None }))
-    ∷ Played 5 (Submit (record { id = 3; unit = 1; part = part.C; block = 5; count = 1; last = 512; offset = 0; written = None }))
-    ∷ Played 6 (MoveAt 0)
-    ∷ Told 6 0 1 (Sector 5 Clean)
-    ∷ Played 7 (SetOnline 0 false)
-    ∷ Played 8 (MoveAt 0)
-    ∷ Told 8 0 1 (Sector 6 verdict.Offline)
-    ∷ Played 9 (AttendTo 0)
-    ∷ Told 9 0 1 Intr
-    ∷ Told 9 0 1 Clear
-    ∷ Told 9 0 1 (End (Failed Offline 1))
-    ∷ Told 9 0 2 (End (Failed Offline 0))
-    ∷ Told 9 1 3 (Transfer false 5 1)
-    ∷ Played 10 Drain
-    ∷ Told 10 1 3 (Sector 5 Clean)
-    ∷ Told 10 1 3 Intr
-    ∷ Told 10 1 3 (End (ReadOk (replicate 512 0)))
-    ∷ []
+offline_in_a_transfer = run_of offline_in_a_transfer_script (
+    Says 3 0 1 (Transfer false 5 3 ∷ []) ∷
+    Says 6 0 1 (Sector 5 Clean ∷ []) ∷
+    Says 8 0 1 (Sector 6 verdict.Offline ∷ []) ∷
+    Says 9 0 1 (Intr ∷ Clear ∷ End (Failed Offline 1) ∷ []) ∷
+    Says 9 0 2 (End (Failed Offline 0) ∷ []) ∷
+    Says 9 1 3 (Transfer false 5 1 ∷ []) ∷
+    Says 10 1 3 (Sector 5 Clean ∷ Intr ∷ End (ReadOk (replicate 512 0)) ∷ []) ∷
+    []
+    )

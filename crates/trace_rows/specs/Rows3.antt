@@ -8,9 +8,9 @@ use Rattle.hardware_table.specs.declared.NoiseSpan.TheVariants.{Until}
 use Rattle.hardware_table.specs.declared.Moved.TheVariants.{Clean, Faulted}
 use Rattle.trace_replay.specs.requests.Requests.{Offline, ReadOk, OutsidePartition, EndOfPartition, Failed}
 use Rattle.trace_replay.specs.Script.{Submit, ArriveAt, MoveAt, AttendTo, Drain, Noise, Arm, SetOnline, Script, Declares, Plays}
-use Rattle.trace_replay.specs.Moments.{Recal, Offset, Centre, Clear, Pack, Transfer, Arrive, Sector, Intr, Try, Attn, End, Moment, Played, Told, Idle}
+use Rattle.trace_replay.specs.Moments.{Recal, Offset, Centre, Clear, Pack, Transfer, Arrive, Sector, Intr, Try, Attn, End, Moment}
 use Rattle.trace_replay.specs.Replay.{Replay}
-use Rattle.trace_rows.specs.Accepted.{over_zeros}
+use Rattle.trace_rows.specs.Accepted.{over_zeros, run_of, Says, Waits}
 
 -- offset_outlasts: an offset that outlasts its request ends noise that waits for it
 abbrev pub offset_outlasts_script : Script
@@ -20,149 +20,66 @@ abbrev pub offset_outlasts_start : Replay
 offset_outlasts_start = over_zeros offset_outlasts_script
 
 abbrev pub offset_outlasts : List Moment
-offset_outlasts =
-    Played 2 (Arm 0 kind.Opi 16)
-    ∷ Played 3 (Submit (record { id = 1; unit = 0; part = part.C; block = 5; count = 1; last = 512; offset = 0; written = None }))
-    ∷ Told 3 0 1 (Transfer false 5 1)
-    ∷ Played 4 (MoveAt 0)
-    ∷ Told 4 0 1 (Sector 5 (Faulted kind.Opi))
-    ∷ Played 5 (AttendTo 0)
-    ∷ Told 5 0 1 Intr
-    ∷ Told 5 0 1 Clear
-    ∷ Told 5 0 1 (Try 5 1)
-    ∷ Told 5 0 1 (Transfer false 5 1)
-    ∷ Played 6 (MoveAt 0)
-    ∷ Told 6 0 1 (Sector 5 (Faulted kind.Opi))
-    ∷ Played 7 (AttendTo 0)
-    ∷ Told 7 0 1 Intr
-    ∷ Told 7 0 1 Clear
-    ∷ Told 7 0 1 (Try 5 2)
-    ∷ Told 7 0 1 (Transfer false 5 1)
-    ∷ Played 8 (MoveAt 0)
-    ∷ Told 8 0 1 (Sector 5 (Faulted kind.Opi))
-    ∷ Played 9 (AttendTo 0)
-    ∷ Told 9 0 1 Intr
-    ∷ Told 9 0 1 Clear
-    ∷ Told 9 0 1 (Try 5 3)
-    ∷ Told 9 0 1 (Transfer false 5 1)
-    ∷ Played 10 (MoveAt 0)
-    ∷ Told 10 0 1 (Sector 5 (Faulted kind.Opi))
-    ∷ Played 11 (AttendTo 0)
-    ∷ Told 11 0 1 Intr
-    ∷ Told 11 0 1 Clear
-    ∷ Told 11 0 1 (Try 5 4)
-    ∷ Told 11 0 1 Recal
-    ∷ Played 12 (ArriveAt 0)
-    ∷ Told 12 0 1 Arrive
-    ∷ Played 13 (AttendTo 0)
-    ∷ Told 13 0 1 Attn
-    ∷ Told 13 0 1 (Transfer false 5 1)
-    ∷ Played 14 (MoveAt 0)
-    ∷ Told 14 0 1 (Sector 5 (Faulted kind.Opi))
-    ∷ Played 15 (AttendTo 0)
-    ∷ Told 15 0 1 Intr
-    ∷ Told 15 0 1 Clear
-    ∷ Told 15 0 1 (Try 5 5)
-    ∷ Told 15 0 1 (Transfer false 5 1)
-    ∷ Played 16 (MoveAt 0)
-    ∷ Told 16 0 1 (Sector 5 (Faulted kind.Opi))
-    ∷ Played 17 (AttendTo 0)
-    ∷ Told 17 0 1 Intr
-    ∷ Told 17 0 1 Clear
-    ∷ Told 17 0 1 (Try 5 6)
-    ∷ Told 17 0 1 (Transfer false 5 1)
-    ∷ Played 18 (MoveAt 0)
-    ∷ Told 18 0 1 (Sector 5 (Faulted kind.Opi))
-    ∷ Played 19 (AttendTo 0)
-    ∷ Told 19 0 1 Intr
-    ∷ Told 19 0 1 Clear
-    ∷ Told 19 0 1 (Try 5 7)
-    ∷ Told 19 0 1 (Transfer false 5 1)
-    ∷ Played 20 (MoveAt 0)
-    ∷ Told 20 0 1 (Sector 5 (Faulted kind.Opi))
-    ∷ Played 21 (AttendTo 0)
-    ∷ Told 21 0 1 Intr
-    ∷ Told 21 0 1 Clear
-    ∷ Told 21 0 1 (Try 5 8)
-    ∷ Told 21 0 1 (Transfer false 5 1)
-    ∷ Played 22 (MoveAt 0)
-    ∷ Told 22 0 1 (Sector 5 (Faulted kind.Opi))
-    ∷ Played 23 (AttendTo 0)
-    ∷ Told 23 0 1 Intr
-    ∷ Told 23 0 1 Clear
-    ∷ Told 23 0 1 (Try 5 9)
-    ∷ Told 23 0 1 (Transfer false 5 1)
-    ∷ Played 24 (MoveAt 0)
-    ∷ Told 24 0 1 (Sector 5 (Faulted kind.Opi))
-    ∷ Played 25 (AttendTo 0)
-    ∷ Told 25 0 1 Intr
-    ∷ Told 25 0 1 Clear
-    ∷ Told 25 0 1 (Try 5 10)
-    ∷ Told 25 0 1 (Transfer false 5 1)
-    ∷ Played 26 (MoveAt 0)
-    ∷ Told 26 0 1 (Sector 5 (Faulted kind.Opi))
-    ∷ Played 27 (AttendTo 0)
-    ∷ Told 27 0 1 Intr
-    ∷ Told 27 0 1 Clear
-    ∷ Told 27 0 1 (Try 5 11)
-    ∷ Told 27 0 1 (Transfer false 5 1)
-    ∷ Played 28 (MoveAt 0)
-    ∷ Told 28 0 1 (Sector 5 (Faulted kind.Opi))
-    ∷ Played 29 (AttendTo 0)
-    ∷ Told 29 0 1 Intr
-    ∷ Told 29 0 1 Clear
-    ∷ Told 29 0 1 (Try 5 12)
-    ∷ Told 29 0 1 Recal
-    ∷ Played 30 (ArriveAt 0)
-    ∷ Told 30 0 1 Arrive
-    ∷ Played 31 (AttendTo 0)
-    ∷ Told 31 0 1 Attn
-    ∷ Told 31 0 1 (Transfer false 5 1)
-    ∷ Played 32 (MoveAt 0)
-    ∷ Told 32 0 1 (Sector 5 (Faulted kind.Opi))
-    ∷ Played 33 (AttendTo 0)
-    ∷ Told 33 0 1 Intr
-    ∷ Told 33 0 1 Clear
-    ∷ Told 33 0 1 (Try 5 13)
-    ∷ Told 33 0 1 (Transfer false 5 1)
-    ∷ Played 34 (MoveAt 0)
-    ∷ Told 34 0 1 (Sector 5 (Faulted kind.Opi))
-    ∷ Played 35 (AttendTo 0)
-    ∷ Told 35 0 1 Intr
-    ∷ Told 35 0 1 Clear
-    ∷ Told 35 0 1 (Try 5 14)
-    ∷ Told 35 0 1 (Transfer false 5 1)
-    ∷ Played 36 (MoveAt 0)
-    ∷ Told 36 0 1 (Sector 5 (Faulted kind.Opi))
-    ∷ Played 37 (AttendTo 0)
-    ∷ Told 37 0 1 Intr
-    ∷ Told 37 0 1 Clear
-    ∷ Told 37 0 1 (Try 5 15)
-    ∷ Told 37 0 1 (Transfer false 5 1)
-    ∷ Played 38 (MoveAt 0)
-    ∷ Told 38 0 1 (Sector 5 (Faulted kind.Opi))
-    ∷ Played 39 (AttendTo 0)
-    ∷ Told 39 0 1 Intr
-    ∷ Told 39 0 1 Clear
-    ∷ Told 39 0 1 (Try 5 16)
-    ∷ Told 39 0 1 (Offset Plus400)
-    ∷ Played 40 (SetOnline 0 false)
-    ∷ Played 41 (ArriveAt 0)
-    ∷ Told 41 0 1 Arrive
-    ∷ Played 42 (AttendTo 0)
-    ∷ Told 42 0 1 Attn
-    ∷ Told 42 0 1 (End (Failed Offline 0))
-    ∷ Played 43 (SetOnline 0 true)
-    ∷ Played 44 (Noise (record { unit = 0; block = 5; span = Until Plus400; places = 0 ∷ 7 ∷ 14 ∷ [] }))
-    ∷ Played 45 (Submit (record { id = 2; unit = 0; part = part.C; block = 5; count = 1; last = 512; offset = 0; written = None }))
-    ∷ Told 45 0 2 Pack
-    ∷ Told 45 0 2 (Transfer false 5 1)
-    ∷ Played 46 Drain
-    ∷ Told 46 0 2 (Sector 5 Clean)
-    ∷ Told 46 0 2 Intr
-    ∷ Told 46 0 2 Centre
-    ∷ Told 46 0 2 (End (ReadOk (replicate 512 0)))
-    ∷ []
+offset_outlasts = run_of offset_outlasts_script (
+    Says 3 0 1 (Transfer false 5 1 ∷ []) ∷
+    Says 4 0 1 (Sector 5 (Faulted kind.Opi) ∷ []) ∷
+    Says 5 0 1 (Intr ∷ Clear ∷ Try 5 1 ∷
+    Transfer false 5 1 ∷ []) ∷
+    Says 6 0 1 (Sector 5 (Faulted kind.Opi) ∷ []) ∷
+    Says 7 0 1 (Intr ∷ Clear ∷ Try 5 2 ∷
+    Transfer false 5 1 ∷ []) ∷
+    Says 8 0 1 (Sector 5 (Faulted kind.Opi) ∷ []) ∷
+    Says 9 0 1 (Intr ∷ Clear ∷ Try 5 3 ∷
+    Transfer false 5 1 ∷ []) ∷
+    Says 10 0 1 (Sector 5 (Faulted kind.Opi) ∷ []) ∷
+    Says 11 0 1 (Intr ∷ Clear ∷ Try 5 4 ∷
+    Recal ∷ []) ∷
+    Says 12 0 1 (Arrive ∷ []) ∷
+    Says 13 0 1 (Attn ∷ Transfer false 5 1 ∷ []) ∷
+    Says 14 0 1 (Sector 5 (Faulted kind.Opi) ∷ []) ∷
+    Says 15 0 1 (Intr ∷ Clear ∷ Try 5 5 ∷
+    Transfer false 5 1 ∷ []) ∷
+    Says 16 0 1 (Sector 5 (Faulted kind.Opi) ∷ []) ∷
+    Says 17 0 1 (Intr ∷ Clear ∷ Try 5 6 ∷
+    Transfer false 5 1 ∷ []) ∷
+    Says 18 0 1 (Sector 5 (Faulted kind.Opi) ∷ []) ∷
+    Says 19 0 1 (Intr ∷ Clear ∷ Try 5 7 ∷
+    Transfer false 5 1 ∷ []) ∷
+    Says 20 0 1 (Sector 5 (Faulted kind.Opi) ∷ []) ∷
+    Says 21 0 1 (Intr ∷ Clear ∷ Try 5 8 ∷
+    Transfer false 5 1 ∷ []) ∷
+    Says 22 0 1 (Sector 5 (Faulted kind.Opi) ∷ []) ∷
+    Says 23 0 1 (Intr ∷ Clear ∷ Try 5 9 ∷
+    Transfer false 5 1 ∷ []) ∷
+    Says 24 0 1 (Sector 5 (Faulted kind.Opi) ∷ []) ∷
+    Says 25 0 1 (Intr ∷ Clear ∷ Try 5 10 ∷
+    Transfer false 5 1 ∷ []) ∷
+    Says 26 0 1 (Sector 5 (Faulted kind.Opi) ∷ []) ∷
+    Says 27 0 1 (Intr ∷ Clear ∷ Try 5 11 ∷
+    Transfer false 5 1 ∷ []) ∷
+    Says 28 0 1 (Sector 5 (Faulted kind.Opi) ∷ []) ∷
+    Says 29 0 1 (Intr ∷ Clear ∷ Try 5 12 ∷
+    Recal ∷ []) ∷
+    Says 30 0 1 (Arrive ∷ []) ∷
+    Says 31 0 1 (Attn ∷ Transfer false 5 1 ∷ []) ∷
+    Says 32 0 1 (Sector 5 (Faulted kind.Opi) ∷ []) ∷
+    Says 33 0 1 (Intr ∷ Clear ∷ Try 5 13 ∷
+    Transfer false 5 1 ∷ []) ∷
+    Says 34 0 1 (Sector 5 (Faulted kind.Opi) ∷ []) ∷
+    Says 35 0 1 (Intr ∷ Clear ∷ Try 5 14 ∷
+    Transfer false 5 1 ∷ []) ∷
+    Says 36 0 1 (Sector 5 (Faulted kind.Opi) ∷ []) ∷
+    Says 37 0 1 (Intr ∷ Clear ∷ Try 5 15 ∷
+    Transfer false 5 1 ∷ []) ∷
+    Says 38 0 1 (Sector 5 (Faulted kind.Opi) ∷ []) ∷
+    Says 39 0 1 (Intr ∷ Clear ∷ Try 5 16 ∷
+    Offset Plus400 ∷ []) ∷
+    Says 41 0 1 (Arrive ∷ []) ∷
+    Says 42 0 1 (Attn ∷ End (Failed Offline 0) ∷ []) ∷
+    Says 45 0 2 (Pack ∷ Transfer false 5 1 ∷ []) ∷
+    Says 46 0 2 (Sector 5 Clean ∷ Intr ∷ Centre ∷ End (ReadOk (replicate 512 0)) ∷ []) ∷
+    []
+    )
 
 -- pack_in_a_retry: a unit that was offline: PACK before the next step of its retry
 abbrev pub pack_in_a_retry_script : Script
@@ -172,53 +89,26 @@ abbrev pub pack_in_a_retry_start : Replay
 pack_in_a_retry_start = over_zeros pack_in_a_retry_script
 
 abbrev pub pack_in_a_retry : List Moment
-pack_in_a_retry =
-    Played 2 (Arm 0 kind.Opi 4)
-    ∷ Played 3 (Submit (record { id = 1; unit = 0; part = part.C; block = 5; count = 1; last = 512; offset = 0; written = None }))
-    ∷ Told 3 0 1 (Transfer false 5 1)
-    ∷ Played 4 (MoveAt 0)
-    ∷ Told 4 0 1 (Sector 5 (Faulted kind.Opi))
-    ∷ Played 5 (AttendTo 0)
-    ∷ Told 5 0 1 Intr
-    ∷ Told 5 0 1 Clear
-    ∷ Told 5 0 1 (Try 5 1)
-    ∷ Told 5 0 1 (Transfer false 5 1)
-    ∷ Played 6 (MoveAt 0)
-    ∷ Told 6 0 1 (Sector 5 (Faulted kind.Opi))
-    ∷ Played 7 (AttendTo 0)
-    ∷ Told 7 0 1 Intr
-    ∷ Told 7 0 1 Clear
-    ∷ Told 7 0 1 (Try 5 2)
-    ∷ Told 7 0 1 (Transfer false 5 1)
-    ∷ Played 8 (MoveAt 0)
-    ∷ Told 8 0 1 (Sector 5 (Faulted kind.Opi))
-    ∷ Played 9 (AttendTo 0)
-    ∷ Told 9 0 1 Intr
-    ∷ Told 9 0 1 Clear
-    ∷ Told 9 0 1 (Try 5 3)
-    ∷ Told 9 0 1 (Transfer false 5 1)
-    ∷ Played 10 (MoveAt 0)
-    ∷ Told 10 0 1 (Sector 5 (Faulted kind.Opi))
-    ∷ Played 11 (AttendTo 0)
-    ∷ Told 11 0 1 Intr
-    ∷ Told 11 0 1 Clear
-    ∷ Told 11 0 1 (Try 5 4)
-    ∷ Told 11 0 1 Recal
-    ∷ Played 12 (SetOnline 0 false)
-    ∷ Played 13 (SetOnline 0 true)
-    ∷ Played 14 (ArriveAt 0)
-    ∷ Told 14 0 1 Arrive
-    ∷ Played 15 (AttendTo 0)
-    ∷ Told 15 0 1 Attn
-    ∷ Told 15 0 1 Pack
-    ∷ Told 15 0 1 (Transfer false 5 1)
-    ∷ Played 16 Drain
-    ∷ Told 16 0 1 (Sector 5 Clean)
-    ∷ Told 16 0 1 Intr
-    ∷ Told 16 0 1 (End (ReadOk (replicate 512 0)))
-    ∷ Played 17 Drain
-    ∷ Idle 17
-    ∷ []
+pack_in_a_retry = run_of pack_in_a_retry_script (
+    Says 3 0 1 (Transfer false 5 1 ∷ []) ∷
+    Says 4 0 1 (Sector 5 (Faulted kind.Opi) ∷ []) ∷
+    Says 5 0 1 (Intr ∷ Clear ∷ Try 5 1 ∷
+    Transfer false 5 1 ∷ []) ∷
+    Says 6 0 1 (Sector 5 (Faulted kind.Opi) ∷ []) ∷
+    Says 7 0 1 (Intr ∷ Clear ∷ Try 5 2 ∷
+    Transfer false 5 1 ∷ []) ∷
+    Says 8 0 1 (Sector 5 (Faulted kind.Opi) ∷ []) ∷
+    Says 9 0 1 (Intr ∷ Clear ∷ Try 5 3 ∷
+    Transfer false 5 1 ∷ []) ∷
+    Says 10 0 1 (Sector 5 (Faulted kind.Opi) ∷ []) ∷
+    Says 11 0 1 (Intr ∷ Clear ∷ Try 5 4 ∷
+    Recal ∷ []) ∷
+    Says 14 0 1 (Arrive ∷ []) ∷
+    Says 15 0 1 (Attn ∷ Pack ∷ Transfer false 5 1 ∷ []) ∷
+    Says 16 0 1 (Sector 5 Clean ∷ Intr ∷ End (ReadOk (replicate 512 0)) ∷ []) ∷
+    Waits 17 ∷
+    []
+    )
 
 -- partition_ends: requests at the end of a partition, beyond it, and in one that is empty
 abbrev pub partition_ends_script : Script
@@ -228,13 +118,10 @@ abbrev pub partition_ends_start : Replay
 partition_ends_start = over_zeros partition_ends_script
 
 abbrev pub partition_ends : List Moment
-partition_ends =
-    Played 2 (Submit (record { id = 1; unit = 0; part = part.C; block = 340522; count = 1; last = 512; offset = 0; written = None }))
-    ∷ Told 2 0 1 (End EndOfPartition)
-    ∷ Played 3 (Submit (record { id = 2; unit = 0; part = part.C; block = 340521; count = 2; last = 512; offset = 0; written = None }))
-    ∷ Told 3 0 2 (End OutsidePartition)
-    ∷ Played 4 (Submit (record { id = 3; unit = 0; part = part.H; block = 0; count = 1; last = 512; offset = 0; written = None }))
-    ∷ Told 4 0 3 (End EndOfPartition)
-    ∷ Played 5 Drain
-    ∷ Idle 5
-    ∷ []
+partition_ends = run_of partition_ends_script (
+    Says 2 0 1 (End EndOfPartition ∷ []) ∷
+    Says 3 0 2 (End OutsidePartition ∷ []) ∷
+    Says 4 0 3 (End EndOfPartition ∷ []) ∷
+    Waits 5 ∷
+    []
+    )
