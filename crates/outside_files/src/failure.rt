@@ -85,7 +85,7 @@ pub struct PackNotes {
 /// asked to.
 #[derive(Drop)]
 pub struct SourceNotes {
-    pub failures: Failures<()>,
+    pub failures: Failures<Deed>,
     pub given: u64,
     pub kept: Option<Vec<u8>>,
 }
@@ -96,7 +96,7 @@ const FRONT: usize = 64;
 /// What a sink keeps: the calls of its writer that failed, how many bytes it took, and the front of the last piece that it was given.
 #[derive(Clone, Copy)]
 pub struct SinkNotes {
-    pub failures: Failures<()>,
+    pub failures: Failures<Deed>,
     pub taken: u64,
     front: [u8; 64],
     length: usize,

@@ -3,7 +3,7 @@ ghost use Rattle.std.specs.Io.KnownBytes.{ReadConsumes, WriteAppends};
 ghost use Rattle.outside_traits.specs.Causes.{HasCause, Counts};
 ghost use Rattle.outside_files.specs.Answers.{takes_nothing, bytes_in};
 
-use crate::failure::{SinkNotes, SourceNotes};
+use crate::failure::{Deed, SinkNotes, SourceNotes};
 use outside_traits::traits::{Sink, SinkFailed, Source, SourceFailed};
 use std::alloc::Global;
 use std::io;
@@ -102,7 +102,9 @@ impl<R: Read> Source for StdSource<R> {
         let answer = self.inner.read(into);
         self.notes
             .take(into.get(..answer.unwrap_or(0)).unwrap_or(b""));
-        self.notes.failures.counted(answer, (), SourceFailed)
+        self.notes
+            .failures
+            .counted(answer, Deed::Read, SourceFailed)
     }
 }
 
@@ -176,6 +178,6 @@ impl<W: Write> Sink for StdSink<W> {
     {
         let answer = some_taken(self.inner.write(from), from.len());
         self.notes.take(from, answer.unwrap_or(0));
-        self.notes.failures.counted(answer, (), SinkFailed)
+        self.notes.failures.counted(answer, Deed::Write, SinkFailed)
     }
 }

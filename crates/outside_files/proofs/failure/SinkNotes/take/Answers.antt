@@ -1,4 +1,3 @@
-use Rattle.std.proofs.Common.{length}
 use Rattle.outside_files.proofs.SinkLaws.{front_kept}
 use Rattle.outside_files.proofs.failure.SinkNotes.take.Goals as goal
 
