@@ -1,6 +1,9 @@
-// What a file or a stream keeps so that a message can say why a run failed. No contract speaks of it.
+// What a file or a stream keeps so that a message can say why a run failed.
+ghost use Rattle.std.specs.Prelude.{◌≡◌, ◌+◌, ◌-◌, ◌^◌, [], None, min, take, OnOk, OnErr};
+ghost use Rattle.outside_traits.specs.Causes.{HasCause, HandsOn, next};
+ghost use Rattle.outside_files.specs.Notes.{first_failure, last_front};
+
 use crate::folder::Part;
-use std::alloc::Global;
 use std::io;
 
 /// What was tried with a file.
@@ -18,27 +21,71 @@ pub enum Deed {
     Measure,
 }
 
-/// A failed call on a unit's file: what it tried, on which file, and the error.
+/// A call on a unit's file: what it tried, and on which file.
 #[derive(Clone, Copy)]
-pub struct FileFailure {
+pub struct FileCall {
     pub deed: Deed,
     pub unit: u8,
     pub part: Part,
-    pub error: io::Error,
 }
 
-/// What packs in files keep: the first call that failed, how many blocks were written, and the last block that was written.
+/// How many calls failed, and what the first of them tried, with its error.
+#[derive(Clone, Copy)]
+pub struct Failures<W> {
+    pub count: u64,
+    pub first: Option<(W, io::Error)>,
+}
+
+impl<W: Copy> Failures<W> {
+    /// No call has failed.
+    pub fn new() -> Failures<W>
+        ensures count { result.count ≡ 0 }
+        ensures first { result.first ≡ None }
+    {
+        Failures {
+            count: 0,
+            first: None,
+        }
+    }
+
+    /// Hands on what a call of `std` answered, with `failed` in place of its error. An error is counted, and it is kept with what the
+    /// call tried, unless an earlier call failed.
+    pub fn counted<T, E: Drop>(
+        &mut self,
+        answer: io::Result<T>,
+        tried: W,
+        failed: E,
+    ) -> Result<T, E>
+        ensures answer { HandsOn answer failed result self.old.count self.new.count }
+        ensures cause { HasCause self.old.count self.new.count result }
+        ensures first { self.new.first ≡ first_failure self.old.first tried answer }
+    {
+        match answer {
+            Ok(value) => Ok(value),
+            Err(error) => {
+                self.count = self.count.saturating_add(1);
+                if self.first.is_none() {
+                    self.first = Some((tried, error));
+                }
+                Err(failed)
+            }
+        }
+    }
+}
+
+/// What packs in files keep: the calls that failed, how many blocks were written, and the last block that was written.
 #[derive(Clone, Copy)]
 pub struct PackNotes {
-    pub first: Option<FileFailure>,
+    pub failures: Failures<FileCall>,
     pub written: u64,
     pub last: u32,
 }
 
-/// What a source keeps: the first error of its reader and how many bytes the source gave. It also keeps these bytes if it is asked to.
+/// What a source keeps: the calls of its reader that failed, and how many bytes the source gave. It also keeps these bytes if it is
+/// asked to.
 #[derive(Drop)]
 pub struct SourceNotes {
-    pub first: Option<io::Error>,
+    pub failures: Failures<Deed>,
     pub given: u64,
     pub kept: Option<Vec<u8>>,
 }
@@ -46,10 +93,10 @@ pub struct SourceNotes {
 /// How many bytes of a piece a sink keeps.
 const FRONT: usize = 64;
 
-/// What a sink keeps: the first error of its writer, how many bytes it took, and the front of the last piece that it was given.
+/// What a sink keeps: the calls of its writer that failed, how many bytes it took, and the front of the last piece that it was given.
 #[derive(Clone, Copy)]
 pub struct SinkNotes {
-    pub first: Option<io::Error>,
+    pub failures: Failures<Deed>,
     pub taken: u64,
     front: [u8; 64],
     length: usize,
@@ -57,39 +104,26 @@ pub struct SinkNotes {
 
 impl PackNotes {
     /// The notes of packs on which nothing was written and nothing failed.
-    pub fn new() -> PackNotes {
+    pub fn new() -> PackNotes
+        ensures count { result.failures.count ≡ 0 }
+        ensures first { result.failures.first ≡ None }
+        ensures written { result.written ≡ 0 }
+        ensures last { result.last ≡ 0 }
+    {
         PackNotes {
-            first: None,
+            failures: Failures::new(),
             written: 0,
             last: 0,
         }
     }
 
-    /// Keeps what failed, unless an earlier call failed. If the file is not open, the call failed to open it.
-    pub(crate) fn note<T>(
-        &mut self,
-        answer: &io::Result<T>,
-        deed: Deed,
-        unit: u8,
-        part: Part,
-        is_open: bool,
-    ) {
-        let error = match answer {
-            Ok(_) => return,
-            Err(error) => *error,
-        };
-        if self.first.is_none() {
-            self.first = Some(FileFailure {
-                deed: tried(deed, is_open),
-                unit,
-                part,
-                error,
-            });
-        }
-    }
-
     /// Counts a block that was written.
-    pub(crate) fn count(&mut self, answer: &io::Result<()>, block: u32) {
+    pub(crate) fn count(&mut self, answer: &io::Result<()>, block: u32)
+        ensures failures { self.new.failures ≡ self.old.failures }
+        ensures written { OnOk answer.now (self.new.written ≡ next self.old.written) }
+        ensures last { OnOk answer.now (self.new.last ≡ block) }
+        ensures failed { OnErr answer.now (self.new ≡ self.old) }
+    {
         if answer.is_ok() {
             self.written = self.written.saturating_add(1);
             self.last = block;
@@ -97,44 +131,24 @@ impl PackNotes {
     }
 }
 
-/// What a call really tried: if the file is not open, the call tried to open or make it.
-fn tried(deed: Deed, is_open: bool) -> Deed {
-    if is_open {
-        return deed;
-    }
-    match deed {
-        Deed::Write => Deed::Make,
-        _ => Deed::Open,
-    }
-}
-
 impl SourceNotes {
-    pub(crate) fn new() -> SourceNotes {
+    pub(crate) fn new() -> SourceNotes
+        ensures count { result.failures.count ≡ 0 }
+        ensures first { result.failures.first ≡ None }
+        ensures given { result.given ≡ 0 }
+        ensures kept { result.kept ≡ None }
+    {
         SourceNotes {
-            first: None,
+            failures: Failures::new(),
             given: 0,
             kept: None,
         }
     }
 
-    /// From now on, the source also keeps the bytes that it gives.
-    pub(crate) fn keep(&mut self, alloc: Global) {
-        self.kept = Some(Vec::new(alloc));
-    }
-
-    /// Notes what a reader answered. If there is no memory for its bytes, the source keeps no bytes.
-    pub(crate) fn note(&mut self, answer: &io::Result<usize>, into: &[u8]) {
-        match answer {
-            Ok(count) => self.take(into.get(..*count).unwrap_or(b"")),
-            Err(error) => {
-                if self.first.is_none() {
-                    self.first = Some(*error);
-                }
-            }
-        }
-    }
-
-    fn take(&mut self, bytes: &[u8]) {
+    /// Notes bytes that the source gave. If there is no memory for them, the source keeps no bytes.
+    pub(crate) fn take(&mut self, bytes: &[u8])
+        ensures failures { self.new.failures ≡ self.old.failures }
+    {
         self.given = self.given.saturating_add(bytes.len() as u64);
         let is_full = match &mut self.kept {
             Some(kept) => kept.extend_from_slice(bytes).is_err(),
@@ -147,32 +161,36 @@ impl SourceNotes {
 }
 
 impl SinkNotes {
-    pub(crate) fn new() -> SinkNotes {
+    pub(crate) fn new() -> SinkNotes
+        ensures count { result.failures.count ≡ 0 }
+        ensures first { result.failures.first ≡ None }
+        ensures taken { result.taken ≡ 0 }
+        ensures piece { last_front result ≡ [] }
+    {
         SinkNotes {
-            first: None,
+            failures: Failures::new(),
             taken: 0,
             front: [0; 64],
             length: 0,
         }
     }
 
-    /// Notes what a writer answered for a piece.
-    pub(crate) fn note(&mut self, answer: &io::Result<usize>, from: &[u8]) {
-        match answer {
-            Ok(count) => self.taken = self.taken.saturating_add(*count as u64),
-            Err(error) => {
-                if self.first.is_none() {
-                    self.first = Some(*error);
-                }
-            }
-        }
+    /// Notes a piece that the sink was given, and how many bytes of it the sink took.
+    pub(crate) fn take(&mut self, from: &[u8], taken: usize)
+        ensures failures { self.new.failures ≡ self.old.failures }
+        ensures taken { self.new.taken ≡ min (self.old.taken + taken) (2 ^ 64 - 1) }
+        ensures piece { last_front self.new ≡ take 64 from.now }
+    {
+        self.taken = self.taken.saturating_add(taken as u64);
         let length = from.len().min(FRONT);
         self.front[..length].copy_from_slice(&from[..length]);
         self.length = length;
     }
 
     /// The front of the last piece, at most 64 bytes.
-    pub fn last_piece(&self) -> &[u8] {
-        self.front.get(..self.length).unwrap_or(b"")
+    pub fn last_piece(&self) -> &[u8]
+        ensures { result.now ≡ last_front self.now }
+    {
+        &self.front[..self.length.min(FRONT)]
     }
 }

@@ -2,8 +2,8 @@ ghost use Rattle.std.specs.Prelude.{◌≡◌, ℕ, ◌<◌, ◌≤◌, ◌++◌
 ghost use Rattle.outside_traits.specs.Causes.{HasCause, Counts};
 ghost use Rattle.outside_files.specs.Answers.{TakesOn};
 
-use crate::failure::Deed;
-use crate::streams::{counted, some_taken};
+use crate::failure::{Deed, Failures};
+use crate::streams::some_taken;
 use outside_traits::traits::{Sink, SinkFailed};
 use std::io;
 use std::io::{ErrorKind, Write};
@@ -16,39 +16,41 @@ pub struct FileSink<'a, R: Files> {
     rt: R,
     name: &'a str,
     file: Option<R::File>,
-    faults: u64,
-    first: Option<(Deed, io::Error)>,
+    failures: Failures<Deed>,
 }
 
 impl<'a, R: Files> FileSink<'a, R> {
     /// A sink that writes to the file of this name. This call opens nothing, and the count of faults begins at 0.
     pub fn new(rt: R, name: &'a str) -> FileSink<'a, R>
         ensures file { result.name.now ≡ name.now }
-        ensures faults { result.faults ≡ 0 }
+        ensures faults { result.failures.count ≡ 0 }
     {
         FileSink {
             rt,
             name,
             file: None,
-            faults: 0,
-            first: None,
+            failures: Failures::new(),
         }
     }
 
     /// What the first failed call tried, to make the file or to write to it, and its error.
-    pub fn first_failure(&self) -> Option<(Deed, io::Error)> {
-        self.first
+    pub fn first_failure(&self) -> Option<(Deed, io::Error)>
+        ensures { result ≡ self.now.failures.first }
+    {
+        self.failures.first
     }
 
     /// The name of the file.
-    pub fn name(&self) -> &str {
+    pub fn name(&self) -> &str
+        ensures { result.now ≡ self.now.name.now }
+    {
         self.name
     }
 
     fn try_write(&mut self, from: &[u8]) -> io::Result<usize>
         ensures bound { IfOk result (λ n. n ≤ length from.now) }
         ensures name { self.new.name.now ≡ self.old.name.now }
-        ensures faults { self.new.faults ≡ self.old.faults }
+        ensures failures { self.new.failures ≡ self.old.failures }
         ensures on { TakesOn R.File.contents self.old.file self.new.file result from.now }
     {
         if self.file.is_none() {
@@ -61,15 +63,6 @@ impl<'a, R: Files> FileSink<'a, R> {
     }
 }
 
-/// Keeps an error, unless there was an earlier one.
-fn note_first(first: &mut Option<(Deed, io::Error)>, answer: &io::Result<usize>, deed: Deed) {
-    if let Err(error) = answer {
-        if first.is_none() {
-            *first = Some((deed, *error));
-        }
-    }
-}
-
 impl<'a, R: Files> Sink for FileSink<'a, R> {
     ghost use Rattle.std.specs.Prelude.{false, List, [], IsTrue, OnErr};
 
@@ -77,16 +70,16 @@ impl<'a, R: Files> Sink for FileSink<'a, R> {
 
     ghost taken = { λ _. [] };
 
-    ghost faults = { λ s. s.faults };
+    ghost faults = { λ s. s.failures.count };
 
     fn write(&mut self, from: &[u8]) -> Result<usize, SinkFailed>
         ensures bound { IfOk result (λ n. n ≤ length from.now) }
         ensures some { IfOk result (λ n. 0 < length from.now → 0 < n) }
         ensures bytes { IfOk result (λ n. IsTrue false → ◌≡◌ {A = List ℕ} [] ([] ++ take n from.now)) }
         ensures err { OnErr result (IsTrue false → ◌≡◌ {A = List ℕ} [] []) }
-        ensures cause { HasCause self.old.faults self.new.faults result }
+        ensures cause { HasCause self.old.failures.count self.new.failures.count result }
         // The sink counts each failure and nothing else, and keeps the name of its file.
-        ensures counted { Counts result self.old.faults self.new.faults }
+        ensures counted { Counts result self.old.failures.count self.new.failures.count }
         ensures name { self.new.name.now ≡ self.old.name.now }
         // If the file was open, the sink takes what the file takes.
         ensures on { TakesOn R.File.contents self.old.file self.new.file result from.now }
@@ -97,7 +90,6 @@ impl<'a, R: Files> Sink for FileSink<'a, R> {
         } else {
             Deed::Make
         };
-        note_first(&mut self.first, &answer, deed);
-        counted(answer, SinkFailed, &mut self.faults)
+        self.failures.counted(answer, deed, SinkFailed)
     }
 }

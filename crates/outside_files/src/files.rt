@@ -5,10 +5,9 @@ ghost use Rattle.outside_traits.specs.declared.traits.PackCall.TheVariants.{Leng
 ghost use Rattle.outside_files.specs.Folder.{with_put, IsTorn, tells_whole};
 ghost use Rattle.outside_files.specs.declared.folder.Part.TheVariants.{Image};
 
-use crate::failure::{Deed, PackNotes};
+use crate::failure::{Deed, FileCall, PackNotes};
 use crate::folder::{PackFolder, Part};
 use crate::os_folder::OsFolder;
-use crate::streams::counted;
 use crate::transfers::{length_of, read_window, write_front};
 use outside_traits::traits::{PackCall, Packs, StoreFailed};
 use outside_traits::wide_packs::WidePacks;
@@ -37,17 +36,14 @@ fn mark_byte(on: bool) -> u8
     u8::from(on)
 }
 
-/// Keeps why a call on a unit's file failed, unless an earlier call failed.
-fn note<F: PackFolder, T>(
-    folder: &F,
-    notes: &mut PackNotes,
-    answer: &io::Result<T>,
-    deed: Deed,
-    unit: u8,
-    part: Part,
-) {
-    let is_open = folder.is_open(unit, part);
-    notes.note(answer, deed, unit, part, is_open);
+/// What a call on a unit's file tried. If the file is not open, the call failed to open or make it.
+fn tried<F: PackFolder>(folder: &F, deed: Deed, unit: u8, part: Part) -> FileCall {
+    let deed = match deed {
+        _ if folder.is_open(unit, part) => deed,
+        Deed::Write => Deed::Make,
+        _ => Deed::Open,
+    };
+    FileCall { deed, unit, part }
 }
 
 /// The packs in the files of a folder. Block b is bytes 512*b to 512*b+511 of its unit's image, and byte b of the marks belongs
@@ -60,7 +56,6 @@ fn note<F: PackFolder, T>(
 pub struct FilePacks<F> {
     folder: F,
     torn: bool,
-    faults: u64,
     called: PackCall,
     notes: PackNotes,
 }
@@ -72,7 +67,7 @@ where
     /// The packs in the files `hpU.dsk` and `hpU.bad` of the working folder. This call opens nothing, and the count of faults begins
     /// at 0.
     pub fn new(rt: R) -> FilePacks<OsFolder<R>>
-        ensures faults { result.faults ≡ 0 }
+        ensures faults { result.notes.failures.count ≡ 0 }
         ensures whole { result.torn ≡ false }
     {
         FilePacks::over(OsFolder::new(rt))
@@ -83,20 +78,21 @@ impl<F: PackFolder> FilePacks<F> {
     /// The packs in the files of this folder. The count of faults begins at 0.
     pub fn over(folder: F) -> FilePacks<F>
         ensures folder { result.folder ≡ folder }
-        ensures faults { result.faults ≡ 0 }
+        ensures faults { result.notes.failures.count ≡ 0 }
         ensures whole { result.torn ≡ false }
     {
         FilePacks {
             folder,
             torn: false,
-            faults: 0,
             called: PackCall::Length { unit: 0 },
             notes: PackNotes::new(),
         }
     }
 
     /// What the packs keep so that a message can say why a run failed.
-    pub fn notes(&self) -> PackNotes {
+    pub fn notes(&self) -> PackNotes
+        ensures { result ≡ self.now.notes }
+    {
         self.notes
     }
 
@@ -107,7 +103,7 @@ impl<F: PackFolder> FilePacks<F> {
         ensures mark { IfOk result (λ on. IsTrue (F.tells self.new.folder) → on ≡ is_marked (F.held self.old.folder unit) block) }
         ensures same { IsTrue (F.tells self.new.folder) → F.held self.new.folder ≡ F.held self.old.folder }
         ensures torn { self.new.torn ≡ self.old.torn }
-        ensures faults { self.new.faults ≡ self.old.faults }
+        ensures notes { self.new.notes ≡ self.old.notes }
     {
         let mut byte = [0u8; 1];
         read_window(
@@ -126,7 +122,7 @@ impl<F: PackFolder> FilePacks<F> {
         ensures never_again { IsTrue (F.tells self.new.folder) → IsTrue (F.tells self.old.folder) }
         ensures torn { self.new.torn ≡ false → self.old.torn ≡ false }
         ensures front { self.old.torn ≡ false → self.new.torn ≡ true → IsTorn (F.tells self.new.folder) (F.held self.old.folder) (F.held self.new.folder) unit part at from.now }
-        ensures faults { self.new.faults ≡ self.old.faults }
+        ensures notes { self.new.notes ≡ self.old.notes }
         ensures ok { OnOk result (IsTrue (F.tells self.new.folder) → F.held self.new.folder ≡ with_put (F.held self.old.folder) unit part at from.now) }
         ensures err { OnErr result (IsTrue (F.tells self.new.folder) → self.new.torn ≡ false → F.held self.new.folder ≡ F.held self.old.folder) }
     {
@@ -143,7 +139,7 @@ impl<F: PackFolder> Packs for FilePacks<F> {
 
     ghost held = { λ p. F.held p.folder };
 
-    ghost faults = { λ p. p.faults };
+    ghost faults = { λ p. p.notes.failures.count };
 
     ghost failed_at = { λ p. p.called };
 
@@ -154,22 +150,15 @@ impl<F: PackFolder> Packs for FilePacks<F> {
         ensures never_again { IsTrue (tells_whole (F.tells self.new.folder) self.new.torn) → IsTrue (tells_whole (F.tells self.old.folder) self.old.torn) }
         ensures length { IfOk result (λ n. IsTrue (tells_whole (F.tells self.new.folder) self.new.torn) → n ≡ length (F.held self.old.folder unit).image) }
         ensures same { IsTrue (tells_whole (F.tells self.new.folder) self.new.torn) → F.held self.new.folder ≡ F.held self.old.folder }
-        ensures cause { HasCause self.old.faults self.new.faults result }
+        ensures cause { HasCause self.old.notes.failures.count self.new.notes.failures.count result }
         ensures at { OnErr result (self.new.called ≡ Length unit) }
-        ensures counted { Counts result self.old.faults self.new.faults }
+        ensures counted { Counts result self.old.notes.failures.count self.new.notes.failures.count }
         ensures torn { self.new.torn ≡ self.old.torn }
     {
         let length = length_of(&mut self.folder, unit, Part::Image);
-        note(
-            &self.folder,
-            &mut self.notes,
-            &length,
-            Deed::Measure,
-            unit,
-            Part::Image,
-        );
+        let call = tried(&self.folder, Deed::Measure, unit, Part::Image);
         self.called = PackCall::Length { unit };
-        counted(length, StoreFailed, &mut self.faults)
+        self.notes.failures.counted(length, call, StoreFailed)
     }
 
     #[tactic(auto, unfolding(pack_geometry::specs::Pack::block_at))]
@@ -178,23 +167,16 @@ impl<F: PackFolder> Packs for FilePacks<F> {
         ensures never_again { IsTrue (tells_whole (F.tells self.new.folder) self.new.torn) → IsTrue (tells_whole (F.tells self.old.folder) self.old.torn) }
         ensures block { OnOk result (IsTrue (tells_whole (F.tells self.new.folder) self.new.torn) → into.new ≡ block_at (F.held self.old.folder unit).image block) }
         ensures same { IsTrue (tells_whole (F.tells self.new.folder) self.new.torn) → F.held self.new.folder ≡ F.held self.old.folder }
-        ensures cause { HasCause self.old.faults self.new.faults result }
+        ensures cause { HasCause self.old.notes.failures.count self.new.notes.failures.count result }
         ensures at { OnErr result (self.new.called ≡ Block unit block) }
-        ensures counted { Counts result self.old.faults self.new.faults }
+        ensures counted { Counts result self.old.notes.failures.count self.new.notes.failures.count }
         ensures torn { self.new.torn ≡ self.old.torn }
     {
         let place = place_in_image(block);
         let read = read_window(&mut self.folder, unit, Part::Image, place, into);
-        note(
-            &self.folder,
-            &mut self.notes,
-            &read,
-            Deed::Read,
-            unit,
-            Part::Image,
-        );
+        let call = tried(&self.folder, Deed::Read, unit, Part::Image);
         self.called = PackCall::Block { unit, block };
-        counted(read, StoreFailed, &mut self.faults)
+        self.notes.failures.counted(read, call, StoreFailed)
     }
 
     fn write(&mut self, unit: u8, block: u32, from: &[u8; 512]) -> Result<(), StoreFailed>
@@ -203,24 +185,17 @@ impl<F: PackFolder> Packs for FilePacks<F> {
         ensures ok { OnOk result (IsTrue (tells_whole (F.tells self.new.folder) self.new.torn) → F.held self.new.folder ≡ with_written (F.held self.old.folder) unit block from.now) }
         ensures err { OnErr result (IsTrue (tells_whole (F.tells self.new.folder) self.new.torn) → (F.held self.new.folder ≡ F.held self.old.folder)
             ⊎ (F.held self.new.folder ≡ with_written (F.held self.old.folder) unit block from.now)) }
-        ensures cause { HasCause self.old.faults self.new.faults result }
+        ensures cause { HasCause self.old.notes.failures.count self.new.notes.failures.count result }
         ensures at { OnErr result (self.new.called ≡ Block unit block) }
-        ensures counted { Counts result self.old.faults self.new.faults }
+        ensures counted { Counts result self.old.notes.failures.count self.new.notes.failures.count }
         ensures torn { self.old.torn ≡ false → self.new.torn ≡ true
             → IsTorn (F.tells self.new.folder) (F.held self.old.folder) (F.held self.new.folder) unit Image (512 * block) from.now }
     {
         let written = self.put(unit, Part::Image, place_in_image(block), from);
-        note(
-            &self.folder,
-            &mut self.notes,
-            &written,
-            Deed::Write,
-            unit,
-            Part::Image,
-        );
+        let call = tried(&self.folder, Deed::Write, unit, Part::Image);
         self.notes.count(&written, block);
         self.called = PackCall::Block { unit, block };
-        counted(written, StoreFailed, &mut self.faults)
+        self.notes.failures.counted(written, call, StoreFailed)
     }
 
     fn marked(&mut self, unit: u8, block: u32) -> Result<bool, StoreFailed>
@@ -228,22 +203,15 @@ impl<F: PackFolder> Packs for FilePacks<F> {
         ensures never_again { IsTrue (tells_whole (F.tells self.new.folder) self.new.torn) → IsTrue (tells_whole (F.tells self.old.folder) self.old.torn) }
         ensures mark { IfOk result (λ on. IsTrue (tells_whole (F.tells self.new.folder) self.new.torn) → on ≡ is_marked (F.held self.old.folder unit) block) }
         ensures same { IsTrue (tells_whole (F.tells self.new.folder) self.new.torn) → F.held self.new.folder ≡ F.held self.old.folder }
-        ensures cause { HasCause self.old.faults self.new.faults result }
+        ensures cause { HasCause self.old.notes.failures.count self.new.notes.failures.count result }
         ensures at { OnErr result (self.new.called ≡ Block unit block) }
-        ensures counted { Counts result self.old.faults self.new.faults }
+        ensures counted { Counts result self.old.notes.failures.count self.new.notes.failures.count }
         ensures torn { self.new.torn ≡ self.old.torn }
     {
         let mark = self.read_mark(unit, block);
-        note(
-            &self.folder,
-            &mut self.notes,
-            &mark,
-            Deed::Read,
-            unit,
-            Part::Marks,
-        );
+        let call = tried(&self.folder, Deed::Read, unit, Part::Marks);
         self.called = PackCall::Block { unit, block };
-        counted(mark, StoreFailed, &mut self.faults)
+        self.notes.failures.counted(mark, call, StoreFailed)
     }
 
     fn set_mark(&mut self, unit: u8, block: u32, on: bool) -> Result<(), StoreFailed>
@@ -252,22 +220,15 @@ impl<F: PackFolder> Packs for FilePacks<F> {
         ensures ok { OnOk result (IsTrue (tells_whole (F.tells self.new.folder) self.new.torn) → F.held self.new.folder ≡ with_mark (F.held self.old.folder) unit block on) }
         ensures err { OnErr result (IsTrue (tells_whole (F.tells self.new.folder) self.new.torn) → (F.held self.new.folder ≡ F.held self.old.folder)
             ⊎ (F.held self.new.folder ≡ with_mark (F.held self.old.folder) unit block on)) }
-        ensures cause { HasCause self.old.faults self.new.faults result }
+        ensures cause { HasCause self.old.notes.failures.count self.new.notes.failures.count result }
         ensures at { OnErr result (self.new.called ≡ Block unit block) }
-        ensures counted { Counts result self.old.faults self.new.faults }
+        ensures counted { Counts result self.old.notes.failures.count self.new.notes.failures.count }
         ensures torn { self.new.torn ≡ self.old.torn }
     {
         let written = self.put(unit, Part::Marks, u64::from(block), &[mark_byte(on)]);
-        note(
-            &self.folder,
-            &mut self.notes,
-            &written,
-            Deed::Write,
-            unit,
-            Part::Marks,
-        );
+        let call = tried(&self.folder, Deed::Write, unit, Part::Marks);
         self.called = PackCall::Block { unit, block };
-        counted(written, StoreFailed, &mut self.faults)
+        self.notes.failures.counted(written, call, StoreFailed)
     }
 }
 
@@ -277,21 +238,14 @@ impl<F: PackFolder> WidePacks for FilePacks<F> {
         ensures never_again { IsTrue (tells_whole (F.tells self.new.folder) self.new.torn) → IsTrue (tells_whole (F.tells self.old.folder) self.old.torn) }
         ensures bytes { OnOk result (IsTrue (tells_whole (F.tells self.new.folder) self.new.torn) → into.new ≡ window (length into.old) (512 * block) (F.held self.old.folder unit).image) }
         ensures same { IsTrue (tells_whole (F.tells self.new.folder) self.new.torn) → F.held self.new.folder ≡ F.held self.old.folder }
-        ensures cause { HasCause self.old.faults self.new.faults result }
-        ensures counted { Counts result self.old.faults self.new.faults }
+        ensures cause { HasCause self.old.notes.failures.count self.new.notes.failures.count result }
+        ensures counted { Counts result self.old.notes.failures.count self.new.notes.failures.count }
         ensures torn { self.new.torn ≡ self.old.torn }
     {
         let place = place_in_image(block);
         let read = read_window(&mut self.folder, unit, Part::Image, place, into);
-        note(
-            &self.folder,
-            &mut self.notes,
-            &read,
-            Deed::Read,
-            unit,
-            Part::Image,
-        );
-        counted(read, StoreFailed, &mut self.faults)
+        let call = tried(&self.folder, Deed::Read, unit, Part::Image);
+        self.notes.failures.counted(read, call, StoreFailed)
     }
 
     fn read_marks(&mut self, unit: u8, block: u32, into: &mut [u8]) -> Result<(), StoreFailed>
@@ -299,20 +253,13 @@ impl<F: PackFolder> WidePacks for FilePacks<F> {
         ensures never_again { IsTrue (tells_whole (F.tells self.new.folder) self.new.torn) → IsTrue (tells_whole (F.tells self.old.folder) self.old.torn) }
         ensures bytes { OnOk result (IsTrue (tells_whole (F.tells self.new.folder) self.new.torn) → into.new ≡ window (length into.old) block (F.held self.old.folder unit).marks) }
         ensures same { IsTrue (tells_whole (F.tells self.new.folder) self.new.torn) → F.held self.new.folder ≡ F.held self.old.folder }
-        ensures cause { HasCause self.old.faults self.new.faults result }
-        ensures counted { Counts result self.old.faults self.new.faults }
+        ensures cause { HasCause self.old.notes.failures.count self.new.notes.failures.count result }
+        ensures counted { Counts result self.old.notes.failures.count self.new.notes.failures.count }
         ensures torn { self.new.torn ≡ self.old.torn }
     {
         let place = u64::from(block);
         let read = read_window(&mut self.folder, unit, Part::Marks, place, into);
-        note(
-            &self.folder,
-            &mut self.notes,
-            &read,
-            Deed::Read,
-            unit,
-            Part::Marks,
-        );
-        counted(read, StoreFailed, &mut self.faults)
+        let call = tried(&self.folder, Deed::Read, unit, Part::Marks);
+        self.notes.failures.counted(read, call, StoreFailed)
     }
 }

@@ -1,31 +1,13 @@
 ghost use Rattle.std.specs.Prelude.{◌≡◌, ◌<◌, ◌≤◌, ◌++◌, IsTrue, true, false, [], is_some, take, length, IfOk, OnErr, is_err, Ok};
 ghost use Rattle.std.specs.Io.KnownBytes.{ReadConsumes, WriteAppends};
-ghost use Rattle.outside_traits.specs.Causes.{HasCause, Counts, HandsOn};
+ghost use Rattle.outside_traits.specs.Causes.{HasCause, Counts};
 ghost use Rattle.outside_files.specs.Answers.{takes_nothing, bytes_in};
 
-use crate::failure::{SinkNotes, SourceNotes};
+use crate::failure::{Deed, SinkNotes, SourceNotes};
 use outside_traits::traits::{Sink, SinkFailed, Source, SourceFailed};
 use std::alloc::Global;
 use std::io;
 use std::io::{ErrorKind, Read, Write};
-
-/// An answer of `std` as an answer of this crate. An error counts as a fault, and nothing else does.
-pub(crate) fn counted<T, E: Drop>(
-    answer: io::Result<T>,
-    failed: E,
-    faults: &mut u64,
-) -> Result<T, E>
-    ensures answer { HandsOn answer failed result faults.old faults.new }
-    ensures cause { HasCause faults.old faults.new result }
-{
-    match answer {
-        Ok(value) => Ok(value),
-        Err(_) => {
-            *faults = faults.saturating_add(1);
-            Err(failed)
-        }
-    }
-}
 
 /// A writer's answer for a piece of `size` bytes. It is an error if the writer takes no byte of a piece that is not empty.
 pub(crate) fn some_taken(answer: io::Result<usize>, size: usize) -> io::Result<usize>
@@ -45,7 +27,6 @@ pub(crate) fn some_taken(answer: io::Result<usize>, size: usize) -> io::Result<u
 pub struct StdSource<R: Read> {
     inner: R,
     is_known: bool,
-    faults: u64,
     notes: SourceNotes,
     ghost known: { IsTrue is_known → IsTrue (is_some (R.remaining inner)) },
 }
@@ -55,12 +36,11 @@ impl<R: Read> StdSource<R> {
     pub fn new(inner: R) -> StdSource<R>
         ensures inner { result.inner ≡ inner }
         ensures untold { result.is_known ≡ false }
-        ensures faults { result.faults ≡ 0 }
+        ensures faults { result.notes.failures.count ≡ 0 }
     {
         StdSource {
             inner,
             is_known: false,
-            faults: 0,
             notes: SourceNotes::new(),
         }
     }
@@ -71,12 +51,11 @@ impl<R: Read> StdSource<R> {
         requires { IsTrue (is_some (R.remaining inner)) }
         ensures inner { result.inner ≡ inner }
         ensures told { result.is_known ≡ true }
-        ensures faults { result.faults ≡ 0 }
+        ensures faults { result.notes.failures.count ≡ 0 }
     {
         StdSource {
             inner,
             is_known: true,
-            faults: 0,
             notes: SourceNotes::new(),
         }
     }
@@ -87,13 +66,15 @@ impl<R: Read> StdSource<R> {
     pub fn keep(&mut self, alloc: Global)
         ensures inner { self.new.inner ≡ self.old.inner }
         ensures told { self.new.is_known ≡ self.old.is_known }
-        ensures faults { self.new.faults ≡ self.old.faults }
+        ensures failures { self.new.notes.failures ≡ self.old.notes.failures }
     {
-        self.notes.keep(alloc);
+        self.notes.kept = Some(Vec::new(alloc));
     }
 
     /// What the source keeps so that a message can say why a run failed.
-    pub fn notes(&self) -> &SourceNotes {
+    pub fn notes(&self) -> &SourceNotes
+        ensures { result.now ≡ self.now.notes }
+    {
         &self.notes
     }
 }
@@ -103,7 +84,7 @@ impl<R: Read> Source for StdSource<R> {
 
     ghost left = { λ s. bytes_in (R.remaining s.inner) };
 
-    ghost faults = { λ s. s.faults };
+    ghost faults = { λ s. s.notes.failures.count };
 
     fn read(&mut self, into: &mut [u8]) -> Result<usize, SourceFailed>
         ensures bound { IfOk result (λ n. n ≤ length into.old) }
@@ -112,15 +93,18 @@ impl<R: Read> Source for StdSource<R> {
             → bytes_in (R.remaining self.old.inner) ≡ take n into.new ++ bytes_in (R.remaining self.new.inner)) }
         ensures end { IfOk result (λ n. IsTrue self.new.is_known → n ≡ 0 → 0 < length into.old → bytes_in (R.remaining self.new.inner) ≡ []) }
         ensures err { OnErr result (IsTrue self.new.is_known → bytes_in (R.remaining self.new.inner) ≡ bytes_in (R.remaining self.old.inner)) }
-        ensures cause { HasCause self.old.faults self.new.faults result }
+        ensures cause { HasCause self.old.notes.failures.count self.new.notes.failures.count result }
         // The source gives what the reader gives, still tells if it told, and counts each error of the reader and nothing else.
         ensures still { self.new.is_known ≡ self.old.is_known }
-        ensures counted { Counts result self.old.faults self.new.faults }
+        ensures counted { Counts result self.old.notes.failures.count self.new.notes.failures.count }
         ensures given { ReadConsumes (R.remaining self.old.inner) (R.remaining self.new.inner) result into.new }
     {
         let answer = self.inner.read(into);
-        self.notes.note(&answer, into);
-        counted(answer, SourceFailed, &mut self.faults)
+        self.notes
+            .take(into.get(..answer.unwrap_or(0)).unwrap_or(b""));
+        self.notes
+            .failures
+            .counted(answer, Deed::Read, SourceFailed)
     }
 }
 
@@ -130,7 +114,6 @@ impl<R: Read> Source for StdSource<R> {
 pub struct StdSink<W: Write> {
     inner: W,
     is_known: bool,
-    faults: u64,
     notes: SinkNotes,
     ghost known: { IsTrue is_known → IsTrue (is_some (W.contents inner)) },
 }
@@ -140,12 +123,11 @@ impl<W: Write> StdSink<W> {
     pub fn new(inner: W) -> StdSink<W>
         ensures inner { result.inner ≡ inner }
         ensures untold { result.is_known ≡ false }
-        ensures faults { result.faults ≡ 0 }
+        ensures faults { result.notes.failures.count ≡ 0 }
     {
         StdSink {
             inner,
             is_known: false,
-            faults: 0,
             notes: SinkNotes::new(),
         }
     }
@@ -155,12 +137,11 @@ impl<W: Write> StdSink<W> {
         requires { IsTrue (is_some (W.contents inner)) }
         ensures inner { result.inner ≡ inner }
         ensures told { result.is_known ≡ true }
-        ensures faults { result.faults ≡ 0 }
+        ensures faults { result.notes.failures.count ≡ 0 }
     {
         StdSink {
             inner,
             is_known: true,
-            faults: 0,
             notes: SinkNotes::new(),
         }
     }
@@ -168,7 +149,9 @@ impl<W: Write> StdSink<W> {
 
 impl<W: Write> StdSink<W> {
     /// What the sink keeps so that a message can say why a run failed.
-    pub fn notes(&self) -> &SinkNotes {
+    pub fn notes(&self) -> &SinkNotes
+        ensures { result.now ≡ self.now.notes }
+    {
         &self.notes
     }
 }
@@ -178,7 +161,7 @@ impl<W: Write> Sink for StdSink<W> {
 
     ghost taken = { λ s. bytes_in (W.contents s.inner) };
 
-    ghost faults = { λ s. s.faults };
+    ghost faults = { λ s. s.notes.failures.count };
 
     fn write(&mut self, from: &[u8]) -> Result<usize, SinkFailed>
         ensures bound { IfOk result (λ n. n ≤ length from.now) }
@@ -187,14 +170,14 @@ impl<W: Write> Sink for StdSink<W> {
         ensures bytes { IfOk result (λ n. IsTrue self.new.is_known
             → bytes_in (W.contents self.new.inner) ≡ bytes_in (W.contents self.old.inner) ++ take n from.now) }
         ensures err { OnErr result (IsTrue self.new.is_known → bytes_in (W.contents self.new.inner) ≡ bytes_in (W.contents self.old.inner)) }
-        ensures cause { HasCause self.old.faults self.new.faults result }
+        ensures cause { HasCause self.old.notes.failures.count self.new.notes.failures.count result }
         // The sink takes what the writer takes, still tells if it told, and counts each failure and nothing else.
         ensures still { self.new.is_known ≡ self.old.is_known }
-        ensures counted { Counts result self.old.faults self.new.faults }
+        ensures counted { Counts result self.old.notes.failures.count self.new.notes.failures.count }
         ensures taken { WriteAppends (W.contents self.old.inner) (W.contents self.new.inner) result from.now }
     {
         let answer = some_taken(self.inner.write(from), from.len());
-        self.notes.note(&answer, from);
-        counted(answer, SinkFailed, &mut self.faults)
+        self.notes.take(from, answer.unwrap_or(0));
+        self.notes.failures.counted(answer, Deed::Write, SinkFailed)
     }
 }

@@ -5,7 +5,7 @@ use crate::reason::{Came, FileName, Reason, Tried};
 use crate::refusals::{refused_line, too_long, unusable, value};
 use crate::shown::Shown;
 use crate::words::{command_fault, is, target};
-use outside_files::failure::{Deed, FileFailure, PackNotes, SinkNotes, SourceNotes};
+use outside_files::failure::{Deed, FileCall, PackNotes, SinkNotes, SourceNotes};
 use pack_geometry::{DriveKind, blocks, data_limit, replacement};
 use partitions::{Part, part_of, part_range};
 use std::alloc::Global;
@@ -251,10 +251,14 @@ fn writes(words: &[&[u8]]) -> bool {
 }
 
 /// The reason if a call on the packs failed.
-fn pack_failure<'a>(words: &[&[u8]], packs: &PackNotes, failure: &FileFailure) -> Reason<'a> {
-    let tried = Tried { deed: failure.deed };
-    let file = FileName::new(failure.unit, failure.part);
-    let error = failure.error;
+fn pack_failure<'a>(
+    words: &[&[u8]],
+    packs: &PackNotes,
+    call: FileCall,
+    error: io::Error,
+) -> Reason<'a> {
+    let tried = Tried { deed: call.deed };
+    let file = FileName::new(call.unit, call.part);
     if !writes(words) {
         return Reason::File { tried, file, error };
     }
@@ -271,7 +275,7 @@ fn pack_failure<'a>(words: &[&[u8]], packs: &PackNotes, failure: &FileFailure) -
 
 /// The reason if standard output or the trace failed.
 fn sink_failure<'a>(ending: &Ending<'a>) -> Option<Reason<'a>> {
-    if let Some(error) = ending.output.first {
+    if let Some((_, error)) = ending.output.failures.first {
         return Some(Reason::Output { error });
     }
     let (deed, error) = ending.trace?;
@@ -309,13 +313,13 @@ fn known<'a>(alloc: Global, ending: &Ending<'a>) -> Option<Reason<'a>> {
             None => None,
         },
         3 => script_refusal(alloc, ending.out, ending.script, is_cached(ending.words)),
-        4 => match ending.script.first {
-            Some(error) => Some(Reason::Input { error }),
+        4 => match ending.script.failures.first {
+            Some((_, error)) => Some(Reason::Input { error }),
             None => None,
         },
         5 => sink_failure(ending),
-        6 => match &ending.packs.first {
-            Some(failure) => Some(pack_failure(ending.words, &ending.packs, failure)),
+        6 => match ending.packs.failures.first {
+            Some((call, error)) => Some(pack_failure(ending.words, &ending.packs, call, error)),
             None => None,
         },
         7 => long_image(ending),

@@ -45,7 +45,7 @@ fn refusal<'a>(alloc: Global, ending: &PictureEnding<'a>) -> Option<Reason<'a>> 
 
 /// The reason if the script or the trace could not be read.
 fn source<'a>(ending: &PictureEnding<'a>) -> Option<Reason<'a>> {
-    if let Some(error) = ending.script.first {
+    if let Some((_, error)) = ending.script.failures.first {
         return Some(Reason::Input { error });
     }
     match ending.trace {
@@ -64,8 +64,8 @@ fn known<'a>(alloc: Global, ending: &PictureEnding<'a>) -> Option<Reason<'a>> {
         },
         3 => refusal(alloc, ending),
         4 => source(ending),
-        5 => match ending.output.first {
-            Some(error) => Some(Reason::Output { error }),
+        5 => match ending.output.failures.first {
+            Some((_, error)) => Some(Reason::Output { error }),
             None => None,
         },
         9 => Some(Reason::Memory {
