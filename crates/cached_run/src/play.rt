@@ -22,7 +22,7 @@ use buffer_cache::{Cache, Subsystem};
 use outside_traits::traits::{Packs, Sink};
 use script_reader::cached::CachedScript;
 use script_runs::desk::Desk;
-use script_runs::{PlayFault, attach_cached};
+use script_runs::{PlayFault, attach_units};
 use std::alloc::Global;
 
 /// Plays the lines of a script over units that are set up for it, and a sync after the last line. The number of the sync is the number
@@ -95,7 +95,7 @@ pub fn play_cached<P: Packs, O: Sink, T: Sink>(
 {
     script.law();
     let mut bench = {
-        let units = attach_cached(alloc, script, packs)?;
+        let units = attach_units(alloc, script, packs)?;
         Bench::new(alloc, units.as_slice(), capacity)?
     };
     play_lines(

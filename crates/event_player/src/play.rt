@@ -196,6 +196,7 @@ pub fn play<P: Packs, O: Sink, T: Sink>(
     ensures causes { Rise (P.faults packs.old) (P.faults packs.new) (O.faults out.old) (O.faults out.new) (T.faults trace.old) (T.faults trace.new) result }
     ensures untouched { IsBefore result → AreUntouched (P.tells packs.new) (P.held packs.old) (P.held packs.new) out.old out.new trace.old trace.new }
 {
+    meaning_law();
     let units = attach_units(alloc, script, packs)?;
     play_units(alloc, script, units.as_slice(), packs, out, trace)
 }

@@ -1,10 +1,9 @@
 -- Laws of attaching: behind some lines of a script its units are set up, their images fit, and their tables are those of their packs.
-use Rattle.std.proofs.Common.{◌≡◌, inl, inr, ℕ, suc, ◌+◌, ◌*◌, ◌<◌, ◌≤◌, Bool, true, false, IsTrue, List, [], ◌∷◌, ◌++◌, length, map, drop, refl, sym, ap, subst, ◌∙◌, arith, Option, Some, None}
-use Rattle.std.specs.Prelude.{if◌then◌else◌, ◌==◌, slice_index_or, Box, Result, Ok, Err, IfErr, IfOk, OnOk}
+use Rattle.std.proofs.Common.{◌≡◌, inl, inr, ℕ, zero, suc, ◌+◌, ◌*◌, ◌<◌, ◌≤◌, Bool, true, false, IsTrue, List, [], ◌∷◌, ◌++◌, length, take, drop, refl, sym, ap, subst, ◌∙◌, arith, Option, Some, None}
+use Rattle.std.specs.Prelude.{if◌then◌else◌, ◌==◌, slice_index_or, Result, Ok, Err, IfErr, IfOk, OnOk}
 use Rattle.std.specs.Result.{IsErrAnd}
-use Rattle.std.specs.Box.{box_value}
-use Rattle.std.specs.declared.alloc.Global.{Global}
 use Rattle.std.proofs.lemmas.Bool.{eqb-true}
+use Rattle.std.proofs.lemmas.List.{take_more, take_all, take-append-drop}
 use Rattle.std.proofs.lemmas.Option.{none-some}
 use Rattle.std.proofs.Math.Seq.{drop-cons}
 use Rattle.outside_traits.specs.Causes.{Rose}
@@ -13,23 +12,16 @@ use Rattle.pack_geometry.specs.declared.DriveKind.{DriveKind}
 use Rattle.pack_geometry.specs.Geometry.{block_count}
 use Rattle.pack_geometry.specs.Pack.{Pack}
 use Rattle.pack_geometry.specs.PackTable.{AreTablesOf}
-use Rattle.script_lines.specs.declared.statement.Span.{Span}
-use Rattle.script_lines.specs.declared.statement.Statement.{Statement as Said}
-use Rattle.script_lines.specs.declared.statement.Statement.TheVariants as says
-use Rattle.script_reader.specs.Stored.{Kept, Stored, seen, digits_at}
-use Rattle.script_lines.specs.Renamed.{renamed}
-use Rattle.script_reader.specs.Meaning.{statement_of, line_of, meaning_of}
-use Rattle.trace_replay.specs.Script.{Script, Statement, Declares, Plays, Line, declared_by, drives_in, drives_of, IsPlayed, AreUnitsFirst}
+use Rattle.trace_replay.specs.Script.{Script, Statement, Declares, Plays, Drain, Line, declared_by, drives_in, drives_of, IsPlayed, AreUnitsFirst}
 use Rattle.driver_machine.specs.World.{Setup}
 use Rattle.script_runs.specs.Steps.{tables_in, AreSetFor}
 use Rattle.script_runs.proofs.Attached as one
 use Rattle.script_runs.proofs.Attached.{IsSetupOf, AreAttached, HasDrive, attached_more, attached_still, is_first, drive_there, drives_same, drives-append, first_none, first_some, none_or_some, set_for_script}
 use Rattle.script_runs.specs.declared.fault.PlayFault.{PlayFault}
 use Rattle.script_runs.specs.declared.fault.PlayFault.TheVariants as faults
-use Rattle.script_runs.specs.Lengths.{IsTooLong, NamesTooLong}
+use Rattle.script_runs.specs.Lengths.{NamesTooLong}
 use Rattle.script_runs.specs.Faults.{IsLongFor}
-use Rattle.script_runs.specs.Attaching.{IsSet, IsFoundLong, HasRoom, Adds, RefusesLine, FailsLine, AttachesOne}
-use Rattle.script_runs.proofs.LineLaws.{lines_before, lines_more, lines_all, lines_parted}
+use Rattle.script_runs.specs.Attaching.{IsSet, drive_in, drive_at, HasRoom, Adds, RefusesLine, FailsLine, AttachesOne}
 
 -- LINES AND SETUPS that go together, over packs that tell: each image fits, and each table is that of its pack
 pub record AreTold (packs : ℕ → Pack) (lines : List Line) (setups : List Setup) : Type 0 where
@@ -71,123 +63,105 @@ told_still {packs} {lines} {setups} line played told = record {
   tables = one.told_still packs lines setups line played told.tables;
 }
 
--- THE LINES of a script, parted at one of them
-pub lines_split : (s : Stored) (i : ℕ) (line : Kept) → i < length s.lines → line ≡ slice_index_or s.lines i line
-    → (meaning_of s).lines ≡ lines_before s i ++ line_of (seen s.text line) ∷ map line_of (map (seen s.text) (drop (suc i) s.lines))
-lines_split s i line lt is =
-    lines_parted s i
-    ∙ ap (λ (xs : List Kept). lines_before s i ++ map line_of (map (seen s.text) xs)) (drop-cons s.lines i line lt ∙ ap (λ (x : Kept). x ∷ drop (suc i) s.lines) (sym is))
-
--- WHAT A LINE ADDS, by what it means
-abbrev StoredStatement : Type 0
-StoredStatement = Said Span (Box (List ℕ) Global)
-
-abbrev meant : List ℕ → StoredStatement → Statement
-meant text st = statement_of (renamed (digits_at text) box_value st)
-
-abbrev AddsBy : Bool → (ℕ → Pack) → Statement → List Setup → List Setup → Type 0
-AddsBy tells packs (Declares u kind) old new = (s : Setup) × (new ≡ old ++ s ∷ []) × IsSet tells packs u kind s
-AddsBy tells packs (Plays input) old new = new ≡ old
-
-adds_by : (text : List ℕ) (tells : Bool) (packs : ℕ → Pack) (st : StoredStatement) (old new : List Setup) → Adds tells packs st old new → AddsBy tells packs (meant text st) old new
-adds_by text tells packs (says.Unit u kind) old new a = a
-adds_by text tells packs other old new a = a
-
-abbrev RefusedBy : Bool → (ℕ → Pack) → Statement → PlayFault → Type 0
-RefusedBy tells packs (Declares u kind) fault = IsFoundLong tells (packs u) u kind fault
-RefusedBy tells packs (Plays input) fault = ⊥
-
-refused_by : (text : List ℕ) (tells : Bool) (packs : ℕ → Pack) (st : StoredStatement) (fault : PlayFault) → RefusesLine tells packs st fault → RefusedBy tells packs (meant text st) fault
-refused_by text tells packs (says.Unit u kind) fault r = r
-refused_by text tells packs other fault r = r
-
-room_by : (text : List ℕ) (st : StoredStatement) → ((u : ℕ) (kind : DriveKind) → meant text st ≡ Declares u kind → u < 32) → HasRoom st
-room_by text (says.Unit u kind) room = room u kind refl
-room_by text other room = tt
-
+-- ONE LINE
 attached_line : (line : Line) (tells : Bool) (packs : ℕ → Pack) (lines : List Line) (old new : List Setup) → ((u : ℕ) (kind : DriveKind) → line.statement ≡ Declares u kind → HasDrive lines u)
-    → AddsBy tells packs line.statement old new → AreAttached lines old → AreAttached (lines ++ line ∷ []) new
+    → Adds tells packs (drive_in line.statement) old new → AreAttached lines old → AreAttached (lines ++ line ∷ []) new
 attached_line line tells packs lines old new first adds a = at line.statement refl adds
   where
-    at : (st : Statement) → line.statement ≡ st → AddsBy tells packs st old new → AreAttached (lines ++ line ∷ []) new
+    at : (st : Statement) → line.statement ≡ st → Adds tells packs (drive_in st) old new → AreAttached (lines ++ line ∷ []) new
     at (Declares u kind) e more = subst (λ (setups : List Setup). AreAttached (lines ++ line ∷ []) setups) (sym more.1) (attached_more line a (first u kind e) e (set_up_as more.2))
     at (Plays input) e same = subst (λ (setups : List Setup). AreAttached (lines ++ line ∷ []) setups) (sym same) (attached_still line (subst IsPlayed (sym e) tt) a)
 
 told_line : (line : Line) (tells : Bool) (packs : ℕ → Pack) (lines : List Line) (old new : List Setup) → IsTrue tells
-    → AddsBy tells packs line.statement old new → AreAttached lines old → AreTold packs lines old → AreTold packs (lines ++ line ∷ []) new
+    → Adds tells packs (drive_in line.statement) old new → AreAttached lines old → AreTold packs lines old → AreTold packs (lines ++ line ∷ []) new
 told_line line tells packs lines old new t adds a told = at line.statement refl adds
   where
-    at : (st : Statement) → line.statement ≡ st → AddsBy tells packs st old new → AreTold packs (lines ++ line ∷ []) new
+    at : (st : Statement) → line.statement ≡ st → Adds tells packs (drive_in st) old new → AreTold packs (lines ++ line ∷ []) new
     at (Declares u kind) e more = subst (λ (setups : List Setup). AreTold packs (lines ++ line ∷ []) setups) (sym more.1) (told_more line a e more.2 t told)
     at (Plays input) e same = subst (λ (setups : List Setup). AreTold packs (lines ++ line ∷ []) setups) (sym same) (told_still line (subst IsPlayed (sym e) tt) told)
 
--- AT A LINE of a script
-module _ (s : Stored) (i : ℕ) (line : Kept) (lt : i < length s.lines) (is : line ≡ slice_index_or s.lines i line) where
-  first_at : AreUnitsFirst (meaning_of s).lines → (u : ℕ) (kind : DriveKind) → meant s.text line.statement ≡ Declares u kind → HasDrive (lines_before s i) u
-  first_at units u kind e =
-      let first = is_first (lines_before s i) (map line_of (map (seen s.text) (drop (suc i) s.lines))) (line_of (seen s.text line)) u kind
-      (subst AreUnitsFirst (lines_split s i line lt is) units) e in
-      record { small = first.0; none = first.1 }
+abbrev blank : Line
+blank = record { number = 0; statement = Plays Drain }
 
-  declared_at : AreUnitsFirst (meaning_of s).lines → (u : ℕ) (kind : DriveKind) → meant s.text line.statement ≡ Declares u kind → drives_of (meaning_of s) u ≡ Some kind
-  declared_at units u kind e =
-      ap (λ (lines : List Line). drives_in lines u) (lines_split s i line lt is)
-      ∙ drive_there (lines_before s i) (map line_of (map (seen s.text) (drop (suc i) s.lines))) (line_of (seen s.text line)) u kind e (first_at units u kind e).none
+drive_is : (lines : List Line) (i : ℕ) → drive_at lines i ≡ drive_in (slice_index_or lines i blank).statement
+drive_is [] i = refl
+drive_is (line ∷ lines) zero = refl
+drive_is (line ∷ lines) (suc i) = drive_is lines i
 
-  pub room_at : AreUnitsFirst (meaning_of s).lines → HasRoom line.statement
-  room_at units = room_by s.text line.statement (λ u kind e. (first_at units u kind e).small)
+-- AT A LINE of a script, by the drive that it declares
+module _ (script : Script) (i : ℕ) (drive : Option (ℕ × DriveKind)) (first : AreUnitsFirst script.lines) (lt : i < length script.lines) (is : drive ≡ drive_at script.lines i) where
+  abbrev line : Line
+  line = slice_index_or script.lines i blank
 
-  pub attached_at : (tells : Bool) (packs : ℕ → Pack) (old new : List Setup) → AreUnitsFirst (meaning_of s).lines → Adds tells packs line.statement old new
-      → AreAttached (lines_before s i) old → AreAttached (lines_before s (i + 1)) new
-  attached_at tells packs old new units adds a =
-      subst (λ (lines : List Line). AreAttached lines new) (sym (lines_more s i line lt is))
-      (attached_line (line_of (seen s.text line)) tells packs (lines_before s i) old new (first_at units) (adds_by s.text tells packs line.statement old new adds) a)
+  got : drive ≡ drive_in line.statement
+  got = is ∙ drive_is script.lines i
 
-  pub told_at_line : (tells : Bool) (packs first : ℕ → Pack) (old new : List Setup) → IsTrue tells → packs ≡ first → Adds tells packs line.statement old new
-      → AreAttached (lines_before s i) old → AreTold first (lines_before s i) old → AreTold first (lines_before s (i + 1)) new
+  parts : script.lines ≡ take i script.lines ++ line ∷ drop (suc i) script.lines
+  parts = sym (take-append-drop i script.lines) ∙ ap (λ (xs : List Line). take i script.lines ++ xs) (drop-cons script.lines i blank lt)
+
+  is_new : (u : ℕ) (kind : DriveKind) → line.statement ≡ Declares u kind → HasDrive (take i script.lines) u
+  is_new u kind e =
+      let new = is_first (take i script.lines) (drop (suc i) script.lines) line u kind (subst AreUnitsFirst parts first) e in
+      record { small = new.0; none = new.1 }
+
+  declared_here : (u : ℕ) (kind : DriveKind) → line.statement ≡ Declares u kind → drives_of script u ≡ Some kind
+  declared_here u kind e =
+      ap (λ (lines : List Line). drives_in lines u) parts
+      ∙ drive_there (take i script.lines) (drop (suc i) script.lines) line u kind e (is_new u kind e).none
+
+  pub room_at : HasRoom drive
+  room_at = subst HasRoom (sym got) (by line.statement refl)
+    where
+      by : (st : Statement) → line.statement ≡ st → HasRoom (drive_in st)
+      by (Declares u kind) e = (is_new u kind e).small
+      by (Plays input) e = tt
+
+  pub attached_at : (tells : Bool) (packs : ℕ → Pack) (old new : List Setup) → Adds tells packs drive old new → AreAttached (take i script.lines) old → AreAttached (take (i + 1) script.lines) new
+  attached_at tells packs old new adds a =
+      subst (λ (lines : List Line). AreAttached lines new) (sym (take_more script.lines i blank lt))
+      (attached_line line tells packs (take i script.lines) old new is_new (subst (λ (d : Option (ℕ × DriveKind)). Adds tells packs d old new) got adds) a)
+
+  pub told_at_line : (tells : Bool) (packs first : ℕ → Pack) (old new : List Setup) → IsTrue tells → packs ≡ first → Adds tells packs drive old new
+      → AreAttached (take i script.lines) old → AreTold first (take i script.lines) old → AreTold first (take (i + 1) script.lines) new
   told_at_line tells packs first old new t same adds a told =
-      subst (λ (lines : List Line). AreTold first lines new) (sym (lines_more s i line lt is))
-      (told_line (line_of (seen s.text line)) tells first (lines_before s i) old new t
-      (subst (λ (p : ℕ → Pack). AddsBy tells p (meant s.text line.statement) old new) same (adds_by s.text tells packs line.statement old new adds)) a told)
+      subst (λ (lines : List Line). AreTold first lines new) (sym (take_more script.lines i blank lt))
+      (told_line line tells first (take i script.lines) old new t
+      (subst (λ (p : ℕ → Pack). Adds tells p (drive_in line.statement) old new) same (subst (λ (d : Option (ℕ × DriveKind)). Adds tells packs d old new) got adds)) a told)
 
   -- a unit that is refused at the line is the first one whose image is too long
-  pub long_at : (tells : Bool) (packs first : ℕ → Pack) (old : List Setup) (fault : PlayFault) → AreUnitsFirst (meaning_of s).lines → (IsTrue tells → packs ≡ first)
-      → (IsTrue tells → AreTold first (lines_before s i) old) → RefusesLine tells packs line.statement fault → IsLongFor (meaning_of s) tells first fault
-  long_at tells packs first old fault units same told refuses = at (meant s.text line.statement) refl fault (refused_by s.text tells packs line.statement fault refuses)
+  pub long_at : (tells : Bool) (packs first : ℕ → Pack) (old : List Setup) (fault : PlayFault) → (IsTrue tells → packs ≡ first)
+      → (IsTrue tells → AreTold first (take i script.lines) old) → RefusesLine tells packs drive fault → IsLongFor script tells first fault
+  long_at tells packs first old fault same told refuses =
+      at line.statement refl fault (subst (λ (d : Option (ℕ × DriveKind)). RefusesLine tells packs d fault) got refuses)
     where
-      behind : List Line
-      behind = map line_of (map (seen s.text) (drop (suc i) s.lines))
-
-      named : (u n : ℕ) (kind : DriveKind) → meant s.text line.statement ≡ Declares u kind → 512 * block_count kind < n → (IsTrue tells → n ≡ length (packs u).image)
-          → NamesTooLong (meaning_of s) tells first u n
+      named : (u n : ℕ) (kind : DriveKind) → line.statement ≡ Declares u kind → 512 * block_count kind < n → (IsTrue tells → n ≡ length (packs u).image) → NamesTooLong script tells first u n
       named u n kind e more size = record {
         kind = kind;
-        before = lines_before s i;
-        line = line_of (seen s.text line);
-        after = behind;
-        lines = lines_split s i line lt is;
+        before = take i script.lines;
+        line = line;
+        after = drop (suc i) script.lines;
+        lines = parts;
         declares = e;
-        declared = declared_at units u kind e;
+        declared = declared_here u kind e;
         more = more;
         is = λ t. size t ∙ ap (λ (p : ℕ → Pack). length (p u).image) (same t);
         first = λ t other its there. (told t).fits other its there;
       }
 
-      at : (st : Statement) → meant s.text line.statement ≡ st → (stop : PlayFault) → RefusedBy tells packs st stop → IsLongFor (meaning_of s) tells first stop
+      at : (st : Statement) → line.statement ≡ st → (stop : PlayFault) → RefusesLine tells packs (drive_in st) stop → IsLongFor script tells first stop
       at (Declares u kind) e faults.Memory long = tt
-      at (Declares u kind) e (faults.TooLong other n) long =
-          subst (λ (k : ℕ). NamesTooLong (meaning_of s) tells first k n) (sym long.0) (named u n kind e long.1 long.2)
+      at (Declares u kind) e (faults.TooLong other n) long = subst (λ (k : ℕ). NamesTooLong script tells first k n) (sym long.0) (named u n kind e long.1 long.2)
       at (Declares u kind) e faults.Store long = tt
       at (Declares u kind) e faults.Sink long = tt
       at (Plays input) e stop none = absurd none
 
   -- a unit at which the packs failed is declared
-  pub attaches_at : (call : PackCall) → AreUnitsFirst (meaning_of s).lines → FailsLine line.statement call → AttachesOne (meaning_of s) call
-  attaches_at call units fails = at line.statement refl fails
+  pub attaches_at : (call : PackCall) → FailsLine drive call → AttachesOne script call
+  attaches_at call fails = at line.statement refl (subst (λ (d : Option (ℕ × DriveKind)). FailsLine d call) got fails)
     where
-      at : (st : StoredStatement) → line.statement ≡ st → FailsLine st call → AttachesOne (meaning_of s) call
-      at (says.Unit u kind) e fails = record { unit = u; kind = kind; declared = declared_at units u kind (ap (meant s.text) e); attaching = fails }
-      at other e none = absurd none
+      at : (st : Statement) → line.statement ≡ st → FailsLine (drive_in st) call → AttachesOne script call
+      at (Declares u kind) e fails = record { unit = u; kind = kind; declared = declared_here u kind e; attaching = fails }
+      at (Plays input) e none = absurd none
 
 -- what holds of the fault that a call gave holds of the one that is handed on
 pub at_fault : {T : Type 0} (result : Result T PlayFault) {fault : PlayFault} (P : PlayFault → Type 0) → IsErrAnd result (λ x. x ≡ fault) → P fault → IfErr result P
@@ -219,8 +193,8 @@ pub rose_from : (a b c : ℕ) → a ≤ b → Rose b c → Rose a c
 rose_from a b c le rose = omega (arith, le, rose)
 
 -- BEHIND THE LAST LINE
-pub attached_all : (s : Stored) (i : ℕ) (setups : List Setup) → length s.lines ≤ i → AreAttached (lines_before s i) setups → AreSetFor (meaning_of s) (tables_in setups) setups
-attached_all s i setups all a = set_for_script (meaning_of s) setups (subst (λ (lines : List Line). AreAttached lines setups) (lines_all s i all) a)
+pub attached_all : (script : Script) (i : ℕ) (setups : List Setup) → length script.lines ≤ i → AreAttached (take i script.lines) setups → AreSetFor script (tables_in setups) setups
+attached_all script i setups all a = set_for_script script setups (subst (λ (lines : List Line). AreAttached lines setups) (take_all i script.lines all) a)
 
-pub told_all : (s : Stored) (i : ℕ) (packs : ℕ → Pack) (setups : List Setup) → length s.lines ≤ i → AreTold packs (lines_before s i) setups → AreTold packs (meaning_of s).lines setups
-told_all s i packs setups all told = subst (λ (lines : List Line). AreTold packs lines setups) (lines_all s i all) told
+pub told_all : (script : Script) (i : ℕ) (packs : ℕ → Pack) (setups : List Setup) → length script.lines ≤ i → AreTold packs (take i script.lines) setups → AreTold packs script.lines setups
+told_all script i packs setups all told = subst (λ (lines : List Line). AreTold packs lines setups) (take_all i script.lines all) told

@@ -22,5 +22,5 @@ pub mod StopsPasses
 pub mod LineLaws
 pub mod AttachLaws
 pub mod CachedLines
-pub mod CachedLaws
+mod Declared
 pub mod Gatherings

@@ -1,6 +1,6 @@
 -- The lines of a script up to one of them, and the inputs of lines.
 use Rattle.std.proofs.Common.{◌≡◌, ℕ, ◌+◌, ◌<◌, ◌≤◌, List, [], ◌∷◌, ◌++◌, length, map, take, drop, slice_index_or, refl, sym, ap, ◌∙◌}
-use Rattle.std.proofs.lemmas.List.{take_more, take_all, take-append-drop, map-append}
+use Rattle.std.proofs.lemmas.List.{take_more, take-append-drop, map-append}
 use Rattle.script_reader.specs.Stored.{Kept, Stored, seen}
 use Rattle.script_reader.specs.Meaning.{line_of, meaning_of}
 use Rattle.trace_replay.specs.Script.{Statement, Declares, Plays, Line, Numbered, with_input, inputs_before}
@@ -15,9 +15,6 @@ lines_more s i line lt is =
     ap (λ (xs : List Kept). map line_of (map (seen s.text) xs)) (take_more s.lines i line lt ∙ ap (λ (x : Kept). take i s.lines ++ x ∷ []) (sym is))
     ∙ ap (map line_of) (map-append (seen s.text) (take i s.lines) (line ∷ []))
     ∙ map-append line_of (map (seen s.text) (take i s.lines)) (seen s.text line ∷ [])
-
-pub lines_all : (s : Stored) (i : ℕ) → length s.lines ≤ i → lines_before s i ≡ (meaning_of s).lines
-lines_all s i all = ap (λ (xs : List Kept). map line_of (map (seen s.text) xs)) (take_all i s.lines all)
 
 pub lines_parted : (s : Stored) (i : ℕ) → (meaning_of s).lines ≡ lines_before s i ++ map line_of (map (seen s.text) (drop i s.lines))
 lines_parted s i =

@@ -8,7 +8,6 @@ pub mod StopsPasses
 pub mod Lengths
 pub mod Faults
 pub mod Attaching
-pub mod Cached
 pub mod Saying
 pub use Rattle.hp_units.specs.Setups
 pub use Rattle.hp_units.specs.declared.setup.UnitSetup

@@ -2,11 +2,7 @@
 ghost use Rattle.std.specs.Prelude.{◌≡◌, ◌≤◌, ◌<◌, ℕ, IsTrue, IfOk, IfErr, OnOk, IsErrOf};
 ghost use Rattle.outside_traits.specs.Causes.{Rose};
 ghost use Rattle.pack_geometry.specs.PackTable.{AreTablesOf};
-ghost use Rattle.script_reader.specs.Grammar.{Spells};
-ghost use Rattle.script_reader.specs.Stored.{lines_in};
-ghost use Rattle.script_lines.specs.Words.{all_verbs};
-ghost use Rattle.script_reader.specs.Meaning.{meaning_of};
-ghost use Rattle.trace_replay.specs.Script.{drives_of};
+ghost use Rattle.trace_replay.specs.Script.{AreUnitsFirst, drives_of};
 ghost use Rattle.hp_units.specs.Setups.{setup_of, setups_of};
 ghost use Rattle.script_runs.specs.Steps.{tables_in, AreSetFor};
 ghost use Rattle.script_runs.specs.Attaching.{IsSet, IsFoundLong, HasRoom, Adds, RefusesLine, FailsLine, AttachesOne};
@@ -15,23 +11,18 @@ ghost use Rattle.script_runs.specs.Faults.{IsLongFor};
 ghost use Rattle.script_runs.specs.Lengths.{IsTooLong};
 
 use crate::PlayFault;
+use crate::dialects::Declaring;
 use drive_model::Drive;
 use hp_units::UnitSetup;
 use mba_autoconf::{AttachFault, attach};
 use outside_traits::traits::Packs;
 use pack_geometry::DriveKind;
-use script_reader::meaning::meaning_law;
-use script_reader::{Script, Statement, Stored};
 use std::alloc::Global;
 
 /// Attaches a unit, one of the 32, with the table of its pack. The packs stay as they were.
 ///
 /// `TooLong` comes if its image has more bytes than the blocks of its drive, and `Store` only if the packs' count of faults rose.
-pub(crate) fn attach_unit<P: Packs>(
-    unit: u8,
-    kind: DriveKind,
-    packs: &mut P,
-) -> Result<UnitSetup, PlayFault>
+fn attach_unit<P: Packs>(unit: u8, kind: DriveKind, packs: &mut P) -> Result<UnitSetup, PlayFault>
     requires unit { unit < 32 }
     ensures set { IfOk result (λ s. IsSet (P.tells packs.new) (P.held packs.old) unit kind (setup_of s)) }
     ensures long { IfErr result (IsFoundLong (P.tells packs.new) (P.held packs.old unit) unit kind) }
@@ -55,27 +46,27 @@ pub(crate) fn attach_unit<P: Packs>(
 }
 
 /// Attaches the unit that a line declares, if it declares one.
-fn attach_line<P: Packs>(
-    line: &Stored,
+fn attach_declared<P: Packs>(
+    declared: Option<(u8, DriveKind)>,
     packs: &mut P,
     units: &mut Vec<UnitSetup>,
 ) -> Result<(), PlayFault>
-    requires room { HasRoom line.now.statement }
-    ensures adds { OnOk result (Adds (P.tells packs.new) (P.held packs.old) line.now.statement (setups_of units.old.items) (setups_of units.new.items)) }
-    ensures refuses { IfErr result (RefusesLine (P.tells packs.new) (P.held packs.old) line.now.statement) }
+    requires room { HasRoom declared }
+    ensures adds { OnOk result (Adds (P.tells packs.new) (P.held packs.old) declared (setups_of units.old.items) (setups_of units.new.items)) }
+    ensures refuses { IfErr result (RefusesLine (P.tells packs.new) (P.held packs.old) declared) }
     ensures same { IsTrue (P.tells packs.new) → P.held packs.new ≡ P.held packs.old }
     ensures never_again { IsTrue (P.tells packs.new) → IsTrue (P.tells packs.old) }
     ensures later { P.faults packs.old ≤ P.faults packs.new }
     ensures store { IsErrOf result PlayFault.Store → Rose (P.faults packs.old) (P.faults packs.new) }
-    ensures at { IsErrOf result PlayFault.Store → FailsLine line.now.statement (P.failed_at packs.new) }
+    ensures at { IsErrOf result PlayFault.Store → FailsLine declared (P.failed_at packs.new) }
     ensures no_sink { ¬ (IsErrOf result PlayFault.Sink) }
 {
-    match &line.statement {
-        Statement::Unit { unit, kind } => {
-            let setup = attach_unit(*unit, *kind, packs)?;
+    match declared {
+        Some((unit, kind)) => {
+            let setup = attach_unit(unit, kind, packs)?;
             units.push(setup).map_err(|_| PlayFault::Memory)
         }
-        _ => Ok(()),
+        None => Ok(()),
     }
 }
 
@@ -83,28 +74,27 @@ fn attach_line<P: Packs>(
 ///
 /// `TooLong` names the first unit whose image has more bytes than the blocks of its drive. `Store` comes only if the packs' count of
 /// faults rose, and `Memory` only if there was no memory.
-pub fn attach_units<P: Packs>(
+pub fn attach_units<S: Declaring, P: Packs>(
     alloc: Global,
-    script: &Script,
+    script: &S,
     packs: &mut P,
 ) -> Result<Vec<UnitSetup>, PlayFault>
-    requires good { Spells all_verbs script.now.text (lines_in script.now) script.now.count }
-    ensures set { IfOk result (λ units. AreSetFor (meaning_of script.now) (tables_in (setups_of units.items)) (setups_of units.items)) }
+    requires first { AreUnitsFirst (S.means script.now).lines }
+    ensures set { IfOk result (λ units. AreSetFor (S.means script.now) (tables_in (setups_of units.items)) (setups_of units.items)) }
     ensures tables { IfOk result (λ units. IsTrue (P.tells packs.new)
-        → AreTablesOf (drives_of (meaning_of script.now)) (P.held packs.old) (tables_in (setups_of units.items))) }
-    ensures fits { OnOk result (IsTrue (P.tells packs.new) → (unit n : ℕ) → ¬ (IsTooLong (meaning_of script.now) (P.held packs.old) unit n)) }
-    ensures too_long { IfErr result (IsLongFor (meaning_of script.now) (P.tells packs.new) (P.held packs.old)) }
+        → AreTablesOf (drives_of (S.means script.now)) (P.held packs.old) (tables_in (setups_of units.items))) }
+    ensures fits { OnOk result (IsTrue (P.tells packs.new) → (unit n : ℕ) → ¬ (IsTooLong (S.means script.now) (P.held packs.old) unit n)) }
+    ensures too_long { IfErr result (IsLongFor (S.means script.now) (P.tells packs.new) (P.held packs.old)) }
     ensures same { IsTrue (P.tells packs.new) → P.held packs.new ≡ P.held packs.old }
     ensures never_again { IsTrue (P.tells packs.new) → IsTrue (P.tells packs.old) }
     ensures later { P.faults packs.old ≤ P.faults packs.new }
     ensures store { IsErrOf result PlayFault.Store → Rose (P.faults packs.old) (P.faults packs.new) }
-    ensures at { IsErrOf result PlayFault.Store → AttachesOne (meaning_of script.now) (P.failed_at packs.new) }
+    ensures at { IsErrOf result PlayFault.Store → AttachesOne (S.means script.now) (P.failed_at packs.new) }
     ensures no_sink { ¬ (IsErrOf result PlayFault.Sink) }
 {
-    meaning_law();
     let mut units = Vec::new(alloc);
-    for line in script.lines() {
-        attach_line(line, packs, &mut units)?;
+    for i in 0..script.line_count() {
+        attach_declared(script.declared(i), packs, &mut units)?;
     }
     Ok(units)
 }

@@ -1,9 +1,9 @@
 //! What is settled before a script is played: its units, why it may not be played to its end, and what is known of its run.
 //!
 //! What is proved: laws say that each script has exactly one legal run (`one`), and what is left where a run stops (`stops`).
-//! `attach_units` and `attach_cached` give the setups that the script's lines declare. Each table is valid, and if the packs tell, it
-//! is the table of its pack (`IsSet`). `TooLong` comes for the first image that is too long; if it does not come, no image is too long
-//! (`IsLongFor`, `IsTooLong`). The packs stay, and `Store` comes only if they failed.
+//! `attach_units` gives the setups that the lines of a script declare, of either dialect (`Declaring`). Each table is valid, and if the
+//! packs tell, it is the table of its pack (`IsSet`). `TooLong` comes for the first image that is too long; if it does not come, no
+//! image is too long (`IsLongFor`, `IsTooLong`). The packs stay, and `Store` comes only if they failed.
 //!
 //! `desk`: `write_answer` gives the sink exactly the line of an answer, followed by those of the blocks of a read (`Puts`,
 //! `said_text`).
@@ -13,12 +13,12 @@
 #![tactic(auto)]
 
 mod attaching;
-mod cached;
 pub mod desk;
+mod dialects;
 mod fault;
 pub mod one;
 pub mod stops;
 
 pub use attaching::attach_units;
-pub use cached::attach_cached;
+pub use dialects::Declaring;
 pub use fault::PlayFault;

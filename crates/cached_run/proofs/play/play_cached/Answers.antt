@@ -1,6 +1,7 @@
 use Rattle.std.proofs.Common.{◌+◌, IsTrue, length, refl, ap}
 use Rattle.driver_laws.specs.rules.Entries.{State}
 use Rattle.trace_replay.specs.Script.{Drain}
+use Rattle.script_runs.proofs.CachedLines.{units_first}
 use Rattle.script_runs.specs.Setups.{setups_of}
 use Rattle.script_runs.specs.Stops.{Took, took}
 use Rattle.script_runs.specs.Steps.{tables_in}
@@ -12,6 +13,9 @@ use Rattle.cached_run.proofs.ScriptLines.{inputs_all, all_asked_well}
 use Rattle.cached_run.proofs.Starts.{made_units, made_may, made_setup, made_stands, made_tables}
 use Rattle.cached_run.proofs.Whole.{whole_plays, whole_stops}
 use Rattle.cached_run.proofs.play.play_cached.Goals as goal
+
+pub attach_units-requires : goal.attach_units-requires
+attach_units-requires g c = record { first = units_first c.args.script.now c.law.ensures }
 
 pub play_lines-requires-clause-units : goal.play_lines-requires-clause-units
 play_lines-requires-clause-units g c =
@@ -37,7 +41,7 @@ returns-clause-plays g c =
     let tables = tables_in (setups_of c.in_ok-units.units.items) in
     let old = g.P.Packs.held c.args.packs.now in
     let new = g.P.Packs.held c.play_lines.new.packs in
-    let first : Scene = scene g.P.Packs.tells g.P.Packs.held g.O.Sink.tells g.O.Sink.taken g.O.Sink.faults g.T.Sink.tells g.T.Sink.taken g.T.Sink.faults c.in_ok-bench.bench.subsystem.world c.attach_cached.new.packs c.args.out.now c.args.trace.now in
+    let first : Scene = scene g.P.Packs.tells g.P.Packs.held g.O.Sink.tells g.O.Sink.taken g.O.Sink.faults g.T.Sink.tells g.T.Sink.taken g.T.Sink.faults c.in_ok-bench.bench.subsystem.world c.attach_units.new.packs c.args.out.now c.args.trace.now in
     let now : Scene = scene g.P.Packs.tells g.P.Packs.held g.O.Sink.tells g.O.Sink.taken g.O.Sink.faults g.T.Sink.tells g.T.Sink.taken g.T.Sink.faults c.play_lines.new.subsystem.world c.play_lines.new.packs c.play_lines.new.out c.play_lines.new.trace in
     let out : Took = took g.O.Sink.tells g.O.Sink.taken g.O.Sink.faults c.args.out.now c.play_lines.new.out in
     on_ok_map c.play_lines.result (λ plays t.
@@ -59,7 +63,7 @@ returns-clause-stopped g c =
     let tables = tables_in (setups_of c.in_ok-units.units.items) in
     let old = g.P.Packs.held c.args.packs.now in
     let new = g.P.Packs.held c.play_lines.new.packs in
-    let first : Scene = scene g.P.Packs.tells g.P.Packs.held g.O.Sink.tells g.O.Sink.taken g.O.Sink.faults g.T.Sink.tells g.T.Sink.taken g.T.Sink.faults c.in_ok-bench.bench.subsystem.world c.attach_cached.new.packs c.args.out.now c.args.trace.now in
+    let first : Scene = scene g.P.Packs.tells g.P.Packs.held g.O.Sink.tells g.O.Sink.taken g.O.Sink.faults g.T.Sink.tells g.T.Sink.taken g.T.Sink.faults c.in_ok-bench.bench.subsystem.world c.attach_units.new.packs c.args.out.now c.args.trace.now in
     let now : Scene = scene g.P.Packs.tells g.P.Packs.held g.O.Sink.tells g.O.Sink.taken g.O.Sink.faults g.T.Sink.tells g.T.Sink.taken g.T.Sink.faults c.play_lines.new.subsystem.world c.play_lines.new.packs c.play_lines.new.out c.play_lines.new.trace in
     let out : Took = took g.O.Sink.tells g.O.Sink.taken g.O.Sink.faults c.args.out.now c.play_lines.new.out in
     let trace : Took = took g.T.Sink.tells g.T.Sink.taken g.T.Sink.faults c.args.trace.now c.play_lines.new.trace in

@@ -56,6 +56,9 @@ rises_alone p p' o t result fault is sinks later rose = record {
   sink = λ e. absurd (sinks (fault_is result fault faults.Sink is e));
 }
 
+pub attach_units-requires : goal.attach_units-requires
+attach_units-requires g c = record { first = (c.meaning_law.ensures.read c.args.script.now.text c.args.script.now c.requires.good).units }
+
 pub returns-in_err-units : goal.returns-in_err-units
 returns-in_err-units g c =
     let is = c.from_residual.ensures.1 in
