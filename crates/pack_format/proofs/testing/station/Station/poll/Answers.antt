@@ -4,8 +4,7 @@ use Rattle.main_memory.specs.Memory.{IsLent}
 use Rattle.hardware_table.specs.Adapter.{AdapterState}
 use Rattle.pack_format.specs.testing.Polls.{IsOldOrNew, Polls, sides_of}
 use Rattle.pack_format.specs.testing.Stations.{IsFrame, IsStarted}
-use Rattle.pack_format.proofs.testing.ExitLaws.{cause_ok, cause_on, no_value, not_done}
-use Rattle.pack_format.proofs.testing.PollLaws.{on_err}
+use Rattle.pack_format.proofs.StepLaws.{cause_ok, cause_on, no_value, not_done, on_err}
 use Rattle.pack_format.proofs.testing.station.Station.poll.Goals as goal
 
 pub aim-requires : goal.aim-requires

@@ -3,9 +3,8 @@ use Rattle.main_memory.specs.Blocks.{Loan, bytes_in, span_of}
 use Rattle.main_memory.specs.Bytes.{filled}
 use Rattle.main_memory.specs.Memory.{IsLent}
 use Rattle.pack_format.specs.testing.Stations.{IsFrame}
-use Rattle.pack_format.proofs.testing.ExitLaws.{cause_ok, cause_on, no_value, not_done}
+use Rattle.pack_format.proofs.StepLaws.{cause_ok, cause_on, no_value, not_done, on_err}
 use Rattle.pack_format.proofs.testing.MoveLaws.{free_again, read_failed, read_polls}
-use Rattle.pack_format.proofs.testing.PollLaws.{on_err}
 use Rattle.pack_format.proofs.testing.StageLaws.{false_true}
 use Rattle.pack_format.proofs.testing.station.Station.poll_read.Goals as goal
 

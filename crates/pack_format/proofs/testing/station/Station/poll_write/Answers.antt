@@ -1,9 +1,8 @@
 use Rattle.std.proofs.Common.{ap, length, subst, sym, ◌∙◌}
 use Rattle.main_memory.specs.Blocks.{Loan}
 use Rattle.main_memory.specs.Memory.{IsLent}
-use Rattle.pack_format.proofs.testing.ExitLaws.{cause_ok, cause_on, no_value, not_done}
+use Rattle.pack_format.proofs.StepLaws.{cause_ok, cause_on, no_value, not_done, on_err}
 use Rattle.pack_format.proofs.testing.MoveLaws.{free_again, write_failed, write_polls}
-use Rattle.pack_format.proofs.testing.PollLaws.{on_err}
 use Rattle.pack_format.proofs.testing.StageLaws.{false_true}
 use Rattle.pack_format.proofs.testing.station.Station.poll_write.Goals as goal
 

@@ -6,8 +6,8 @@ use Rattle.hardware_table.specs.Moves.{was_read}
 use Rattle.mba_adapter.specs.Loaded.{next_bytes}
 use Rattle.hardware_table.specs.declared.Work.TheVariants.{Transfer}
 use Rattle.mba_adapter.proofs.WindowLaws.{lent_after}
-use Rattle.pack_format.proofs.testing.ExitLaws.{cause_ok, cause_on, no_value, not_done}
-use Rattle.pack_format.proofs.testing.PollLaws.{cleared, ended, finished, given_up, is_marked_v, old_or_new, on_err, polls_clean, polls_marked, quiet_again, still_quiet}
+use Rattle.pack_format.proofs.StepLaws.{cause_ok, cause_on, no_value, not_done, on_err}
+use Rattle.pack_format.proofs.testing.PollLaws.{cleared, ended, finished, given_up, is_marked_v, old_or_new, polls_clean, polls_marked, quiet_again, still_quiet}
 use Rattle.pack_format.proofs.testing.station.Station.try_block.Goals as goal
 
 pub returns-in_err-verdict : goal.returns-in_err-verdict
