@@ -18,7 +18,7 @@ use Rattle.bad144_tool.specs.declared.fault.ToolFault.TheVariants as fault
 use Rattle.command_parts.specs.Statuses.{status_code}
 use Rattle.command_parts.specs.declared.status.Status.{Status}
 use Rattle.command_parts.specs.declared.status.Status.TheVariants.{ToolRefused}
-use Rattle.pack_commands.specs.Tools.{RunsAdd, RunsEdit, RunsFresh, RunsList, RunsMark, RunsTooLong, entry_text, fault_status, fault_text, marked_text, serial_text}
+use Rattle.pack_commands.specs.Tools.{RunsAdd, RunsFresh, RunsList, RunsMark, entry_text, fault_status, fault_text, marked_text, serial_text}
 use Rattle.command_parts.specs.Lines.{Told}
 
 -- nothing was put behind what was taken
@@ -30,79 +30,43 @@ nothing_more mid after faults faults_after (inr (rose, (n, front))) = front ∙ 
     take_nothing zero = refl
     take_nothing (suc n) = refl
 
--- an edit of a pack, by its code
-module _ {Done : ℕ → Type 0} {Stopped Refused : Type 0} {kind : DriveKind} {unit : ℕ} {tells : Bool} {old new : ℕ → Pack} {out_tells : Bool} {taken after : List ℕ} {faults faults_after : ℕ} where
-  abbrev Edit : ℕ → Type 0
-  Edit code = RunsEdit Done Stopped Refused kind unit code tells old new out_tells taken after faults faults_after
-
-  edit_done : Done 0 → Edit 0
-  edit_done done = record {
-    statuses = inl refl;
-    done = λ e. elim e [ inl e ↦ done | inr e ↦ absurd (omega (arith, e)) ];
+-- `bad144 add` answered a fault
+module _ {kind : DriveKind} {unit block : ℕ} {way : AddWay} {tells : Bool} {old new : ℕ → Pack} {out_tells : Bool} {taken after : List ℕ} {faults faults_after : ℕ} where
+  refused_run : (f : ToolFault) → fault_status f ≡ ToolRefused → (IsTrue tells → IsWhy kind (old unit) block f) → (IsTrue tells → new ≡ old)
+      → (IsTrue out_tells → Told taken after (fault_text unit f) faults faults_after)
+      → RunsAdd kind unit block way 8 tells old new out_tells taken after faults faults_after
+  refused_run f is why same told = record {
+    statuses = inr (inr (inr (inr refl)));
+    added = λ e. absurd (elim e [ inl e ↦ omega (arith, e) | inr e ↦ omega (arith, e) ]);
     stopped = λ e. absurd (omega (arith, e));
     silent = λ e. absurd (omega (arith, e));
     too_long = λ e. absurd (omega (arith, e));
     unchanged = λ e. absurd (omega (arith, e));
-    refused = λ e. absurd (omega (arith, e));
+    refused = λ e. record { fault = f; refusal = is; why = why; same = same; told = told };
   }
 
-  edit_cut : Done 5 → Edit 5
-  edit_cut done = record {
-    statuses = inr (inl refl);
-    done = λ e. elim e [ inl e ↦ absurd (omega (arith, e)) | inr e ↦ done ];
+  pub add_fault : (f : ToolFault) → IsAddFault kind f → (IsTrue tells → IsWhy kind (old unit) block f) → (IsTrue tells → Leaves kind unit block way old new f)
+      → (IsTrue out_tells → Told taken after (fault_text unit f) faults faults_after)
+      → RunsAdd kind unit block way (status_code (fault_status f)) tells old new out_tells taken after faults faults_after
+  unfolding fault_text
+  add_fault (fault.TooLong n) is why left told = record {
+    statuses = inr (inr (inr (inl refl)));
+    added = λ e. absurd (elim e [ inl e ↦ omega (arith, e) | inr e ↦ omega (arith, e) ]);
     stopped = λ e. absurd (omega (arith, e));
     silent = λ e. absurd (omega (arith, e));
-    too_long = λ e. absurd (omega (arith, e));
-    unchanged = λ e. absurd (omega (arith, e));
+    too_long = λ e. record { length = n; above = is; is = why; told = told };
+    unchanged = λ e. left;
     refused = λ e. absurd (omega (arith, e));
   }
-
-  edit_stopped : (IsTrue tells → Stopped) → (IsTrue out_tells → Told taken after [] faults faults_after) → Edit 6
-  edit_stopped left told = record {
+  add_fault fault.Store is why left told = record {
     statuses = inr (inr (inl refl));
-    done = λ e. absurd (elim e [ inl e ↦ omega (arith, e) | inr e ↦ omega (arith, e) ]);
+    added = λ e. absurd (elim e [ inl e ↦ omega (arith, e) | inr e ↦ omega (arith, e) ]);
     stopped = λ e. left;
     silent = λ e t. nothing_more taken after faults faults_after (told t);
     too_long = λ e. absurd (omega (arith, e));
     unchanged = λ e. absurd (omega (arith, e));
     refused = λ e. absurd (omega (arith, e));
   }
-
-  edit_too_long : RunsTooLong kind unit tells (old unit) out_tells taken after faults faults_after → (IsTrue tells → new ≡ old) → Edit 7
-  edit_too_long long same = record {
-    statuses = inr (inr (inr (inl refl)));
-    done = λ e. absurd (elim e [ inl e ↦ omega (arith, e) | inr e ↦ omega (arith, e) ]);
-    stopped = λ e. absurd (omega (arith, e));
-    silent = λ e. absurd (omega (arith, e));
-    too_long = λ e. long;
-    unchanged = λ e. same;
-    refused = λ e. absurd (omega (arith, e));
-  }
-
-  edit_refused : Refused → Edit 8
-  edit_refused why = record {
-    statuses = inr (inr (inr (inr refl)));
-    done = λ e. absurd (elim e [ inl e ↦ omega (arith, e) | inr e ↦ omega (arith, e) ]);
-    stopped = λ e. absurd (omega (arith, e));
-    silent = λ e. absurd (omega (arith, e));
-    too_long = λ e. absurd (omega (arith, e));
-    unchanged = λ e. absurd (omega (arith, e));
-    refused = λ e. why;
-  }
-
--- `bad144 add` answered a fault
-module _ {kind : DriveKind} {unit block : ℕ} {way : AddWay} {tells : Bool} {old new : ℕ → Pack} {out_tells : Bool} {taken after : List ℕ} {faults faults_after : ℕ} where
-  refused_run : (f : ToolFault) → fault_status f ≡ ToolRefused → (IsTrue tells → IsWhy kind (old unit) block f) → (IsTrue tells → new ≡ old)
-      → (IsTrue out_tells → Told taken after (fault_text unit f) faults faults_after)
-      → RunsAdd kind unit block way 8 tells old new out_tells taken after faults faults_after
-  refused_run f is why same told = edit_refused (record { fault = f; refusal = is; why = why; same = same; told = told })
-
-  pub add_fault : (f : ToolFault) → IsAddFault kind f → (IsTrue tells → IsWhy kind (old unit) block f) → (IsTrue tells → Leaves kind unit block way old new f)
-      → (IsTrue out_tells → Told taken after (fault_text unit f) faults faults_after)
-      → RunsAdd kind unit block way (status_code (fault_status f)) tells old new out_tells taken after faults faults_after
-  unfolding fault_text
-  add_fault (fault.TooLong n) is why left told = edit_too_long (record { length = n; above = is; is = why; told = told }) left
-  add_fault fault.Store is why left told = edit_stopped left told
   add_fault fault.Sink is why left told = absurd is
   add_fault other is why left told = refused_run other refl why left told
 
@@ -116,12 +80,28 @@ module _ {kind : DriveKind} {unit block : ℕ} {way : AddWay} {tells : Bool} {ol
   -- a block was added, and the sink took its text;
   pub add_done : (index : ℕ) → index < 126 → (IsTrue tells → Adds kind unit block way old new index) → (IsTrue out_tells → after ≡ taken ++ entry_text index)
       → RunsAdd kind unit block way 0 tells old new out_tells taken after faults faults_after
-  add_done index few adds told = edit_done (record { index = index; few = few; adds = adds; told = λ e. told; front = λ e. absurd (omega (arith, e)) })
+  add_done index few adds told = record {
+    statuses = inl refl;
+    added = λ e. record { index = index; few = few; adds = adds; told = λ e. told; front = λ e. absurd (omega (arith, e)) };
+    stopped = λ e. absurd (omega (arith, e));
+    silent = λ e. absurd (omega (arith, e));
+    too_long = λ e. absurd (omega (arith, e));
+    unchanged = λ e. absurd (omega (arith, e));
+    refused = λ e. absurd (omega (arith, e));
+  }
 
   -- or it failed, and took a front of it.
   pub add_cut : (index : ℕ) → index < 126 → (IsTrue tells → Adds kind unit block way old new index) → Rose faults faults_after → (IsTrue out_tells → TakesFront taken after (entry_text index))
       → RunsAdd kind unit block way 5 tells old new out_tells taken after faults faults_after
-  add_cut index few adds rose front = edit_cut (record { index = index; few = few; adds = adds; told = λ e. absurd (omega (arith, e)); front = λ e. (rose, front) })
+  add_cut index few adds rose front = record {
+    statuses = inr (inl refl);
+    added = λ e. record { index = index; few = few; adds = adds; told = λ e. absurd (omega (arith, e)); front = λ e. (rose, front) };
+    stopped = λ e. absurd (omega (arith, e));
+    silent = λ e. absurd (omega (arith, e));
+    too_long = λ e. absurd (omega (arith, e));
+    unchanged = λ e. absurd (omega (arith, e));
+    refused = λ e. absurd (omega (arith, e));
+  }
 
 -- `bad144 fresh` answered a fault
 pub fresh_fault : {kind : DriveKind} {unit serial : ℕ} {tells : Bool} {old new : ℕ → Pack} {out_tells : Bool} {taken after : List ℕ} {faults faults_after : ℕ}
@@ -276,9 +256,33 @@ module _ {kind : DriveKind} {unit : ℕ} {tells : Bool} {old new : ℕ → Pack}
       → (IsTrue out_tells → Told taken after (fault_text unit f) faults faults_after)
       → RunsMark kind unit (status_code (fault_status f)) tells old new out_tells taken after faults faults_after
   unfolding fault_text
-  mark_fault fault.NoTable is why left told = edit_refused (record { none = why; same = left; told = told })
-  mark_fault (fault.TooLong n) is why left told = edit_too_long (record { length = n; above = is; is = why; told = told }) left
-  mark_fault fault.Store is why left told = edit_stopped left told
+  mark_fault fault.NoTable is why left told = record {
+    statuses = inr (inr (inr (inr refl)));
+    marked = λ e. absurd (elim e [ inl e ↦ omega (arith, e) | inr e ↦ omega (arith, e) ]);
+    stopped = λ e. absurd (omega (arith, e));
+    silent = λ e. absurd (omega (arith, e));
+    too_long = λ e. absurd (omega (arith, e));
+    unchanged = λ e. absurd (omega (arith, e));
+    refused = λ e. record { none = why; same = left; told = told };
+  }
+  mark_fault (fault.TooLong n) is why left told = record {
+    statuses = inr (inr (inr (inl refl)));
+    marked = λ e. absurd (elim e [ inl e ↦ omega (arith, e) | inr e ↦ omega (arith, e) ]);
+    stopped = λ e. absurd (omega (arith, e));
+    silent = λ e. absurd (omega (arith, e));
+    too_long = λ e. record { length = n; above = is; is = why; told = told };
+    unchanged = λ e. left;
+    refused = λ e. absurd (omega (arith, e));
+  }
+  mark_fault fault.Store is why left told = record {
+    statuses = inr (inr (inl refl));
+    marked = λ e. absurd (elim e [ inl e ↦ omega (arith, e) | inr e ↦ omega (arith, e) ]);
+    stopped = λ e. left;
+    silent = λ e t. nothing_more taken after faults faults_after (told t);
+    too_long = λ e. absurd (omega (arith, e));
+    unchanged = λ e. absurd (omega (arith, e));
+    refused = λ e. absurd (omega (arith, e));
+  }
   mark_fault other is why left told = absurd is
 
   pub mark_run : {status : Status} (f : ToolFault) → status ≡ fault_status f → IsMarkFault kind f → (IsTrue tells → IsWhy kind (old unit) 0 f)
@@ -291,9 +295,25 @@ module _ {kind : DriveKind} {unit : ℕ} {tells : Bool} {old new : ℕ → Pack}
   -- the listed blocks were marked, and the sink took its text;
   pub mark_done : (count : ℕ) → count ≤ 126 → (IsTrue tells → Marks kind unit old new count) → (IsTrue out_tells → after ≡ taken ++ marked_text count)
       → RunsMark kind unit 0 tells old new out_tells taken after faults faults_after
-  mark_done count few marks told = edit_done (record { count = count; few = few; marks = marks; told = λ e. told; front = λ e. absurd (omega (arith, e)) })
+  mark_done count few marks told = record {
+    statuses = inl refl;
+    marked = λ e. record { count = count; few = few; marks = marks; told = λ e. told; front = λ e. absurd (omega (arith, e)) };
+    stopped = λ e. absurd (omega (arith, e));
+    silent = λ e. absurd (omega (arith, e));
+    too_long = λ e. absurd (omega (arith, e));
+    unchanged = λ e. absurd (omega (arith, e));
+    refused = λ e. absurd (omega (arith, e));
+  }
 
   -- or it failed, and took a front of it.
   pub mark_cut : (count : ℕ) → count ≤ 126 → (IsTrue tells → Marks kind unit old new count) → Rose faults faults_after → (IsTrue out_tells → TakesFront taken after (marked_text count))
       → RunsMark kind unit 5 tells old new out_tells taken after faults faults_after
-  mark_cut count few marks rose front = edit_cut (record { count = count; few = few; marks = marks; told = λ e. absurd (omega (arith, e)); front = λ e. (rose, front) })
+  mark_cut count few marks rose front = record {
+    statuses = inr (inl refl);
+    marked = λ e. record { count = count; few = few; marks = marks; told = λ e. absurd (omega (arith, e)); front = λ e. (rose, front) };
+    stopped = λ e. absurd (omega (arith, e));
+    silent = λ e. absurd (omega (arith, e));
+    too_long = λ e. absurd (omega (arith, e));
+    unchanged = λ e. absurd (omega (arith, e));
+    refused = λ e. absurd (omega (arith, e));
+  }

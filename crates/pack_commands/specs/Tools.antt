@@ -84,21 +84,15 @@ pub record RunsRefused (kind : DriveKind) (unit block : ℕ) (tells : Bool) (old
   pub same : IsTrue tells → new ≡ old
   pub told : IsTrue out_tells → Told taken after (fault_text unit fault) faults faults_after
 
--- AN EDIT OF A PACK, by what its text says, what a failure of the packs leaves, and what is refused
-pub record RunsEdit (Done : ℕ → Type 0) (Stopped Refused : Type 0) (kind : DriveKind) (unit code : ℕ) (tells : Bool) (old new : ℕ → Pack) (out_tells : Bool) (taken after : List ℕ) (faults faults_after : ℕ) : Type 0 where
+-- `bad144 add`
+pub record RunsAdd (kind : DriveKind) (unit block : ℕ) (way : AddWay) (code : ℕ) (tells : Bool) (old new : ℕ → Pack) (out_tells : Bool) (taken after : List ℕ) (faults faults_after : ℕ) : Type 0 where
   pub statuses : (code ≡ 0) ⊎ (code ≡ 5) ⊎ (code ≡ 6) ⊎ (code ≡ 7) ⊎ (code ≡ 8)
-  pub done : (code ≡ 0) ⊎ (code ≡ 5) → Done code
-  pub stopped : code ≡ 6 → IsTrue tells → Stopped
+  pub added : (code ≡ 0) ⊎ (code ≡ 5) → RunsAdded kind unit block way code tells old new out_tells taken after faults faults_after
+  pub stopped : code ≡ 6 → IsTrue tells → IsStopped kind unit block way old new
   pub silent : code ≡ 6 → IsTrue out_tells → after ≡ taken
   pub too_long : code ≡ 7 → RunsTooLong kind unit tells (old unit) out_tells taken after faults faults_after
   pub unchanged : code ≡ 7 → IsTrue tells → new ≡ old
-  pub refused : code ≡ 8 → Refused
-
--- `bad144 add`
-abbrev pub RunsAdd : DriveKind → (unit block : ℕ) → AddWay → (code : ℕ) → Bool → (old new : ℕ → Pack) → Bool → (taken after : List ℕ) → (faults faults_after : ℕ) → Type 0
-RunsAdd kind unit block way code tells old new out_tells taken after faults faults_after =
-    RunsEdit (λ c. RunsAdded kind unit block way c tells old new out_tells taken after faults faults_after) (IsStopped kind unit block way old new)
-    (RunsRefused kind unit block tells old new out_tells taken after faults faults_after) kind unit code tells old new out_tells taken after faults faults_after
+  pub refused : code ≡ 8 → RunsRefused kind unit block tells old new out_tells taken after faults faults_after
 
 -- `bad144 fresh`: the five copies of an empty table are written, and its serial number is printed; or a front of that, where the sink failed
 pub record RunsFresh (kind : DriveKind) (unit serial code : ℕ) (tells : Bool) (old new : ℕ → Pack) (out_tells : Bool) (taken after : List ℕ) (faults faults_after : ℕ) : Type 0 where
@@ -128,7 +122,11 @@ pub record RunsNoTable (kind : DriveKind) (unit : ℕ) (tells : Bool) (old new :
   pub told : IsTrue out_tells → Told taken after (fault_text unit fault.NoTable) faults faults_after
 
 -- `bad144 mark`
-abbrev pub RunsMark : DriveKind → (unit code : ℕ) → Bool → (old new : ℕ → Pack) → Bool → (taken after : List ℕ) → (faults faults_after : ℕ) → Type 0
-RunsMark kind unit code tells old new out_tells taken after faults faults_after =
-    RunsEdit (λ c. RunsMarked kind unit c tells old new out_tells taken after faults faults_after) (IsMarkingStopped kind unit old new)
-    (RunsNoTable kind unit tells old new out_tells taken after faults faults_after) kind unit code tells old new out_tells taken after faults faults_after
+pub record RunsMark (kind : DriveKind) (unit code : ℕ) (tells : Bool) (old new : ℕ → Pack) (out_tells : Bool) (taken after : List ℕ) (faults faults_after : ℕ) : Type 0 where
+  pub statuses : (code ≡ 0) ⊎ (code ≡ 5) ⊎ (code ≡ 6) ⊎ (code ≡ 7) ⊎ (code ≡ 8)
+  pub marked : (code ≡ 0) ⊎ (code ≡ 5) → RunsMarked kind unit code tells old new out_tells taken after faults faults_after
+  pub stopped : code ≡ 6 → IsTrue tells → IsMarkingStopped kind unit old new
+  pub silent : code ≡ 6 → IsTrue out_tells → after ≡ taken
+  pub too_long : code ≡ 7 → RunsTooLong kind unit tells (old unit) out_tells taken after faults faults_after
+  pub unchanged : code ≡ 7 → IsTrue tells → new ≡ old
+  pub refused : code ≡ 8 → RunsNoTable kind unit tells old new out_tells taken after faults faults_after

@@ -1,9 +1,9 @@
 -- One step behind another, and how a step ends.
 use Rattle.std.proofs.Common.{◌≡◌, ◌≤◌, ℕ, IsTrue, Result, Ok, Err, IsErr, false, true, refl, sym, ap, ◌∙◌, subst, arith}
-use Rattle.std.specs.Prelude.{IfErr, IfOk, IsErrAnd, OnErr, OnOk}
-use Rattle.outside_traits.specs.Causes.{HasCause, Rose}
+use Rattle.std.specs.Prelude.{IfErr, IfOk, IsErrAnd, MatchResult, OnErr, OnOk}
+use Rattle.outside_traits.specs.Causes.{Rose}
 use Rattle.pack_format.specs.Faults.{IsCaused}
-use Rattle.pack_format.specs.Steps.{Goes, Seen, Step}
+use Rattle.pack_format.specs.Steps.{Goes, Seen, Step, Tries}
 use Rattle.pack_format.specs.declared.fault.FormatFault.{FormatFault}
 use Rattle.pack_format.specs.declared.fault.FormatFault.TheVariants.{Store}
 
@@ -43,13 +43,9 @@ pub on_err_then : {T E : Type 0} {P Q : Type 0} (result : Result T E) → OnErr 
 on_err_then (Ok v) p f = tt
 on_err_then (Err e) p f = f p
 
--- a cause is handed on
-pub cause_on : {T U E F : Type 0} {before now : ℕ} {e : F} (result : Result T E) → IsErr result → HasCause {T = U} {E = F} before now (Err e) → HasCause before now result
-cause_on (Ok v) is cause = absurd (no_error is)
-cause_on (Err x) is cause = record { later = cause.later; failed = cause.failed }
-
-pub cause_ok : {T E : Type 0} {before now : ℕ} (v : T) → before ≤ now → HasCause {T = T} {E = E} before now (Ok v)
-cause_ok v later = record { later = later; failed = tt }
+pub broken : {T E : Type 0} (P Q : Type 0) (result : Result T E) → IsErr result → Q → MatchResult result (λ _. P) (λ _. Q)
+broken P Q (Ok v) is q = absurd (no_error is)
+broken P Q (Err e) is q = q
 
 -- ---- packs that go on
 
@@ -59,8 +55,12 @@ goes_same {x} = record { never_again = λ t. t; later = omega arith }
 pub goes_then : {a b c : Seen} → Goes a b → Goes b c → Goes a c
 goes_then one two = record { never_again = λ t. one.never_again (two.never_again t); later = omega (arith, one.later, two.later) }
 
-risen : {a b c : Seen} → Goes a b → Rose b.faults c.faults → Rose a.faults c.faults
-risen goes rose = omega (arith, goes.later, rose)
+risen : (a b c : ℕ) → a ≤ b → Rose b c → Rose a c
+risen a b c later rose = omega (arith, later, rose)
+
+pub tries_on : {T U E F : Type 0} {old new : Seen} {e : F} (result : Result T E) → IsErr result → Tries {T = U} old new (Err e) → Tries old new result
+tries_on (Ok v) is tries = absurd (no_error is)
+tries_on (Err x) is tries = record { goes = tries.goes; failed = tries.failed }
 
 -- ---- steps
 
@@ -74,15 +74,14 @@ step_err (Ok v) is goes other why = absurd is
 step_err {Why = Why} (Err x) is goes other why = record { goes = goes; well = tt; why = subst Why (sym is) why; store = λ s. absurd (other (sym is ∙ s)) }
 
 -- one that is,
-pub step_failed : {T U E : Type 0} {Well : Type 0} {Why : FormatFault → Type 0} {old mid new : Seen} {e : E} (result : Result T FormatFault) → IsErrAnd result (λ x. x ≡ Store)
-    → Goes old mid → (IsTrue new.told → IsTrue mid.told) → HasCause {T = U} mid.faults new.faults (Err e) → Why Store → Step Well Why old new result
-step_failed (Ok v) is goes never_again cause why = absurd is
-step_failed {Why = Why} {old = old} {mid = mid} {new = new} (Err x) is goes never_again cause why = record {
-  goes = goes_then {a = old} {b = mid} {c = new} goes (record { never_again = never_again; later = cause.later });
-  well = tt;
-  why = subst Why (sym is) why;
-  store = λ _. risen {a = old} {b = mid} {c = new} goes cause.failed;
-}
+pub step_store : {T : Type 0} {Well : Type 0} {Why : FormatFault → Type 0} {old new : Seen} (result : Result T FormatFault) → IsErrAnd result (λ x. x ≡ Store)
+    → Goes old new → Rose old.faults new.faults → Why Store → Step Well Why old new result
+step_store (Ok v) is goes rose why = absurd is
+step_store {Why = Why} (Err x) is goes rose why = record { goes = goes; well = tt; why = subst Why (sym is) why; store = λ _. rose }
+
+pub step_failed : {T U E : Type 0} {Well : Type 0} {Why : FormatFault → Type 0} {old new : Seen} {e : E} (result : Result T FormatFault) → IsErrAnd result (λ x. x ≡ Store)
+    → Tries {T = U} old new (Err e) → Why Store → Step Well Why old new result
+step_failed result is tries why = step_store result is tries.goes tries.failed why
 
 -- and one that is handed on
 pub step_on : {T U : Type 0} {Well Then : Type 0} {Why Ends : FormatFault → Type 0} {old mid new : Seen} {e : FormatFault} (result : Result T FormatFault)
@@ -92,7 +91,7 @@ step_on {Ends = Ends} {old = old} {mid = mid} {new = new} (Err x) is goes step e
   goes = goes_then {a = old} {b = mid} {c = new} goes step.goes;
   well = tt;
   why = subst Ends (sym is) (ends step.why);
-  store = λ s. risen {a = old} {b = mid} {c = new} goes (step.store (sym is ∙ s));
+  store = λ s. risen old.faults mid.faults new.faults goes.later (step.store (sym is ∙ s));
 }
 
 -- a step behind others
@@ -103,7 +102,7 @@ step_then {old = old} {mid = mid} {new = new} (Err f) goes step ends = record {
   goes = goes_then {a = old} {b = mid} {c = new} goes step.goes;
   well = tt;
   why = ends f step.why;
-  store = λ s. risen {a = old} {b = mid} {c = new} goes (step.store s);
+  store = λ s. risen old.faults mid.faults new.faults goes.later (step.store s);
 }
 
 -- the cause, as callers are told it

@@ -1,5 +1,5 @@
 -- The walk over all sectors: what is done so far, one task more, and where a task stops.
-use Rattle.std.proofs.Common.{◌≡◌, ◌≢◌, ◌⊎◌, inl, inr, ℕ, ◌+◌, ◌-◌, ◌<◌, ◌≤◌, ◌==◌, Bool, true, false, List, length, replicate, refl, sym, ap, ◌∙◌, subst, arith}
+use Rattle.std.proofs.Common.{◌≡◌, ◌≢◌, ◌⊎◌, inl, inr, ℕ, ◌+◌, ◌-◌, ◌/◌, ◌%◌, ◌<◌, ◌≤◌, ◌==◌, Bool, true, false, List, length, replicate, refl, sym, ap, ◌∙◌, subst, arith}
 use Rattle.std.proofs.lemmas.Bool.{cases_lt}
 use Rattle.std.proofs.lemmas.List.{length-map}
 use Rattle.std.proofs.lemmas.Bool.Decides.{Decides-eqb}
@@ -37,6 +37,11 @@ which_replacement : (kind : DriveKind) (sector n : ℕ) → n ≤ 126 → copy_a
     → (i : ℕ) × (i < n) × (sector ≡ replacement_at kind i)
 which_replacement Rp06 sector n le from to = (copy_at Rp06 0 - 1 - sector, omega (arith, le, from, to), omega (arith, le, from, to))
 which_replacement other sector n le from to = (copy_at other 0 - 1 - sector, omega (arith, le, from, to), omega (arith, le, from, to))
+
+-- and every other sector from there on is a copy
+pub copy_of : (kind : DriveKind) (sector first : ℕ) → first ≡ copy_at kind 0 → first ≤ sector → sector < first + 10 → (sector - first) % 2 ≡ 0
+    → (k : ℕ) × (k < 5) × (sector ≡ copy_at kind k)
+copy_of kind sector first is le lt even = ((sector - first) / 2, omega (arith, le, lt, even), omega (arith, is, le, lt, even))
 
 spare_above : (kind : DriveKind) (i n : ℕ) → n ≤ 126 → i < n → copy_at kind 0 - n ≤ replacement_at kind i
 spare_above Rp06 i n le lt = omega (arith, le, lt)

@@ -53,9 +53,9 @@ IsFault kind serial Memory = Unit {0}
 IsFault kind serial Store = Unit {0}
 
 -- A FAULT, by what the pack held: its reason, and what is said of it whatever the packs tell
-pub record IsReason (kind : DriveKind) (serial : ℕ) (told : Bool) (pack : Pack) (fault : FormatFault) : Type 0 where
-  pub why : IsTrue told → IsWhy kind pack fault
-  pub fault : IsFault kind serial fault
+pub record IsReason (kind : DriveKind) (serial : ℕ) (told : Bool) (pack : Pack) (reason : FormatFault) : Type 0 where
+  pub why : IsTrue told → IsWhy kind pack reason
+  pub fault : IsFault kind serial reason
 
 -- and what it leaves
 pub record IsEnd (kind : DriveKind) (serial unit : ℕ) (old new : Seen) (fault : FormatFault) : Type 0 where

@@ -1,5 +1,5 @@
 -- What each step of formatting keeps, and how it may stop.
-use Rattle.std.specs.Prelude.{◌≡◌, ℕ, ◌<◌, ◌≤◌, Bool, IsTrue, Result, OnOk, IfErr}
+use Rattle.std.specs.Prelude.{◌≡◌, ℕ, ◌<◌, ◌≤◌, Bool, IsTrue, Result, OnErr, OnOk, IfErr}
 use Rattle.pack_geometry.specs.Pack.{Pack}
 use Rattle.outside_traits.specs.Causes.{Rose}
 use Rattle.pack_format.specs.testing.Stations.{IsAtRest}
@@ -21,6 +21,11 @@ seen tells held faults packs = record { told = tells packs; held = held packs; f
 pub record Goes (old new : Seen) : Type 0 where
   pub never_again : IsTrue new.told → IsTrue old.told
   pub later : old.faults ≤ new.faults
+
+-- a call over packs that fails only where their count of faults rose
+pub record Tries {T E : Type 0} (old new : Seen) (result : Result T E) : Type 0 where
+  pub goes : Goes old new
+  pub failed : OnErr result (Rose old.faults new.faults)
 
 -- a station at which a job can be done
 pub record IsReady (job : Job) (station : Station) : Type 0 where

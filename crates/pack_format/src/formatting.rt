@@ -141,11 +141,7 @@ pub fn format<P: Packs>(
     ensures never_again { IsTrue (P.tells packs.new) → IsTrue (P.tells packs.old) }
     ensures cause { IsCaused (P.faults packs.old) (P.faults packs.new) result }
 {
-    let job = Job {
-        unit,
-        kind,
-        serial,
-    };
+    let job = Job { unit, kind, serial };
     check_length(packs, job)?;
     let mut station = Station::new(alloc, kind)?;
     format_through(&mut station, packs, job)

@@ -85,7 +85,11 @@ fn take(survey: &mut Survey, kind: DriveKind, block: u32, marked: bool)
 }
 
 /// Reads the data blocks.
-fn read_data<P: Packs>(station: &mut Station, packs: &mut P, job: Job) -> Result<Survey, FormatFault>
+fn read_data<P: Packs>(
+    station: &mut Station,
+    packs: &mut P,
+    job: Job,
+) -> Result<Survey, FormatFault>
     requires ready { IsReady job station.old }
     ensures survey { IfOk result (λ survey. IsTrue (P.tells packs.new) →
         IsSurvey job.kind job.serial (P.held packs.old job.unit) (limit_of job.kind) survey.found survey.table) }
@@ -131,7 +135,11 @@ fn read_replacements<P: Packs>(
 }
 
 /// Reads the copies of the table. True if all five are marked.
-fn read_copies<P: Packs>(station: &mut Station, packs: &mut P, job: Job) -> Result<bool, FormatFault>
+fn read_copies<P: Packs>(
+    station: &mut Station,
+    packs: &mut P,
+    job: Job,
+) -> Result<bool, FormatFault>
     requires ready { IsReady job station.old }
     ensures all { IfOk result (λ all. IsTrue (P.tells packs.new) → all ≡ all_marked job.kind (P.held packs.old job.unit) 5) }
     ensures same { IsTrue (P.tells packs.new) → P.held packs.new ≡ P.held packs.old }

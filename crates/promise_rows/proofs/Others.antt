@@ -13,7 +13,7 @@ nothing_more taken text is = append_cancel_left taken text [] (sym is ∙ sym (a
 
 pub done_where_the_text_was_not_taken : DoneWhereTheTextWasNotTaken
 done_where_the_text_was_not_taken kind unit block serial way old new taken = (
-  λ run. some (nothing_more taken _ ((run.done (inl refl)).told refl refl)),
+  λ run. some (nothing_more taken _ ((run.added (inl refl)).told refl refl)),
   λ run. some (nothing_more taken _ (run.told refl refl)),
 )
   where

@@ -1,5 +1,4 @@
-use Rattle.std.proofs.Common.{arith, refl}
-use Rattle.pack_format.proofs.StepLaws.{goes_same, step_err, step_failed, step_ok}
+use Rattle.pack_format.proofs.StepLaws.{step_ok, step_store}
 use Rattle.pack_format.proofs.ExitLaws.{fits_length, too_long_is_not_store}
 use Rattle.pack_format.proofs.formatting.check_length.Goals as goal
 
@@ -7,7 +6,7 @@ pub returns-in_err-length : goal.returns-in_err-length
 returns-in_err-length g c =
     let length = c.in_err-length.ensures in record {
       same = length.same;
-      step = step_failed _ c.from_residual.ensures.1 goes_same length.never_again length.cause (record { why = λ t. tt; fault = tt });
+      step = step_store _ c.from_residual.ensures.1 (record { never_again = length.never_again; later = length.cause.later }) length.cause.failed (record { why = λ t. tt; fault = tt });
     }
 
 pub returns : goal.returns

@@ -52,10 +52,11 @@ returns g c =
     let check = c.in_ok-check_length.ensures in
     let through = c.format_through.ensures in
     let old = seen g.P.Packs.tells g.P.Packs.held g.P.Packs.faults c.args.packs.now in
+    let mid = seen g.P.Packs.tells g.P.Packs.held g.P.Packs.faults c.check_length.new.packs in
     let new = seen g.P.Packs.tells g.P.Packs.held g.P.Packs.faults c.format_through.new.packs in
     let same = λ (t : IsTrue (g.P.Packs.tells c.format_through.new.packs)). check.same (through.step.goes.never_again t) in
-    let step = step_then {Ends = IsEnd c.args.kind c.args.serial c.args.unit old new} _ check.step.goes through.step (λ f. end_behind c.args.kind c.args.serial c.args.unit old _ new f same) in record {
-      formatted = formatted_behind c.args.kind c.args.serial c.args.unit old _ new _ same through.formatted;
+    let step = step_then {Ends = IsEnd c.args.kind c.args.serial c.args.unit old new} _ check.step.goes through.step (λ f. end_behind c.args.kind c.args.serial c.args.unit old mid new f same) in record {
+      formatted = formatted_behind c.args.kind c.args.serial c.args.unit old mid new _ same through.formatted;
       few = through.few;
       elsewhere = λ other ne t. through.elsewhere other ne t ∙ ap (λ (h : ℕ → Pack). h other) (same t);
       why = if_err _ (λ f. IsTrue new.told → IsWhy c.args.kind (old.held c.args.unit) f) _ step.why (λ f end. end.reason.why);

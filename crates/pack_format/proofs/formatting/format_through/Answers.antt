@@ -1,5 +1,6 @@
 use Rattle.std.proofs.Common.{◌≡◌, ℕ, ap, arith, subst, sym, ◌∙◌}
 use Rattle.pack_geometry.specs.Pack.{Pack}
+use Rattle.pack_format.specs.Steps.{seen}
 use Rattle.pack_format.specs.Formatted.{CanBeFormatted, IsFormatted, table_for}
 use Rattle.pack_format.proofs.StepLaws.{goes_same, goes_then, no_value, step_ok, step_on}
 use Rattle.pack_format.proofs.EndLaws.{end_alone, end_behind, end_of}
@@ -37,7 +38,7 @@ returns-in_err-write_blocks g c =
       few = no_value _ _ is;
       elsewhere = λ other ne t. blocks.elsewhere other ne t ∙ ap (λ (h : ℕ → Pack). h other) (table.same (blocks.step.goes.never_again t));
       step = step_on _ c.from_residual-in_err-write_blocks.ensures.1 table.step.goes blocks.step
-          (λ stop. end_behind c.args.job.kind c.args.job.serial c.args.job.unit _ _ _ _ (λ t. table.same (blocks.step.goes.never_again t))
+          (λ stop. end_behind c.args.job.kind c.args.job.serial c.args.job.unit _ (seen g.P.Packs.tells g.P.Packs.held g.P.Packs.faults c.first_reading.new.packs) _ _ (λ t. table.same (blocks.step.goes.never_again t))
           (end_of c.args.job.kind c.args.job.serial c.args.job.unit _ _ _ stop blocks.partly));
     }
 

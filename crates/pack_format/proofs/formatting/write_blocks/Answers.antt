@@ -65,7 +65,7 @@ returns g c =
           formatted c.args.job.kind c.args.job.serial _ _ _ _
           (set_of c.args.job.kind c.args.job.serial _ _ _ c.args.table.now (c.requires.listed.can told) (c.requires.listed.table_is told) count c.write_table.ensures)
           (subst (λ (n : ℕ). IsDone c.args.job.kind c.args.job.serial n (g.P.Packs.held c.args.packs.now c.args.job.unit) (g.P.Packs.held c.loop-sector.packs c.args.job.unit))
-          (omega (arith, c.blocks.ensures)) (so_far.done t));
+          (omega (arith, c.blocks-sector-end.ensures)) (so_far.done t));
       partly = tt;
       elsewhere = so_far.elsewhere;
       step = step_ok tt so_far.goes so_far.ready;

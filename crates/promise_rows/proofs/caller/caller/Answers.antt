@@ -20,14 +20,14 @@ returns-clause-tables g c = λ tell.
       list_changes_nothing = λ unit kind is. (tool.list unit kind is).same tell.packs;
       freshens = λ unit serial kind is zero. (tool.fresh unit serial kind is).done (inl zero) tell.packs;
       adds = λ unit block kind way below is zero.
-          let a = (tool.add unit block kind way is).done (inl zero) in
+          let a = (tool.add unit block kind way is).added (inl zero) in
           ((a.adds tell.packs).table, a.index, c.add_law.ensures.edits kind unit block a.index way _ _ below (a.adds tell.packs), a.told zero tell.out);
       add_elsewhere = λ unit block other kind way below is zero apart.
-          let a = (tool.add unit block kind way is).done (inl zero) in
+          let a = (tool.add unit block kind way is).added (inl zero) in
           c.add_law.ensures.elsewhere kind unit block a.index other way _ _ (a.adds tell.packs) apart;
       add_refused = λ unit block kind way is code. add_unchanged (tool.add unit block kind way is) code tell.packs;
       marks = λ unit kind is zero.
-          let m = (tool.mark unit kind is).done (inl zero) in
+          let m = (tool.mark unit kind is).marked (inl zero) in
           ((m.marks tell.packs).table, c.mark_law.ensures.up kind unit m.count _ _ (m.marks tell.packs));
       formats = λ unit serial kind is zero.
           let f = ((tool.format unit serial kind is).formatted (inl zero)).done tell.packs in
