@@ -6,27 +6,16 @@ use Rattle.pack_geometry.specs.declared.DriveKind.TheVariants.{Rp06, Rm03, Rm05}
 use Rattle.pack_geometry.specs.Geometry.{copy_at, limit_of, replacement_at}
 use Rattle.pack_geometry.specs.Pack.{Pack, block_at, is_marked}
 use Rattle.pack_format.proofs.testing.StageLaws.{false_true}
+use Rattle.pack_format.proofs.WalkLaws.{copies_above, spare_place, unmarked_written}
 use Rattle.pack_format.specs.Formatted.{Copy, Data, Holds, IsFormatted, IsPartly, IsWritten, IsZeros, Replacement, found}
-
-marked_written : (kind : DriveKind) (sector : ℕ) (old : Pack) → is_marked old sector ≡ true → IsWritten kind old sector → ⊥
-marked_written kind sector old marked (Data within unmarked) = false_true (sym unmarked ∙ marked)
-marked_written kind sector old marked (Replacement i less is unmarked) = false_true (sym unmarked ∙ marked)
-marked_written kind sector old marked (Copy k less is unmarked) = false_true (sym unmarked ∙ marked)
 
 pub marked_alone : (kind : DriveKind) (serial sector : ℕ) (old new : Pack) → IsFormatted kind serial old new → is_marked old sector ≡ true
     → block_at new.image sector ≡ block_at old.image sector
-marked_alone kind serial sector old new f marked = f.others sector (marked_written kind sector old marked)
-
-spare_place : (kind : DriveKind) (i : ℕ) → i < 126 → (limit_of kind ≤ replacement_at kind i) × (replacement_at kind i < copy_at kind 0)
-spare_place Rp06 i lt = (omega (arith, lt), omega (arith, lt))
-spare_place other i lt = (omega (arith, lt), omega (arith, lt))
+marked_alone kind serial sector old new f marked = f.others sector (λ written. false_true (sym (unmarked_written written) ∙ marked))
 
 spares_apart : (kind : DriveKind) (i j : ℕ) → i < 126 → j < i → replacement_at kind i < replacement_at kind j
 spares_apart Rp06 i j lt less = omega (arith, lt, less)
 spares_apart other i j lt less = omega (arith, lt, less)
-
-pub copies_above : (kind : DriveKind) (k : ℕ) → copy_at kind 0 ≤ copy_at kind k
-copies_above kind k = omega arith
 
 spare_written : (kind : DriveKind) (i : ℕ) (old : Pack) → found kind old ≤ i → i < 126 → IsWritten kind old (replacement_at kind i) → ⊥
 spare_written kind i old le lt (Data within unmarked) = omega (arith, within, (spare_place kind i lt).0)

@@ -1,22 +1,16 @@
 -- Why a pack is not formatted, and what that leaves of it.
-use Rattle.std.specs.Prelude.{◌≡◌, ◌⊎◌, ℕ, ◌*◌, ◌<◌, ◌≤◌, nat_lt, true, List, Result, IsErrOf, length}
+use Rattle.std.specs.Prelude.{◌≡◌, ◌⊎◌, ℕ, ◌*◌, ◌<◌, ◌≤◌, Bool, IsTrue, List, Result, IsErrOf, length}
 use Rattle.pack_geometry.specs.declared.DriveKind.{DriveKind}
 use Rattle.pack_geometry.specs.Geometry.{block_count, copy_at}
 use Rattle.pack_geometry.specs.Pack.{Pack}
 use Rattle.pack_geometry.specs.TableSpelling.{Table, Spells}
 use Rattle.outside_traits.specs.Causes.{Rose}
-use Rattle.pack_format.specs.testing.Stages.{is_copy}
-use Rattle.pack_format.specs.testing.TestFaults.{CameBack, Tests}
-use Rattle.pack_format.specs.declared.testing.fault.TestFault.{TestFault}
-use Rattle.pack_format.specs.declared.testing.fault.TestFault.TheVariants as test
+use Rattle.pack_format.specs.Steps.{Seen}
+use Rattle.pack_format.specs.testing.Stages.{IsTested}
+use Rattle.pack_format.specs.testing.Stops.{CameBack}
 use Rattle.pack_format.specs.Formatted.{HasNoCopy, IsPartly, IsSpare, IsTooLong, IsTooMany, found}
 use Rattle.pack_format.specs.declared.fault.FormatFault.{FormatFault}
 use Rattle.pack_format.specs.declared.fault.FormatFault.TheVariants.{Memory, TooLong, TooMany, Spare, NoCopy, Differs, Store}
-
--- a test of blocks that stops ends the formatting
-abbrev pub from_test : TestFault → FormatFault
-from_test (test.Differs block at wrote read) = Differs block at wrote read
-from_test test.Store = Store
 
 -- the reason of each refusal, by what the pack held; each comes where those before it do not. Over packs that tell, no byte comes back
 -- otherwise than it was written.
@@ -45,7 +39,7 @@ abbrev pub IsTableText : DriveKind → (serial : ℕ) → List ℕ → Type 0
 IsTableText kind serial bytes = (table : Table) × (table.kind ≡ kind) × (table.serial ≡ serial) × Spells bytes table
 
 abbrev pub Formats : DriveKind → (serial block : ℕ) → (bytes : List ℕ) → Type 0
-Formats kind serial block bytes = Tests (λ sector. nat_lt sector (copy_at kind 0)) block bytes ⊎ ((is_copy kind 5 block ≡ true) × IsTableText kind serial bytes)
+Formats kind serial block bytes = ((block < copy_at kind 0) × IsTested bytes) ⊎ ((k : ℕ) × (k < 5) × (block ≡ copy_at kind k) × IsTableText kind serial bytes)
 
 -- WHAT IS SAID OF A FAULT whatever the packs tell: a length or a number is above its bound, and a byte came back otherwise than it was written, the
 -- first one of its block
@@ -57,6 +51,16 @@ IsFault kind serial (Spare index) = index < 126
 IsFault kind serial NoCopy = Unit {0}
 IsFault kind serial Memory = Unit {0}
 IsFault kind serial Store = Unit {0}
+
+-- A FAULT, by what the pack held: its reason, and what is said of it whatever the packs tell
+pub record IsReason (kind : DriveKind) (serial : ℕ) (told : Bool) (pack : Pack) (reason : FormatFault) : Type 0 where
+  pub why : IsTrue told → IsWhy kind pack reason
+  pub fault : IsFault kind serial reason
+
+-- and what it leaves
+pub record IsEnd (kind : DriveKind) (serial unit : ℕ) (old new : Seen) (fault : FormatFault) : Type 0 where
+  pub reason : IsReason kind serial new.told (old.held unit) fault
+  pub left : IsTrue new.told → Leaves kind serial unit old.held new.held fault
 
 -- the packs fail only where their count of faults rose, which never falls
 pub record IsCaused {T : Type 0} (before now : ℕ) (result : Result T FormatFault) : Type 0 where

@@ -1,10 +1,10 @@
 -- What the first reading has found so far.
-use Rattle.std.specs.Prelude.{◌≡◌, ℕ, zero, suc, ◌<◌, ◌≤◌, ◌&&◌, nat_lt, if◌then◌else◌, Bool, true, false, Option, None, Some, map, length}
+use Rattle.std.specs.Prelude.{◌≡◌, ℕ, zero, suc, ◌<◌, ◌≤◌, ◌&&◌, nat_lt, if◌then◌else◌, Bool, true, false, IsTrue, Option, None, Some, map, length}
 use Rattle.pack_geometry.specs.declared.DriveKind.{DriveKind}
 use Rattle.pack_geometry.specs.Geometry.{copy_at, place_at, replacement_at}
 use Rattle.pack_geometry.specs.Pack.{Pack, is_marked}
 use Rattle.pack_geometry.specs.TableSpelling.{Table}
-use Rattle.pack_format.specs.Formatted.{IsTooLong, found, marked_below}
+use Rattle.pack_format.specs.Formatted.{CanBeFormatted, IsTooLong, found, marked_below, table_for}
 use Rattle.pack_format.specs.declared.fault.FormatFault.{FormatFault}
 use Rattle.pack_format.specs.declared.fault.FormatFault.TheVariants.{Memory, TooLong, TooMany, Spare, NoCopy, Differs, Store}
 
@@ -34,6 +34,19 @@ pub record IsJudged (kind : DriveKind) (pack : Pack) (number : ℕ) (spare : Opt
   pub counted : number ≡ found kind pack
   pub first : IsFirst kind pack 126 spare
   pub copies : no_copy ≡ all_marked kind pack 5
+
+-- a table of so many marked blocks, which lie below one
+pub record IsHeaded (kind : DriveKind) (serial block number : ℕ) (table : Table) : Type 0 where
+  pub counted : number ≤ block
+  pub kind_is : table.kind ≡ kind
+  pub serial_is : table.serial ≡ serial
+
+-- THE TABLE THAT IS TO BE WRITTEN, and nothing is in the way
+pub record IsListed (kind : DriveKind) (serial : ℕ) (told : Bool) (pack : Pack) (table : Table) : Type 0 where
+  pub kind_is : table.kind ≡ kind
+  pub serial_is : table.serial ≡ serial
+  pub can : IsTrue told → CanBeFormatted kind pack
+  pub table_is : IsTrue told → table ≡ table_for kind serial pack
 
 -- the refusals that a finding may have, with their numbers
 abbrev pub IsRefusal : FormatFault → Type 0

@@ -1,4 +1,4 @@
 pub mod Polls
 pub mod Stations
 pub mod Stages
-pub mod TestFaults
+pub mod Stops

@@ -1,4 +1,3 @@
-use crate::testing::TestFault;
 use outside_traits::traits::{NoMemory, StoreFailed};
 use thiserror::Error;
 
@@ -57,29 +56,5 @@ impl From<NoMemory> for FormatFault {
 
     fn from(_: NoMemory) -> FormatFault {
         FormatFault::Memory
-    }
-}
-
-impl From<TestFault> for FormatFault {
-    ghost use Rattle.std.specs.Prelude.{◌≡◌};
-    ghost use Rattle.pack_format.specs.Faults.{from_test};
-
-    ghost from_gives = { λ f e. e ≡ from_test f };
-
-    fn from(fault: TestFault) -> FormatFault {
-        match fault {
-            TestFault::Differs {
-                block,
-                at,
-                wrote,
-                read,
-            } => FormatFault::Differs {
-                block,
-                at,
-                wrote,
-                read,
-            },
-            TestFault::Store => FormatFault::Store,
-        }
     }
 }

@@ -1,16 +1,20 @@
 //! Formatting a pack.
 ghost use Rattle.std.specs.Prelude.{◌≡◌, ◌≢◌, ℕ, ◌<◌, ◌≤◌, IfOk, IfErr, IsTrue, OnErr, OnOk};
-ghost use Rattle.pack_format.specs.testing.Stations.{IsAtRest};
-ghost use Rattle.pack_format.specs.testing.TestFaults.{IsStop, IsTestCaused};
-ghost use Rattle.pack_format.specs.Faults.{Formats, IsCaused, IsFault, IsWhy, Leaves};
-ghost use Rattle.pack_format.specs.Formatted.{CanBeFormatted, IsFormatted, IsPartly, IsTooLong, found, table_for};
+ghost use Rattle.pack_geometry.specs.Geometry.{block_count};
+ghost use Rattle.pack_format.specs.testing.Stops.{IsStop, Writes};
+ghost use Rattle.pack_format.specs.Faults.{Formats, IsCaused, IsEnd, IsFault, IsReason, IsWhy, Leaves};
+ghost use Rattle.pack_format.specs.Formatted.{IsFormatted, IsPartly, IsTooLong, found};
+ghost use Rattle.pack_format.specs.Steps.{IsReady, Step, seen};
+ghost use Rattle.pack_format.specs.Surveys.{IsListed};
+ghost use Rattle.pack_format.specs.Tasks.{Did, MayWrite, StopsAt};
 
 use crate::fault::FormatFault;
+use crate::job::{Job, Task, task_of};
 use crate::survey::first_reading;
-use crate::testing::{Station, TestFault, test_blocks, write_copies};
+use crate::testing::{Station, test_block, write_and_read};
 use bad144_table::{BadTable, entries, write_table};
 use outside_traits::traits::Packs;
-use pack_geometry::{DriveKind, blocks, copy_block, data_limit};
+use pack_geometry::{DriveKind, blocks};
 use std::alloc::Global;
 
 /// The result of formatting a pack.
@@ -21,75 +25,86 @@ pub struct FormatReport {
 }
 
 /// Looks whether the image is no longer than the pack.
-fn check_length<P: Packs>(packs: &mut P, unit: u8, kind: DriveKind) -> Result<(), FormatFault>
-    requires { unit < 32 }
-    ensures fits { OnOk result (IsTrue (P.tells packs.new) → ¬ (IsTooLong kind (P.held packs.old unit))) }
-    ensures why { IfErr result (λ fault. IsTrue (P.tells packs.new) → IsWhy kind (P.held packs.old unit) fault) }
-    ensures fault { (serial : ℕ) → IfErr result (IsFault kind serial) }
+fn check_length<P: Packs>(packs: &mut P, job: Job) -> Result<(), FormatFault>
+    requires { job.unit < 32 }
     ensures same { IsTrue (P.tells packs.new) → P.held packs.new ≡ P.held packs.old }
-    ensures never_again { IsTrue (P.tells packs.new) → IsTrue (P.tells packs.old) }
-    ensures cause { IsCaused (P.faults packs.old) (P.faults packs.new) result }
+    ensures step { Step (IsTrue (P.tells packs.new) → ¬ (IsTooLong job.kind (P.held packs.old job.unit)))
+        (IsReason job.kind job.serial (P.tells packs.new) (P.held packs.old job.unit))
+        (seen P.tells P.held P.faults packs.old) (seen P.tells P.held P.faults packs.new) result }
 {
-    let length = packs.length(unit)?;
-    if length > 512 * u64::from(blocks(kind)) {
+    let length = packs.length(job.unit)?;
+    if length > 512 * u64::from(blocks(job.kind)) {
         return Err(FormatFault::TooLong { length });
     }
     Ok(())
+}
+
+/// Does a task with a sector. `bytes` are those of the table.
+fn do_task<P: Packs>(
+    station: &mut Station,
+    packs: &mut P,
+    job: Job,
+    task: Task,
+    sector: u32,
+    bytes: &[u8; 512],
+) -> Result<(), FormatFault>
+    requires ready { IsReady job station.old }
+    requires sector { sector < block_count job.kind }
+    ensures did { OnOk result (IsTrue (P.tells packs.new) → Did task job.unit sector bytes.now (P.held packs.old) (P.held packs.new)) }
+    ensures stops { OnErr result (IsTrue (P.tells packs.new) → StopsAt task job.unit sector bytes.now (P.held packs.old) (P.held packs.new)) }
+    ensures step { Step (IsReady job station.new) (IsStop (P.tells packs.new) (Writes sector (MayWrite task bytes.now)))
+        (seen P.tells P.held P.faults packs.old) (seen P.tells P.held P.faults packs.new) result }
+{
+    match task {
+        Task::Test => test_block(station, packs, job, sector),
+        Task::Put => write_and_read(station, packs, job, sector, bytes),
+        Task::Leave => Ok(()),
+    }
 }
 
 /// Tests the data blocks and the replacements that a table uses, and writes it to its copies.
 fn write_blocks<P: Packs>(
     station: &mut Station,
     packs: &mut P,
-    unit: u8,
-    kind: DriveKind,
+    job: Job,
     table: &BadTable,
-) -> Result<(), TestFault>
-    requires unit { unit < 32 }
-    requires rest { IsAtRest kind station.old }
-    requires drive { table.now.kind ≡ kind }
-    requires can { IsTrue (P.tells packs.old) → CanBeFormatted kind (P.held packs.old unit) }
-    requires table { IsTrue (P.tells packs.old) → table.now ≡ table_for kind table.now.serial (P.held packs.old unit) }
-    ensures formatted { OnOk result (IsTrue (P.tells packs.new) → IsFormatted kind table.now.serial (P.held packs.old unit) (P.held packs.new unit)) }
-    ensures partly { OnErr result (IsTrue (P.tells packs.new) → IsPartly kind table.now.serial (P.held packs.old unit) (P.held packs.new unit)) }
-    ensures elsewhere { (other : ℕ) → other ≢ unit → IsTrue (P.tells packs.new) → P.held packs.new other ≡ P.held packs.old other }
-    ensures stop { IfErr result (IsStop (P.tells packs.new) (Formats kind table.now.serial)) }
-    ensures never_again { IsTrue (P.tells packs.new) → IsTrue (P.tells packs.old) }
-    ensures cause { IsTestCaused (P.faults packs.old) (P.faults packs.new) result }
+) -> Result<(), FormatFault>
+    requires ready { IsReady job station.old }
+    requires listed { IsListed job.kind job.serial (P.tells packs.old) (P.held packs.old job.unit) table.now }
+    ensures formatted { OnOk result (IsTrue (P.tells packs.new) → IsFormatted job.kind job.serial (P.held packs.old job.unit) (P.held packs.new job.unit)) }
+    ensures partly { OnErr result (IsTrue (P.tells packs.new) → IsPartly job.kind job.serial (P.held packs.old job.unit) (P.held packs.new job.unit)) }
+    ensures elsewhere { (other : ℕ) → other ≢ job.unit → IsTrue (P.tells packs.new) → P.held packs.new other ≡ P.held packs.old other }
+    ensures step { Step (IsReady job station.new) (IsStop (P.tells packs.new) (Formats job.kind job.serial))
+        (seen P.tells P.held P.faults packs.old) (seen P.tells P.held P.faults packs.new) result }
 {
-    let limit = data_limit(kind);
-    let track = copy_block(kind, 0);
     let spares = u32::from(entries(table));
     let mut bytes = [0u8; 512];
     write_table(table, &mut bytes);
-    test_blocks(station, packs, unit, kind, 0, limit)?;
-    test_blocks(station, packs, unit, kind, track - spares, track)?;
-    write_copies(station, packs, unit, kind, &bytes)
+    for sector in 0..blocks(job.kind) {
+        let task = task_of(job.kind, spares, sector);
+        do_task(station, packs, job, task, sector, &bytes)?;
+    }
+    Ok(())
 }
 
 /// Formats a pack whose image is no longer than the pack, through a station.
 fn format_through<P: Packs>(
     station: &mut Station,
     packs: &mut P,
-    unit: u8,
-    kind: DriveKind,
-    serial: u32,
+    job: Job,
 ) -> Result<FormatReport, FormatFault>
-    requires unit { unit < 32 }
-    requires rest { IsAtRest kind station.old }
-    requires fits { IsTrue (P.tells packs.old) → ¬ (IsTooLong kind (P.held packs.old unit)) }
+    requires ready { IsReady job station.old }
+    requires fits { IsTrue (P.tells packs.old) → ¬ (IsTooLong job.kind (P.held packs.old job.unit)) }
     ensures formatted { IfOk result (λ report. IsTrue (P.tells packs.new) →
-        IsFormatted kind serial (P.held packs.old unit) (P.held packs.new unit) × (report.bad ≡ found kind (P.held packs.old unit))) }
+        IsFormatted job.kind job.serial (P.held packs.old job.unit) (P.held packs.new job.unit) × (report.bad ≡ found job.kind (P.held packs.old job.unit))) }
     ensures few { IfOk result (λ report. report.bad ≤ 126) }
-    ensures elsewhere { (other : ℕ) → other ≢ unit → IsTrue (P.tells packs.new) → P.held packs.new other ≡ P.held packs.old other }
-    ensures why { IfErr result (λ fault. IsTrue (P.tells packs.new) → IsWhy kind (P.held packs.old unit) fault) }
-    ensures left { IfErr result (λ fault. IsTrue (P.tells packs.new) → Leaves kind serial unit (P.held packs.old) (P.held packs.new) fault) }
-    ensures fault { IfErr result (IsFault kind serial) }
-    ensures never_again { IsTrue (P.tells packs.new) → IsTrue (P.tells packs.old) }
-    ensures cause { IsCaused (P.faults packs.old) (P.faults packs.new) result }
+    ensures elsewhere { (other : ℕ) → other ≢ job.unit → IsTrue (P.tells packs.new) → P.held packs.new other ≡ P.held packs.old other }
+    ensures step { Step (IsReady job station.new)
+        (IsEnd job.kind job.serial job.unit (seen P.tells P.held P.faults packs.old) (seen P.tells P.held P.faults packs.new))
+        (seen P.tells P.held P.faults packs.old) (seen P.tells P.held P.faults packs.new) result }
 {
-    let table = first_reading(station, packs, unit, kind, serial)?;
-    write_blocks(station, packs, unit, kind, &table)?;
+    let table = first_reading(station, packs, job)?;
+    write_blocks(station, packs, job, &table)?;
     Ok(FormatReport {
         bad: entries(&table),
     })
@@ -126,7 +141,8 @@ pub fn format<P: Packs>(
     ensures never_again { IsTrue (P.tells packs.new) → IsTrue (P.tells packs.old) }
     ensures cause { IsCaused (P.faults packs.old) (P.faults packs.new) result }
 {
-    check_length(packs, unit, kind)?;
+    let job = Job { unit, kind, serial };
+    check_length(packs, job)?;
     let mut station = Station::new(alloc, kind)?;
-    format_through(&mut station, packs, unit, kind, serial)
+    format_through(&mut station, packs, job)
 }

@@ -13,6 +13,7 @@
 
 mod fault;
 mod formatting;
+mod job;
 mod laws;
 mod survey;
 pub mod testing;

@@ -1,19 +1,19 @@
 //! The first reading of all blocks.
-ghost use Rattle.std.specs.Prelude.{◌≡◌, ◌<◌, ◌≤◌, ◌+◌, ℕ, true, IsTrue, IfErr, IfOk, IfSome, OnOk};
-ghost use Rattle.outside_traits.specs.Causes.{HasCause};
+ghost use Rattle.std.specs.Prelude.{◌≡◌, ◌<◌, ◌+◌, ℕ, true, IsTrue, IfErr, IfOk, IfSome, OnOk};
 ghost use Rattle.pack_geometry.specs.Geometry.{block_count, limit_of, replacement_at};
 ghost use Rattle.pack_geometry.specs.Pack.{Pack, is_marked};
-ghost use Rattle.pack_format.specs.Faults.{IsCaused, IsFault, IsWhy};
-ghost use Rattle.pack_format.specs.Formatted.{CanBeFormatted, IsTooLong, table_for};
+ghost use Rattle.pack_format.specs.Faults.{IsReason, IsWhy};
+ghost use Rattle.pack_format.specs.Formatted.{CanBeFormatted, IsTooLong};
 ghost use Rattle.pack_format.specs.testing.Polls.{answer_for};
-ghost use Rattle.pack_format.specs.testing.Stations.{IsAtRest};
-ghost use Rattle.pack_format.specs.Surveys.{IsFirst, IsJudged, IsRefusal, IsSurvey, all_marked, used_of};
+ghost use Rattle.pack_format.specs.Steps.{IsReady, IsStore, Step, seen};
+ghost use Rattle.pack_format.specs.Surveys.{IsFirst, IsHeaded, IsJudged, IsListed, IsRefusal, IsSurvey, all_marked, used_of};
 ghost use Rattle.pack_geometry.specs.declared.DriveKind.{DriveKind};
 
 use crate::fault::FormatFault;
+use crate::job::Job;
 use crate::testing::{Polled, Station};
 use bad144_table::{BadTable, empty_table, insert};
-use outside_traits::traits::{Packs, StoreFailed};
+use outside_traits::traits::Packs;
 use pack_geometry::{DriveKind, copy_block, data_limit, place_of, replacement};
 
 /// The marked data blocks so far: how many they are, and, if they are at most 126, the table that lists them.
@@ -37,21 +37,17 @@ fn is_mark(polled: Polled) -> bool
 fn poll_mark<P: Packs>(
     station: &mut Station,
     packs: &mut P,
-    unit: u8,
-    kind: DriveKind,
+    job: Job,
     block: u32,
-) -> Result<bool, StoreFailed>
-    requires unit { unit < 32 }
-    requires rest { IsAtRest kind station.old }
-    requires block { block < block_count kind }
-    ensures answer { IfOk result (λ marked. IsTrue (P.tells packs.new) → marked ≡ is_marked (P.held packs.old unit) block) }
-    ensures rest { OnOk result (IsAtRest kind station.new) }
+) -> Result<bool, FormatFault>
+    requires ready { IsReady job station.old }
+    requires block { block < block_count job.kind }
+    ensures answer { IfOk result (λ marked. IsTrue (P.tells packs.new) → marked ≡ is_marked (P.held packs.old job.unit) block) }
     ensures same { IsTrue (P.tells packs.new) → P.held packs.new ≡ P.held packs.old }
-    ensures never_again { IsTrue (P.tells packs.new) → IsTrue (P.tells packs.old) }
-    ensures cause { HasCause (P.faults packs.old) (P.faults packs.new) result }
+    ensures step { Step (IsReady job station.new) IsStore (seen P.tells P.held P.faults packs.old) (seen P.tells P.held P.faults packs.new) result }
 {
     let mut bytes = [0u8; 512];
-    let polled = station.poll_read(packs, unit, kind, block, &mut bytes)?;
+    let polled = station.poll_read(packs, job.unit, job.kind, block, &mut bytes)?;
     Ok(is_mark(polled))
 }
 
@@ -73,13 +69,10 @@ fn list(table: &mut BadTable, kind: DriveKind, block: u32)
 /// Takes a data block into the survey of those below it.
 fn take(survey: &mut Survey, kind: DriveKind, block: u32, marked: bool)
     requires data_block { block < limit_of kind }
-    requires counted { survey.old.found ≤ block }
-    requires kind { survey.old.table.kind ≡ kind }
+    requires headed { IsHeaded kind survey.old.table.serial block survey.old.found survey.old.table }
     ensures survey { (serial : ℕ) → (pack : Pack) → IsSurvey kind serial pack block survey.old.found survey.old.table → marked ≡ is_marked pack block
         → IsSurvey kind serial pack (block + 1) survey.new.found survey.new.table }
-    ensures counted { survey.new.found ≤ block + 1 }
-    ensures kind { survey.new.table.kind ≡ kind }
-    ensures serial { survey.new.table.serial ≡ survey.old.table.serial }
+    ensures headed { IsHeaded kind survey.old.table.serial (block + 1) survey.new.found survey.new.table }
 {
     if !marked {
         return;
@@ -95,27 +88,22 @@ fn take(survey: &mut Survey, kind: DriveKind, block: u32, marked: bool)
 fn read_data<P: Packs>(
     station: &mut Station,
     packs: &mut P,
-    unit: u8,
-    kind: DriveKind,
-    serial: u32,
-) -> Result<Survey, StoreFailed>
-    requires unit { unit < 32 }
-    requires rest { IsAtRest kind station.old }
+    job: Job,
+) -> Result<Survey, FormatFault>
+    requires ready { IsReady job station.old }
     ensures survey { IfOk result (λ survey. IsTrue (P.tells packs.new) →
-        IsSurvey kind serial (P.held packs.old unit) (limit_of kind) survey.found survey.table) }
-    ensures drive { IfOk result (λ survey. (survey.table.kind ≡ kind) × (survey.table.serial ≡ serial)) }
-    ensures rest { OnOk result (IsAtRest kind station.new) }
+        IsSurvey job.kind job.serial (P.held packs.old job.unit) (limit_of job.kind) survey.found survey.table) }
+    ensures headed { IfOk result (λ survey. IsHeaded job.kind job.serial (limit_of job.kind) survey.found survey.table) }
     ensures same { IsTrue (P.tells packs.new) → P.held packs.new ≡ P.held packs.old }
-    ensures never_again { IsTrue (P.tells packs.new) → IsTrue (P.tells packs.old) }
-    ensures cause { HasCause (P.faults packs.old) (P.faults packs.new) result }
+    ensures step { Step (IsReady job station.new) IsStore (seen P.tells P.held P.faults packs.old) (seen P.tells P.held P.faults packs.new) result }
 {
     let mut survey = Survey {
         found: 0,
-        table: empty_table(kind, serial),
+        table: empty_table(job.kind, job.serial),
     };
-    for block in 0..data_limit(kind) {
-        let marked = poll_mark(station, packs, unit, kind, block)?;
-        take(&mut survey, kind, block, marked);
+    for block in 0..data_limit(job.kind) {
+        let marked = poll_mark(station, packs, job, block)?;
+        take(&mut survey, job.kind, block, marked);
     }
     Ok(survey)
 }
@@ -131,20 +119,16 @@ fn or_this(first: Option<u8>, i: u8, marked: bool) -> Option<u8>
 fn read_replacements<P: Packs>(
     station: &mut Station,
     packs: &mut P,
-    unit: u8,
-    kind: DriveKind,
-) -> Result<Option<u8>, StoreFailed>
-    requires unit { unit < 32 }
-    requires rest { IsAtRest kind station.old }
-    ensures first { IfOk result (λ first. IsTrue (P.tells packs.new) → IsFirst kind (P.held packs.old unit) 126 first) }
-    ensures rest { OnOk result (IsAtRest kind station.new) }
+    job: Job,
+) -> Result<Option<u8>, FormatFault>
+    requires ready { IsReady job station.old }
+    ensures first { IfOk result (λ first. IsTrue (P.tells packs.new) → IsFirst job.kind (P.held packs.old job.unit) 126 first) }
     ensures same { IsTrue (P.tells packs.new) → P.held packs.new ≡ P.held packs.old }
-    ensures never_again { IsTrue (P.tells packs.new) → IsTrue (P.tells packs.old) }
-    ensures cause { HasCause (P.faults packs.old) (P.faults packs.new) result }
+    ensures step { Step (IsReady job station.new) IsStore (seen P.tells P.held P.faults packs.old) (seen P.tells P.held P.faults packs.new) result }
 {
     let mut first = None;
     for i in 0..126u8 {
-        let marked = poll_mark(station, packs, unit, kind, replacement(kind, u32::from(i)))?;
+        let marked = poll_mark(station, packs, job, replacement(job.kind, u32::from(i)))?;
         first = or_this(first, i, marked);
     }
     Ok(first)
@@ -154,20 +138,16 @@ fn read_replacements<P: Packs>(
 fn read_copies<P: Packs>(
     station: &mut Station,
     packs: &mut P,
-    unit: u8,
-    kind: DriveKind,
-) -> Result<bool, StoreFailed>
-    requires unit { unit < 32 }
-    requires rest { IsAtRest kind station.old }
-    ensures all { IfOk result (λ all. IsTrue (P.tells packs.new) → all ≡ all_marked kind (P.held packs.old unit) 5) }
-    ensures rest { OnOk result (IsAtRest kind station.new) }
+    job: Job,
+) -> Result<bool, FormatFault>
+    requires ready { IsReady job station.old }
+    ensures all { IfOk result (λ all. IsTrue (P.tells packs.new) → all ≡ all_marked job.kind (P.held packs.old job.unit) 5) }
     ensures same { IsTrue (P.tells packs.new) → P.held packs.new ≡ P.held packs.old }
-    ensures never_again { IsTrue (P.tells packs.new) → IsTrue (P.tells packs.old) }
-    ensures cause { HasCause (P.faults packs.old) (P.faults packs.new) result }
+    ensures step { Step (IsReady job station.new) IsStore (seen P.tells P.held P.faults packs.old) (seen P.tells P.held P.faults packs.new) result }
 {
     let mut all = true;
     for k in 0..5u32 {
-        let marked = poll_mark(station, packs, unit, kind, copy_block(kind, k))?;
+        let marked = poll_mark(station, packs, job, copy_block(job.kind, k))?;
         all &= marked;
     }
     Ok(all)
@@ -204,26 +184,18 @@ fn judge(found: u32, spare: Option<u8>, no_copy: bool) -> Result<(), FormatFault
 pub(crate) fn first_reading<P: Packs>(
     station: &mut Station,
     packs: &mut P,
-    unit: u8,
-    kind: DriveKind,
-    serial: u32,
+    job: Job,
 ) -> Result<BadTable, FormatFault>
-    requires unit { unit < 32 }
-    requires rest { IsAtRest kind station.old }
-    requires fits { IsTrue (P.tells packs.old) → ¬ (IsTooLong kind (P.held packs.old unit)) }
-    ensures table { IfOk result (λ table. IsTrue (P.tells packs.new) → table ≡ table_for kind serial (P.held packs.old unit)) }
-    ensures drive { IfOk result (λ table. (table.kind ≡ kind) × (table.serial ≡ serial)) }
-    ensures can { OnOk result (IsTrue (P.tells packs.new) → CanBeFormatted kind (P.held packs.old unit)) }
-    ensures why { IfErr result (λ fault. IsTrue (P.tells packs.new) → IsWhy kind (P.held packs.old unit) fault) }
-    ensures fault { IfErr result (IsFault kind serial) }
-    ensures rest { OnOk result (IsAtRest kind station.new) }
+    requires ready { IsReady job station.old }
+    requires fits { IsTrue (P.tells packs.old) → ¬ (IsTooLong job.kind (P.held packs.old job.unit)) }
+    ensures listed { IfOk result (IsListed job.kind job.serial (P.tells packs.new) (P.held packs.old job.unit)) }
     ensures same { IsTrue (P.tells packs.new) → P.held packs.new ≡ P.held packs.old }
-    ensures never_again { IsTrue (P.tells packs.new) → IsTrue (P.tells packs.old) }
-    ensures cause { IsCaused (P.faults packs.old) (P.faults packs.new) result }
+    ensures step { Step (IsReady job station.new) (IsReason job.kind job.serial (P.tells packs.new) (P.held packs.old job.unit))
+        (seen P.tells P.held P.faults packs.old) (seen P.tells P.held P.faults packs.new) result }
 {
-    let survey = read_data(station, packs, unit, kind, serial)?;
-    let spare = read_replacements(station, packs, unit, kind)?;
-    let no_copy = read_copies(station, packs, unit, kind)?;
+    let survey = read_data(station, packs, job)?;
+    let spare = read_replacements(station, packs, job)?;
+    let no_copy = read_copies(station, packs, job)?;
     judge(survey.found, spare, no_copy)?;
     Ok(survey.table)
 }

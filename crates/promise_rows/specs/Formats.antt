@@ -4,12 +4,12 @@ use Rattle.pack_geometry.specs.declared.DriveKind.{DriveKind}
 use Rattle.pack_geometry.specs.declared.DriveKind.TheVariants.{Rm03}
 use Rattle.pack_geometry.specs.Geometry.{block_count, copy_at, place_at}
 use Rattle.pack_geometry.specs.Pack.{Pack, block_at, is_marked}
-use Rattle.pack_geometry.specs.TableSpelling.{Table}
+use Rattle.pack_geometry.specs.TableSpelling.{Spells, Table}
 use Rattle.hardware_table.specs.Drive.{DriveState}
 use Rattle.pack_format.specs.testing.Stations.{IsAimed}
-use Rattle.pack_format.specs.testing.Stages.{Fills, copied, one}
-use Rattle.pack_format.specs.testing.TestFaults.{IsStop, Writes}
-use Rattle.pack_format.specs.declared.testing.fault.TestFault.TheVariants.{Differs}
+use Rattle.pack_format.specs.Formatted.{IsFormatted, table_for}
+use Rattle.pack_format.specs.testing.Stages.{Fills, one}
+use Rattle.pack_format.specs.testing.Stops.{IsStop, Writes}
 use Rattle.pack_format.specs.Faults.{IsFault}
 use Rattle.pack_format.specs.Surveys.{IsSurvey}
 use Rattle.pack_format.specs.declared.fault.FormatFault.TheVariants as format_fault
@@ -23,12 +23,12 @@ HeadsLeftWhereTheyAre = (kind : DriveKind) (block : ℕ) (drive : DriveState) �
 
 -- block 0 is told to differ, and another one was tested
 abbrev pub AnotherBlockTold : Type 0
-AnotherBlockTold = (told : Bool) (block at wrote read : ℕ) (bytes : List ℕ) → 0 < block → ¬ IsStop told (Writes (λ sector. sector == block) bytes) (Differs 0 at wrote read)
+AnotherBlockTold = (told : Bool) (block at wrote read : ℕ) (bytes : List ℕ) → 0 < block → ¬ IsStop told (Writes block (λ text. text ≡ bytes)) (format_fault.Differs 0 at wrote read)
 
 -- the first copy of the table is not written, and it is not marked
 abbrev pub CopyLeftOut : Type 0
-CopyLeftOut = (unit : ℕ) (kind : DriveKind) (bytes : List ℕ) (old new : ℕ → Pack) → is_marked (old unit) (copy_at kind 0) ≡ false
-    → block_at (new unit).image (copy_at kind 0) ≢ bytes → ¬ Fills unit (copied kind (old unit) 5) bytes old new
+CopyLeftOut = (kind : DriveKind) (serial : ℕ) (old new : Pack) → is_marked old (copy_at kind 0) ≡ false
+    → ¬ Spells (block_at new.image (copy_at kind 0)) (table_for kind serial old) → ¬ IsFormatted kind serial old new
 
 -- a block that was tested keeps the bytes A5
 abbrev pub ZerosLeftOut : Type 0

@@ -13,7 +13,7 @@ use Rattle.drive_registers.specs.declared.Function.TheVariants.{Read, Write}
 use Rattle.hardware_table.specs.declared.Work.TheVariants.{Ready, Transfer}
 use Rattle.hardware_table.specs.Drive.{DriveState, on, sector_in, track_in}
 use Rattle.hardware_table.specs.Functions.{effect, is_addressed, performed, refusals, refused}
-use Rattle.pack_format.specs.testing.Stations.{Does, IsAimed}
+use Rattle.pack_format.specs.testing.Stations.{Does, HasBegun, IsAimed}
 
 -- what is not refused is done
 done : (f : Function) (d : DriveState) → refusals f d ≡ 0 → performed f d ≡ effect f (record d { cs1 = function_code f })
@@ -27,10 +27,6 @@ write_done d addressed unlocked =
 
 read_done : (d : DriveState) → is_addressed d ≡ true → performed Read d ≡ effect Read (record d { cs1 = function_code Read })
 read_done d addressed = done Read d (ap (λ (a : Bool). on (not a) bits.invalid_address_error) addressed)
-
-pub record HasBegun (kind : DriveKind) (block : ℕ) (write : Bool) (d : DriveState) : Type 0 where
-  pub good : Does kind (Transfer write) d
-  pub aimed : IsAimed kind block d
 
 pub begun : (kind : DriveKind) (block : ℕ) (write : Bool) (f : Function) (d new : DriveState) → f ≡ (if write then Write else Read) → new ≡ performed f d
     → Does kind Ready d → is_addressed d ≡ true → IsAimed kind block d → HasBegun kind block write new

@@ -1,6 +1,6 @@
 -- The move of one sector on a good drive, as a poll.
-use Rattle.std.proofs.Common.{◌≡◌, ◌⊎◌, inl, inr, ℕ, ◌+◌, ◌-◌, ◌==◌, ◌&&◌, not, Bool, true, false, IsTrue, if◌then◌else◌, List, [], ◌∷◌, ◌++◌, length, replicate, take, Option, None, Result, Ok, Err, IsErr, refl, sym, ap, ◌∙◌, subst, arith}
-use Rattle.std.specs.Prelude.{OnErr, min, slice_set}
+use Rattle.std.proofs.Common.{◌≡◌, ◌⊎◌, inl, inr, ℕ, ◌+◌, ◌-◌, ◌==◌, ◌&&◌, not, Bool, true, false, IsTrue, if◌then◌else◌, List, [], ◌∷◌, ◌++◌, length, replicate, take, Option, None, refl, sym, ap, ◌∙◌, subst, arith}
+use Rattle.std.specs.Prelude.{min, slice_set}
 use Rattle.std.proofs.lemmas.List.{append-nil, take_all}
 use Rattle.pack_geometry.specs.declared.DriveKind.{DriveKind}
 use Rattle.pack_geometry.specs.declared.DriveKind.TheVariants.{Rp06, Rm03, Rm05}
@@ -202,10 +202,6 @@ given_up loan block write a now v started is step =
 pub still_quiet : (d : DriveState) (v : Moved) (book book' other : Book) → book.live ≡ [] → v ≡ verdict.Marked → book' ≡ (if was_read d v then other else book) → book'.live ≡ []
 still_quiet d v book book' other quiet is same =
     ap (λ (b : Book). b.live) (same ∙ ap (λ (x : Moved). if was_read d x then other else book) is) ∙ quiet
-
-pub on_err : {T E : Type 0} {P : Type 0} (result : Result T E) → IsErr result → P → OnErr result P
-on_err (Ok v) is p = tt
-on_err (Err e) is p = p
 
 abbrev Either : (unit : ℕ) (write : Bool) (loan : Loan) (memory : Memory) (held left : ℕ → Pack) → ℕ → ℕ → Type 0
 Either unit write loan memory held left n k = (left ≡ held)

@@ -7,7 +7,7 @@ use Rattle.pack_geometry.specs.Pack.{Pack, block_at, is_marked, with_pack, with_
 use Rattle.pack_geometry.proofs.PackLaws.{block_at-with_block_same, block_at-with_block_other}
 use Rattle.pack_format.proofs.testing.LongLaws.{long_as, long_at, long_block, long_same, long_then}
 use Rattle.pack_format.specs.testing.Polls.{IsOldOrNew, Polls, Sides, answer_for}
-use Rattle.pack_format.specs.testing.Stages.{Fills, IsAsLong, IsBelow, Reaches, Stops, between, if_done, one, ranged}
+use Rattle.pack_format.specs.testing.Stages.{Fills, IsAsLong, Stops, if_done, one}
 use Rattle.pack_format.specs.declared.testing.station.Polled.{Polled}
 use Rattle.pack_format.specs.declared.testing.station.Polled.TheVariants.{Clean, Marked}
 
@@ -24,10 +24,6 @@ eq_other x y ne = at (x == y) (λ e. absurd (ne ((Decides-eqb x y).0 e))) (λ e.
 pub false_true : false ≡ true → ⊥
 false_true e = cc
 
--- the unmarked ones of a set
-abbrev pub unmarked_of : Pack → (ℕ → Bool) → ℕ → Bool
-unmarked_of pack set sector = set sector && not (is_marked pack sector)
-
 -- ---- the packs of all units with one of them changed
 
 here : (held : ℕ → Pack) (unit : ℕ) (pack : Pack) → with_pack held unit pack unit ≡ pack
@@ -41,13 +37,13 @@ same_marks p q sector e = ap (λ (marks : List ℕ). not (slice_index marks sect
 
 -- ---- one block
 
-one_here : (pack : Pack) (block : ℕ) → is_marked pack block ≡ false → one pack block block ≡ true
+pub one_here : (pack : Pack) (block : ℕ) → is_marked pack block ≡ false → one pack block block ≡ true
 one_here pack block unmarked = ap (λ (m : Bool). (block == block) && not m) unmarked ∙ ap (λ (b : Bool). b && true) (eq_same block block refl)
 
-one_there : (pack : Pack) (block sector : ℕ) → (sector == block) ≡ false → one pack block sector ≡ false
+pub one_there : (pack : Pack) (block sector : ℕ) → (sector == block) ≡ false → one pack block sector ≡ false
 one_there pack block sector e = ap (λ (b : Bool). b && not (is_marked pack sector)) e
 
-none_of_one : (pack : Pack) (block sector : ℕ) → is_marked pack block ≡ true → one pack block sector ≡ false
+pub none_of_one : (pack : Pack) (block sector : ℕ) → is_marked pack block ≡ true → one pack block sector ≡ false
 none_of_one pack block sector marked =
     at (sector == block)
     (λ e. let same : sector ≡ block = (Decides-eqb sector block).0 e in
@@ -72,7 +68,7 @@ sector_written unit block bytes old new long unmarked is sector =
     ∙ sym (ap (λ (b : Bool). if_done b bytes (block_at (old unit).image sector)) (one_there (old unit) block sector e)))
 
 -- and how long the image is
-one_is : (pack : Pack) (block sector : ℕ) → one pack block sector ≡ true → sector ≡ block
+pub one_is : (pack : Pack) (block sector : ℕ) → one pack block sector ≡ true → sector ≡ block
 one_is pack block sector is = at (sector == block) (λ e. (Decides-eqb sector block).0 e) (λ e. absurd (false_true (sym (one_there pack block sector e) ∙ is)))
 
 long_written : (unit block : ℕ) (bytes : List ℕ) (old new : ℕ → Pack) → length bytes ≡ 512 → is_marked (old unit) block ≡ false → new ≡ with_written old unit block bytes
@@ -210,76 +206,11 @@ fills_then_same unit block told polled bytes old mid new long polls is t same =
     let w = clean_as unit block told polled bytes old mid polls is t in
     fills_written unit block bytes old new long w.0 (same ∙ w.1)
 
-pub on_ok_any : {T E : Type 0} {P : Type 0} (result : Result T E) → P → OnOk result P
-on_ok_any (Ok v) p = p
-on_ok_any (Err e) p = tt
-
-pub on_err_any : {T E : Type 0} {P : Type 0} (result : Result T E) → P → OnErr result P
-on_err_any (Ok v) p = tt
-on_err_any (Err e) p = p
-
-pub on_ok_then : {T E : Type 0} {P Q : Type 0} (result : Result T E) → OnOk result P → (P → Q) → OnOk result Q
-on_ok_then (Ok v) p f = f p
-on_ok_then (Err e) p f = tt
-
-pub on_err_then : {T E : Type 0} {P Q : Type 0} (result : Result T E) → OnErr result P → (P → Q) → OnErr result Q
-on_err_then (Ok v) p f = tt
-on_err_then (Err e) p f = f p
-
--- ---- one stage behind another
-
-both : (a b u : Bool) (z x y w : List ℕ) → w ≡ if_done (b && not u) z y → y ≡ if_done (a && not u) z x → w ≡ if_done ((a || b) && not u) z x
-both true true true z x y w e f = e ∙ f
-both true true false z x y w e f = e
-both true false true z x y w e f = e ∙ f
-both true false false z x y w e f = e ∙ f
-both false true true z x y w e f = e ∙ f
-both false true false z x y w e f = e
-both false false true z x y w e f = e ∙ f
-both false false false z x y w e f = e ∙ f
-
--- a block more in a set, and the unmarked ones of both
-one_in : (a b u : Bool) → (a && not u) ≡ true → ((a || b) && not u) ≡ true
-one_in true b u is = is
-one_in false b u is = absurd (false_true is)
-
-two_in : (a b u : Bool) → (b && not u) ≡ true → ((a || b) && not u) ≡ true
-two_in true true u is = is
-two_in true false u is = absurd (false_true is)
-two_in false b u is = is
-
-which_in : (a b u : Bool) → ((a || b) && not u) ≡ true → ((a && not u) ≡ true) ⊎ ((b && not u) ≡ true)
-which_in true b u is = inl is
-which_in false b u is = inr is
+-- ---- one writing behind another
 
 -- the same block of packs with the same marks
 one_of : (p q : Pack) (block sector : ℕ) → p.marks ≡ q.marks → one p block sector ≡ one q block sector
 one_of p q block sector marks = ap (λ (m : Bool). (sector == block) && not m) (same_marks p q sector marks)
-
--- one block more
-pub fills_next : (unit block : ℕ) (bytes : List ℕ) (f g : ℕ → Bool) (old mid new : ℕ → Pack) → ((sector : ℕ) → g sector ≡ (f sector || (sector == block)))
-    → Fills unit (unmarked_of (old unit) f) bytes old mid → Fills unit (one (mid unit) block) bytes mid new → Fills unit (unmarked_of (old unit) g) bytes old new
-fills_next unit block bytes f g old mid new more first then_ = record {
-  sectors =
-      λ sector.
-      both (f sector) (sector == block) (is_marked (old unit) sector) bytes (block_at (old unit).image sector) (block_at (mid unit).image sector) (block_at (new unit).image sector)
-      (then_.sectors sector
-      ∙ ap (λ (m : Bool). if_done ((sector == block) && not m) bytes (block_at (mid unit).image sector)) (same_marks (mid unit) (old unit) sector first.marks))
-      (first.sectors sector)
-      ∙ ap (λ (b : Bool). if_done (b && not (is_marked (old unit) sector)) bytes (block_at (old unit).image sector)) (sym (more sector));
-  long = long_then (λ sector. unmarked_of (old unit) f sector ≡ true) (λ sector. one (mid unit) block sector ≡ true) (λ sector. unmarked_of (old unit) g sector ≡ true) first.long then_.long
-      (λ sector is. next sector ∙ one_in (f sector) (sector == block) (is_marked (old unit) sector) is)
-      (λ sector is. next sector ∙ two_in (f sector) (sector == block) (is_marked (old unit) sector) (sym (one_of (mid unit) (old unit) block sector first.marks) ∙ is))
-      (λ sector is. elim (which_in (f sector) (sector == block) (is_marked (old unit) sector) (sym (next sector) ∙ is)) [
-        | inl one ↦ inl one
-        | inr two ↦ inr (one_of (mid unit) (old unit) block sector first.marks ∙ two)
-      ]);
-  marks = then_.marks ∙ first.marks;
-  others = λ other ne. then_.others other ne ∙ first.others other ne;
-}
-  where
-    next : (sector : ℕ) → unmarked_of (old unit) g sector ≡ ((f sector || (sector == block)) && not (is_marked (old unit) sector))
-    next sector = ap (λ (b : Bool). b && not (is_marked (old unit) sector)) (more sector)
 
 -- the same block again: how long the image is,
 long_over : (unit block : ℕ) (old mid new : ℕ → Pack) → (mid unit).marks ≡ (old unit).marks
@@ -332,105 +263,14 @@ stops_over unit block Such One before old mid new such also first stop = record 
     over true x y w e (inr struck) = inr (refl, also w struck.1)
     over false x y w e (inr struck) = absurd (false_true struck.0)
 
--- what a stage gave a sector, or left it
+-- one that is in a set and unmarked
 pub on : (d m : Bool) → d ≡ true → m ≡ false → (d && not m) ≡ true
 on d m one two = rw (one, two) refl
-
-none : (d m : Bool) → (d ≡ false) ⊎ (m ≡ true) → (d && not m) ≡ false
-none d m (inl e) = ap (λ (b : Bool). b && not m) e
-none true m (inr e) = ap not e
-none false m (inr e) = refl
 
 pub off : (d m : Bool) → (d && not m) ≡ true → m ≡ false
 off true true e = absurd (false_true e)
 off true false e = refl
 off false m e = absurd (false_true e)
-
-pub fill_on : (unit : ℕ) (set : ℕ → Bool) (bytes : List ℕ) (old new : ℕ → Pack) (sector : ℕ) → Fills unit (unmarked_of (old unit) set) bytes old new
-    → set sector ≡ true → is_marked (old unit) sector ≡ false → block_at (new unit).image sector ≡ bytes
-fill_on unit set bytes old new sector fills is unmarked =
-    fills.sectors sector ∙ ap (λ (b : Bool). if_done b bytes (block_at (old unit).image sector)) (on (set sector) (is_marked (old unit) sector) is unmarked)
-
-pub fill_off : (unit : ℕ) (set : ℕ → Bool) (bytes : List ℕ) (old new : ℕ → Pack) (sector : ℕ) → Fills unit (unmarked_of (old unit) set) bytes old new
-    → (set sector ≡ false) ⊎ (is_marked (old unit) sector ≡ true) → block_at (new unit).image sector ≡ block_at (old unit).image sector
-fill_off unit set bytes old new sector fills which =
-    fills.sectors sector ∙ ap (λ (b : Bool). if_done b bytes (block_at (old unit).image sector)) (none (set sector) (is_marked (old unit) sector) which)
-
--- a stage that was done up to a block, and stopped at it
-pub reaches : (unit block : ℕ) (set done : ℕ → Bool) (bytes : List ℕ) (Such : List ℕ → Type 0) (old mid new : ℕ → Pack) → set block ≡ true
-    → ((sector : ℕ) → sector < block → set sector ≡ true → done sector ≡ true) → ((sector : ℕ) → done sector ≡ true → (set sector ≡ true) × (sector < block))
-    → Fills unit (unmarked_of (old unit) done) bytes old mid → Stops unit (one (mid unit) block) Such mid new → Reaches unit set bytes Such old new
-reaches unit block set done bytes Such old mid new has to from first stop = record {
-  reached = block;
-  among = has;
-  done = λ sector lt is unmarked. stayed sector (λ e. absurd (omega (arith, e, lt))) ∙ fill_on unit done bytes old mid sector first (to sector lt is) unmarked;
-  under_way = elim (stop.sectors block) [
-    | inl same ↦ inl (same ∙ before block (at (done block) (λ e. absurd (let both = from block e in omega (arith, both.1))) (λ e. inl e)))
-    | inr struck ↦ inr (sym (same_marks (mid unit) (old unit) block first.marks) ∙ off (block == block) (is_marked (mid unit) block) struck.0, struck.1)
-  ];
-  behind = λ sector lt.
-      stayed sector (λ e. absurd (omega (arith, e, lt)))
-      ∙ before sector (at (done sector) (λ e. absurd (let both = from sector e in omega (arith, both.1, lt))) (λ e. inl e));
-  kept = λ sector which. elim which [
-    | inl none ↦
-        stayed sector (λ e. false_true (sym none ∙ ap set e ∙ has))
-        ∙ before sector (at (done sector) (λ e. absurd (false_true (sym none ∙ (from sector e).0))) (λ e. inl e))
-    | inr marked ↦
-        elim (stop.sectors sector) [
-          | inl same ↦ same ∙ before sector (inr marked)
-          | inr struck ↦
-              absurd (false_true (sym (off (sector == block) (is_marked (mid unit) sector) struck.0) ∙ same_marks (mid unit) (old unit) sector first.marks ∙ marked))
-        ]
-  ];
-  begun = lasts.0;
-  begun_is = lasts.1;
-  long = lasts.2;
-  marks = stop.marks ∙ first.marks;
-  others = λ other ne. stop.others other ne ∙ first.others other ne;
-}
-  where
-    set_of : (d m : Bool) → (d && not m) ≡ true → d ≡ true
-    set_of true m is = refl
-    set_of false m is = absurd (false_true is)
-
-    before_it : IsAsLong (IsBelow (old unit) set block) (length (old unit).image) (length (mid unit).image)
-    before_it =
-        long_as (IsBelow (old unit) set block) first.long
-        (λ sector is. let among = from sector (set_of (done sector) (is_marked (old unit) sector) is) in (among.1, among.0, off (done sector) (is_marked (old unit) sector) is))
-        (λ sector is. on (done sector) (is_marked (old unit) sector) (to sector is.0 is.1) is.2)
-
-    lasts : (begun : ℕ) × ((begun ≡ block) ⊎ (begun ≡ block + 1)) × IsAsLong (IsBelow (old unit) set begun) (length (old unit).image) (length (new unit).image)
-    lasts =
-        elim stop.long [
-          | inl same ↦ (block, inl refl, long_at (length (mid unit).image) same before_it)
-          | inr long ↦ (
-            block + 1,
-            inr refl,
-            long_then (IsBelow (old unit) set block) (λ sector. one (mid unit) block sector ≡ true) (IsBelow (old unit) set (block + 1)) before_it long
-                (λ sector is. (omega (arith, is.0), is.1, is.2))
-                (λ sector is. let here = one_is (mid unit) block sector is in (
-                  omega (arith, here),
-                  ap set here ∙ has,
-                  sym (same_marks (mid unit) (old unit) sector first.marks) ∙ off (sector == block) (is_marked (mid unit) sector) is,
-                ))
-                (λ sector is. elim (cases_lt sector block) [
-                  | inl less ↦ inl (less, is.1, is.2)
-                  | inr le ↦
-                      let here : sector ≡ block = omega (arith, le, is.0) in
-                      inr (on (sector == block) (is_marked (mid unit) sector) (eq_same sector block here) (same_marks (mid unit) (old unit) sector first.marks ∙ is.2))
-                ]),
-          )
-        ]
-
-    stayed : (sector : ℕ) → (sector ≡ block → ⊥) → block_at (new unit).image sector ≡ block_at (mid unit).image sector
-    stayed sector ne =
-        elim (stop.sectors sector) [
-          | inl same ↦ same
-          | inr struck ↦ absurd (false_true (sym (one_there (mid unit) block sector (eq_other sector block ne)) ∙ struck.0))
-        ]
-
-    before : (sector : ℕ) → (done sector ≡ false) ⊎ (is_marked (old unit) sector ≡ true) → block_at (mid unit).image sector ≡ block_at (old unit).image sector
-    before sector which = fill_off unit done bytes old mid sector first which
 
 pub stops_weaken : (unit : ℕ) (Such One : List ℕ → Type 0) (done : ℕ → Bool) (old new : ℕ → Pack) → ((x : List ℕ) → One x → Such x) → Stops unit done One old new
     → Stops unit done Such old new
@@ -440,35 +280,3 @@ stops_weaken unit Such One done old new also stop = record {
   marks = stop.marks;
   others = stop.others;
 }
-
--- ---- ranges
-
-range_none : (from sector : ℕ) → between from from sector ≡ false
-range_none from sector = grind (arith, nat_tests)
-
-range_more : (from block sector : ℕ) → from ≤ block → between from (block + 1) sector ≡ (between from block sector || (sector == block))
-range_more from block sector le = grind (arith, nat_tests)
-
-range_to : (from block to sector : ℕ) → sector < block → between from to sector ≡ true → between from block sector ≡ true
-range_to from block to sector lt is = grind (arith, nat_tests)
-
-range_from : (from block to sector : ℕ) → block ≤ to → between from block sector ≡ true → (between from to sector ≡ true) × (sector < block)
-range_from from block to sector le is = (grind (arith, nat_tests), grind (arith, nat_tests))
-
-range_here : (from block to : ℕ) → from ≤ block → block < to → between from to block ≡ true
-range_here from block to le lt = grind (arith, nat_tests)
-
-pub ranged_none : (unit from : ℕ) (bytes : List ℕ) (old : ℕ → Pack) → Fills unit (ranged (old unit) from from) bytes old old
-ranged_none unit from bytes old =
-    fills_none unit (ranged (old unit) from from) bytes old old (λ sector. ap (λ (b : Bool). b && not (is_marked (old unit) sector)) (range_none from sector)) refl
-
-pub ranged_more : (unit from block : ℕ) (bytes : List ℕ) (old mid new : ℕ → Pack) → from ≤ block → Fills unit (ranged (old unit) from block) bytes old mid
-    → Fills unit (one (mid unit) block) bytes mid new → Fills unit (ranged (old unit) from (block + 1)) bytes old new
-ranged_more unit from block bytes old mid new le first then_ =
-    fills_next unit block bytes (λ s. between from block s) (λ s. between from (block + 1) s) old mid new (λ sector. range_more from block sector le) first then_
-
-pub range_reached : (unit from block to : ℕ) (bytes : List ℕ) (Such : List ℕ → Type 0) (old mid new : ℕ → Pack) → from ≤ block → block < to
-    → Fills unit (ranged (old unit) from block) bytes old mid → Stops unit (one (mid unit) block) Such mid new → Reaches unit (between from to) bytes Such old new
-range_reached unit from block to bytes Such old mid new le lt first stop =
-    reaches unit block (λ s. between from to s) (λ s. between from block s) bytes Such old mid new (range_here from block to le lt)
-    (λ sector less is. range_to from block to sector less is) (λ sector is. range_from from block to sector (omega (arith, lt)) is) first stop

@@ -4,23 +4,9 @@ use Rattle.pack_geometry.specs.declared.DriveKind.{DriveKind}
 use Rattle.pack_geometry.specs.Geometry.{copy_at}
 use Rattle.pack_geometry.specs.Pack.{Pack, block_at, is_marked}
 
--- the blocks of a range, and the first copies of the table
-abbrev pub between : ℕ → ℕ → ℕ → Bool
-between from to sector = nat_le from sector && nat_lt sector to
-
-unfoldable pub is_copy : DriveKind → ℕ → ℕ → Bool
-is_copy kind zero sector = false
-is_copy kind (suc k) sector = is_copy kind k sector || (sector == copy_at kind k)
-
--- this one block, where it is unmarked; and the unmarked ones of these sets
+-- this one block, where it is unmarked
 abbrev pub one : Pack → ℕ → ℕ → Bool
 one pack block sector = (sector == block) && not (is_marked pack sector)
-
-abbrev pub ranged : Pack → ℕ → ℕ → ℕ → Bool
-ranged pack from to sector = (nat_le from sector && nat_lt sector to) && not (is_marked pack sector)
-
-abbrev pub copied : DriveKind → Pack → ℕ → ℕ → Bool
-copied kind pack count sector = is_copy kind count sector && not (is_marked pack sector)
 
 -- these bytes where the sector was done, and else what it had
 abbrev pub if_done : Bool → List ℕ → List ℕ → List ℕ
@@ -34,8 +20,8 @@ pub record IsAsLong (written : ℕ → Type 0) (old new : ℕ) : Type 0 where
   pub covers : (sector : ℕ) → written sector → 512 * (sector + 1) ≤ new
   pub most : (new ≡ old) ⊎ ((sector : ℕ) × written sector × (new ≡ 512 * (sector + 1)))
 
--- A STAGE. The sectors of a set have these bytes, and every other sector what it had; the image is as long as they make it; marks stay, and so
--- does each other unit.
+-- SECTORS THAT WERE FILLED. Those of a set have these bytes, and every other sector what it had; the image is as long as they make it; marks stay,
+-- and so does each other unit.
 pub record Fills (unit : ℕ) (done : ℕ → Bool) (bytes : List ℕ) (old new : ℕ → Pack) : Type 0 where
   pub sectors : (sector : ℕ) → block_at (new unit).image sector ≡ if_done (done sector) bytes (block_at (old unit).image sector)
   pub long : IsAsLong (λ sector. done sector ≡ true) (length (old unit).image) (length (new unit).image)
@@ -47,27 +33,6 @@ pub record Stops (unit : ℕ) (done : ℕ → Bool) (Such : List ℕ → Type 0)
   pub sectors : (sector : ℕ) → (block_at (new unit).image sector ≡ block_at (old unit).image sector)
       ⊎ ((done sector ≡ true) × Such (block_at (new unit).image sector))
   pub long : (length (new unit).image ≡ length (old unit).image) ⊎ IsAsLong (λ sector. done sector ≡ true) (length (old unit).image) (length (new unit).image)
-  pub marks : (new unit).marks ≡ (old unit).marks
-  pub others : (other : ℕ) → other ≢ unit → new other ≡ old other
-
--- the unmarked sectors of a set, below one
-abbrev pub IsBelow : Pack → (set : ℕ → Bool) → (above sector : ℕ) → Type 0
-IsBelow pack set above sector = (sector < above) × (set sector ≡ true) × (is_marked pack sector ≡ false)
-
--- A STAGE THAT STOPPED, at one block of its set: the unmarked ones before that are done, and none behind it was begun. It has itself
--- what it had, or such bytes where it is unmarked. Every sector that is marked, or is none of the set, has what it had. The image is as long as the
--- blocks before it make it, or as it makes it besides.
-pub record Reaches (unit : ℕ) (set : ℕ → Bool) (bytes : List ℕ) (Such : List ℕ → Type 0) (old new : ℕ → Pack) : Type 0 where
-  pub reached : ℕ
-  pub among : set reached ≡ true
-  pub done : (sector : ℕ) → sector < reached → set sector ≡ true → is_marked (old unit) sector ≡ false → block_at (new unit).image sector ≡ bytes
-  pub under_way : (block_at (new unit).image reached ≡ block_at (old unit).image reached)
-      ⊎ ((is_marked (old unit) reached ≡ false) × Such (block_at (new unit).image reached))
-  pub behind : (sector : ℕ) → reached < sector → block_at (new unit).image sector ≡ block_at (old unit).image sector
-  pub kept : (sector : ℕ) → (set sector ≡ false) ⊎ (is_marked (old unit) sector ≡ true) → block_at (new unit).image sector ≡ block_at (old unit).image sector
-  pub begun : ℕ
-  pub begun_is : (begun ≡ reached) ⊎ (begun ≡ reached + 1)
-  pub long : IsAsLong (IsBelow (old unit) set begun) (length (old unit).image) (length (new unit).image)
   pub marks : (new unit).marks ≡ (old unit).marks
   pub others : (other : ℕ) → other ≢ unit → new other ≡ old other
 

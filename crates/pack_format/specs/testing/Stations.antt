@@ -1,7 +1,7 @@
 -- A good drive with an adapter and a frame of memory, between two polls and within one.
 use Rattle.std.specs.Prelude.{◌≡◌, ℕ, ◌<◌, Bool, true, false, [], length}
 use Rattle.pack_geometry.specs.declared.DriveKind.{DriveKind}
-use Rattle.pack_geometry.specs.Geometry.{place_at, track_and_sector}
+use Rattle.pack_geometry.specs.Geometry.{block_count, place_at, track_and_sector}
 use Rattle.hardware_table.specs.declared.Work.{Work}
 use Rattle.hardware_table.specs.declared.Work.TheVariants.{Ready, Transfer}
 use Rattle.hardware_table.specs.Adapter.{AdapterState}
@@ -24,6 +24,16 @@ pub record IsAimed (kind : DriveKind) (block : ℕ) (d : DriveState) : Type 0 wh
   pub cylinder : d.dc ≡ (place_at kind block).cylinder
   pub track_and_sector : d.da ≡ track_and_sector (place_at kind block)
   pub heads : d.cc ≡ (place_at kind block).cylinder
+
+-- it begins to move that block
+pub record HasBegun (kind : DriveKind) (block : ℕ) (write : Bool) (d : DriveState) : Type 0 where
+  pub good : Does kind (Transfer write) d
+  pub aimed : IsAimed kind block d
+
+-- A BLOCK OF A UNIT
+pub record IsSector (kind : DriveKind) (unit block : ℕ) : Type 0 where
+  pub few : unit < 32
+  pub below : block < block_count kind
 
 -- A STATION AT REST: the drive is good and ready, the adapter free, no noise live, and a frame of memory is free
 pub record IsAtRest (kind : DriveKind) (station : Station) : Type 0 where
@@ -64,5 +74,13 @@ pub record IsBegun (kind : DriveKind) (loan : Loan) (block : ℕ) (write : Bool)
   pub aimed : IsAimed kind block station.drive
   pub started : IsStarted loan block write station.adapter
   pub frame : IsFrame loan
+  pub lent : IsLent station.memory loan
+  pub quiet : station.book.live ≡ []
+
+-- and one where its only sector was tried
+pub record HasMoved (kind : DriveKind) (loan : Loan) (station : Station) : Type 0 where
+  pub drive : Does kind Ready station.drive
+  pub completion : station.adapter.completion ≡ true
+  pub loaded : loan ≡ loaded_buffer station.adapter
   pub lent : IsLent station.memory loan
   pub quiet : station.book.live ≡ []

@@ -1,5 +1,5 @@
 //! A drive and an adapter that are polled: one sector moves at a time, through one frame of memory.
-ghost use Rattle.std.specs.Prelude.{◌≡◌, ◌<◌, true, false, [], IsTrue, IfOk, OnOk, OnErr, if◌then◌else◌, length};
+ghost use Rattle.std.specs.Prelude.{◌≡◌, ◌<◌, true, false, [], IsTrue, IfOk, MatchResult, OnOk, OnErr, if◌then◌else◌, length};
 ghost use Rattle.drive_registers.specs.declared.Function.TheVariants.{Read, Write};
 ghost use Rattle.hardware_table.specs.Adapter.{started};
 ghost use Rattle.hardware_table.specs.Functions.{is_addressed};
@@ -8,10 +8,10 @@ ghost use Rattle.main_memory.specs.Blocks.{bytes_in, span_of};
 ghost use Rattle.main_memory.specs.Bytes.{filled};
 ghost use Rattle.main_memory.specs.Memory.{IsLent};
 ghost use Rattle.mba_adapter.specs.Loaded.{loaded_buffer};
-ghost use Rattle.outside_traits.specs.Causes.{HasCause};
+ghost use Rattle.pack_format.specs.Steps.{Tries, seen};
 ghost use Rattle.pack_format.specs.testing.Polls.{IsOldOrNew, Polls, sides_of};
 ghost use Rattle.pack_format.specs.declared.testing.station.Polled.TheVariants.{Clean, Marked};
-ghost use Rattle.pack_format.specs.testing.Stations.{Does, HasFrame, IsAimed, IsAtRest, IsBegun, IsFrame, IsStarted};
+ghost use Rattle.pack_format.specs.testing.Stations.{Does, HasBegun, HasFrame, HasMoved, IsAimed, IsAtRest, IsBegun, IsFrame, IsSector, IsStarted};
 ghost use Rattle.pack_geometry.specs.Geometry.{IsInside, block_count, track_and_sector};
 
 use drive_model::{Drive, Moved, NoiseBook};
@@ -96,8 +96,7 @@ fn begin(drive: &mut Drive, kind: DriveKind, block: u32, write: bool)
     requires good { Does kind Ready drive.old }
     requires addressed { is_addressed drive.old ≡ true }
     requires aimed { IsAimed kind block drive.old }
-    ensures good { Does kind (Transfer write) drive.new }
-    ensures aimed { IsAimed kind block drive.new }
+    ensures { HasBegun kind block write drive.new }
 {
     drive.go(direction(write));
 }
@@ -175,18 +174,14 @@ impl Station {
         write: bool,
         frame: &Buffer<Bus>,
     ) -> Result<Polled, StoreFailed>
-        requires unit { unit < 32 }
-        requires block { block < block_count kind }
+        requires sector { IsSector kind unit block }
         requires begun { IsBegun kind frame.now block write self.old }
         ensures polls { IfOk result (Polls unit block write (P.tells packs.new)
             (sides_of (P.held packs.old) frame.now self.old.memory) (sides_of (P.held packs.new) frame.now self.new.memory)) }
-        ensures drive { OnOk result (Does kind Ready self.new.drive) }
-        ensures adapter { OnOk result ((self.new.adapter.completion ≡ true) × (frame.now ≡ loaded_buffer self.new.adapter)) }
-        ensures rest { OnOk result ((self.new.book.live ≡ []) × IsLent self.new.memory frame.now) }
+        ensures moved { OnOk result (HasMoved kind frame.now self.new) }
         ensures failed { OnErr result (IsOldOrNew unit block write (P.tells packs.new) (sides_of (P.held packs.old) frame.now self.old.memory) (P.held packs.new)) }
         ensures stuck { OnErr result (self.new.adapter.busy ≡ true) }
-        ensures never_again { IsTrue (P.tells packs.new) → IsTrue (P.tells packs.old) }
-        ensures cause { HasCause (P.faults packs.old) (P.faults packs.new) result }
+        ensures tries { Tries (seen P.tells P.held P.faults packs.old) (seen P.tells P.held P.faults packs.new) result }
     {
         let verdict = self.adapter.step_sector(
             &mut self.drive,
@@ -215,19 +210,15 @@ impl Station {
         write: bool,
         frame: Buffer<Cpu>,
     ) -> Result<(Polled, Buffer<Cpu>), StoreFailed>
-        requires unit { unit < 32 }
-        requires block { block < block_count kind }
+        requires sector { IsSector kind unit block }
         requires rest { HasFrame kind frame self.old }
         ensures polls { IfOk result (λ told. Polls unit block write (P.tells packs.new)
             (sides_of (P.held packs.old) frame self.old.memory) (sides_of (P.held packs.new) frame self.new.memory) told.0) }
         ensures frame { IfOk result (λ told. told.1 ≡ frame) }
-        ensures drive { OnOk result (Does kind Ready self.new.drive) }
-        ensures free { OnOk result (self.new.adapter.busy ≡ false) }
-        ensures rest { OnOk result ((self.new.book.live ≡ []) × IsLent self.new.memory frame) }
+        ensures held { OnOk result (HasFrame kind frame self.new) }
         ensures failed { OnErr result (IsOldOrNew unit block write (P.tells packs.new) (sides_of (P.held packs.old) frame self.old.memory) (P.held packs.new)) }
         ensures stuck { OnErr result (self.new.adapter.busy ≡ true) }
-        ensures never_again { IsTrue (P.tells packs.new) → IsTrue (P.tells packs.old) }
-        ensures cause { HasCause (P.faults packs.old) (P.faults packs.new) result }
+        ensures tries { Tries (seen P.tells P.held P.faults packs.old) (seen P.tells P.held P.faults packs.new) result }
     {
         aim(&mut self.drive, kind, block);
         begin(&mut self.drive, kind, block, write);
@@ -248,16 +239,13 @@ impl Station {
         block: u32,
         into: &mut [u8; 512],
     ) -> Result<Polled, StoreFailed>
-        requires unit { unit < 32 }
-        requires block { block < block_count kind }
+        requires sector { IsSector kind unit block }
         requires rest { IsAtRest kind self.old }
         ensures polls { IfOk result (Polls unit block false (P.tells packs.new)
             (record { held = P.held packs.old; bytes = into.old }) (record { held = P.held packs.new; bytes = into.new })) }
-        ensures rest { OnOk result (IsAtRest kind self.new) }
+        ensures rest { MatchResult result (λ _. IsAtRest kind self.new) (λ _. ¬ (IsAtRest kind self.new)) }
         ensures failed { OnErr result (IsTrue (P.tells packs.new) → P.held packs.new ≡ P.held packs.old) }
-        ensures stuck { OnErr result (¬ (IsAtRest kind self.new)) }
-        ensures never_again { IsTrue (P.tells packs.new) → IsTrue (P.tells packs.old) }
-        ensures cause { HasCause (P.faults packs.old) (P.faults packs.new) result }
+        ensures tries { Tries (seen P.tells P.held P.faults packs.old) (seen P.tells P.held P.faults packs.new) result }
     {
         let frame = frame(&mut self.memory);
         let (polled, frame) = self.poll(packs, unit, kind, block, false, frame)?;
@@ -277,16 +265,13 @@ impl Station {
         block: u32,
         from: &[u8; 512],
     ) -> Result<Polled, StoreFailed>
-        requires unit { unit < 32 }
-        requires block { block < block_count kind }
+        requires sector { IsSector kind unit block }
         requires rest { IsAtRest kind self.old }
         ensures polls { IfOk result (Polls unit block true (P.tells packs.new)
             (record { held = P.held packs.old; bytes = from.now }) (record { held = P.held packs.new; bytes = from.now })) }
-        ensures rest { OnOk result (IsAtRest kind self.new) }
+        ensures rest { MatchResult result (λ _. IsAtRest kind self.new) (λ _. ¬ (IsAtRest kind self.new)) }
         ensures failed { OnErr result (IsOldOrNew unit block true (P.tells packs.new) (record { held = P.held packs.old; bytes = from.now }) (P.held packs.new)) }
-        ensures stuck { OnErr result (¬ (IsAtRest kind self.new)) }
-        ensures never_again { IsTrue (P.tells packs.new) → IsTrue (P.tells packs.old) }
-        ensures cause { HasCause (P.faults packs.old) (P.faults packs.new) result }
+        ensures tries { Tries (seen P.tells P.held P.faults packs.old) (seen P.tells P.held P.faults packs.new) result }
     {
         let frame = frame(&mut self.memory);
         put(&mut self.memory, &frame, from);

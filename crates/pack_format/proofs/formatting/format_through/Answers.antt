@@ -1,53 +1,45 @@
-use Rattle.std.proofs.Common.{ℕ, ap, arith, subst, sym, ◌∙◌}
+use Rattle.std.proofs.Common.{◌≡◌, ℕ, ap, arith, subst, sym, ◌∙◌}
 use Rattle.pack_geometry.specs.Pack.{Pack}
-use Rattle.pack_geometry.specs.TableSpelling.{Table}
-use Rattle.pack_format.proofs.testing.ExitLaws.{no_value}
-use Rattle.pack_format.proofs.testing.StopLaws.{at_error}
-use Rattle.pack_format.specs.Formatted.{CanBeFormatted}
-use Rattle.pack_format.proofs.EndLaws.{fault_of, left_alone, left_behind, why_of}
-use Rattle.pack_format.proofs.ExitLaws.{bad_found, caused_ok, caused_on, caused_test, caused_then, formatted_as, table_again}
+use Rattle.pack_format.specs.Steps.{seen}
+use Rattle.pack_format.specs.Formatted.{CanBeFormatted, IsFormatted, table_for}
+use Rattle.pack_format.proofs.StepLaws.{goes_same, goes_then, no_value, step_ok, step_on}
+use Rattle.pack_format.proofs.EndLaws.{end_alone, end_behind, end_of}
+use Rattle.pack_format.proofs.ExitLaws.{bad_found}
 use Rattle.pack_format.proofs.formatting.format_through.Goals as goal
 
 pub returns-in_err-table : goal.returns-in_err-table
 returns-in_err-table g c =
-    let error = c.from_residual.ensures.1 in
+    let is = c.from_residual.ensures.0 in
     let table = c.in_err-table.ensures in record {
-      formatted = no_value _ _ c.from_residual.ensures.0;
+      formatted = no_value _ _ is;
+      few = no_value _ _ is;
       elsewhere = λ other ne t. ap (λ (h : ℕ → Pack). h other) (table.same t);
-      why = at_error _ _ error table.why;
-      left = at_error _ _ error
-          (λ t. left_alone c.args.kind c.args.serial c.args.unit (g.P.Packs.held c.args.packs.now) _ _ c.in_err-table.field-0.0 (table.why t) (table.same t));
-      few = no_value _ _ c.from_residual.ensures.0;
-      fault = at_error _ _ error table.fault;
-      never_again = table.never_again;
-      cause = caused_on _ error table.cause;
+      step = step_on _ c.from_residual.ensures.1 goes_same table.step (λ reason. end_alone c.args.job.kind c.args.job.serial c.args.job.unit _ _ _ reason table.same);
     }
 
-pub write_blocks-requires-clause-can : goal.write_blocks-requires-clause-can
-write_blocks-requires-clause-can g c = λ t.
-    subst (λ (h : ℕ → Pack). CanBeFormatted c.args.kind (h c.args.unit)) (sym (c.in_ok-table.ensures.same t)) (c.in_ok-table.ensures.can t)
-
-pub write_blocks-requires-clause-table : goal.write_blocks-requires-clause-table
-write_blocks-requires-clause-table g c = λ t.
-    table_again c.args.kind c.args.serial c.args.unit _ _ c.in_ok-table.table (c.in_ok-table.ensures.table t) (c.in_ok-table.ensures.same t)
+pub write_blocks-requires : goal.write_blocks-requires
+write_blocks-requires g c =
+    let table = c.in_ok-table.ensures in record {
+      ready = table.step.well;
+      listed = record {
+        kind_is = table.listed.kind_is;
+        serial_is = table.listed.serial_is;
+        can = λ t. subst (λ (h : ℕ → Pack). CanBeFormatted c.args.job.kind (h c.args.job.unit)) (sym (table.same t)) (table.listed.can t);
+        table_is = λ t. subst (λ (h : ℕ → Pack). c.in_ok-table.table ≡ table_for c.args.job.kind c.args.job.serial (h c.args.job.unit)) (sym (table.same t)) (table.listed.table_is t);
+      };
+    }
 
 pub returns-in_err-write_blocks : goal.returns-in_err-write_blocks
 returns-in_err-write_blocks g c =
-    let error = c.from_residual-in_err-write_blocks.ensures.1 in
+    let is = c.from_residual-in_err-write_blocks.ensures.0 in
     let table = c.in_ok-table.ensures in
-    let blocks = c.in_err-write_blocks.ensures in
-    let stop = c.in_err-write_blocks.field-0.0 in record {
-      formatted = no_value _ _ c.from_residual-in_err-write_blocks.ensures.0;
-      elsewhere = λ other ne t. blocks.elsewhere other ne t ∙ ap (λ (h : ℕ → Pack). h other) (table.same (blocks.never_again t));
-      why = at_error _ _ error (λ t. why_of c.args.kind _ _ _ stop blocks.stop t);
-      left = at_error _ _ error (λ t.
-          let told = blocks.never_again t in
-          left_behind c.args.kind c.args.serial c.in_ok-table.table.serial c.args.unit (g.P.Packs.held c.args.packs.now) (g.P.Packs.held c.first_reading.new.packs) (g.P.Packs.held c.write_blocks.new.packs)
-          _ stop blocks.stop t (ap (λ (x : Table). x.serial) (table.table told)) (table.same told) (blocks.partly t));
-      few = no_value _ _ c.from_residual-in_err-write_blocks.ensures.0;
-      fault = at_error _ _ error (fault_of c.args.kind c.args.serial _ _ stop table.drive.1 blocks.stop);
-      never_again = λ t. table.never_again (blocks.never_again t);
-      cause = caused_then table.cause.later (caused_test _ error blocks.cause);
+    let blocks = c.in_err-write_blocks.ensures in record {
+      formatted = no_value _ _ is;
+      few = no_value _ _ is;
+      elsewhere = λ other ne t. blocks.elsewhere other ne t ∙ ap (λ (h : ℕ → Pack). h other) (table.same (blocks.step.goes.never_again t));
+      step = step_on _ c.from_residual-in_err-write_blocks.ensures.1 table.step.goes blocks.step
+          (λ stop. end_behind c.args.job.kind c.args.job.serial c.args.job.unit _ (seen g.P.Packs.tells g.P.Packs.held g.P.Packs.faults c.first_reading.new.packs) _ _ (λ t. table.same (blocks.step.goes.never_again t))
+          (end_of c.args.job.kind c.args.job.serial c.args.job.unit _ _ _ stop blocks.partly));
     }
 
 pub returns : goal.returns
@@ -55,16 +47,11 @@ returns g c =
     let table = c.in_ok-table.ensures in
     let blocks = c.in_ok-write_blocks.ensures in record {
       formatted = λ t.
-          let told = blocks.never_again t in (
-            formatted_as c.args.kind c.args.serial c.in_ok-table.table.serial c.args.unit (g.P.Packs.held c.args.packs.now) (g.P.Packs.held c.first_reading.new.packs) (g.P.Packs.held c.write_blocks.new.packs)
-                (ap (λ (x : Table). x.serial) (table.table told)) (table.same told) (blocks.formatted t),
-            bad_found c.args.kind c.args.serial _ _ c.in_ok-table.table c.entries.ensures.count (table.table told),
+          let told = blocks.step.goes.never_again t in (
+            subst (λ (h : ℕ → Pack). IsFormatted c.args.job.kind c.args.job.serial (h c.args.job.unit) (g.P.Packs.held c.write_blocks.new.packs c.args.job.unit)) (table.same told) (blocks.formatted t),
+            bad_found c.args.job.kind c.args.job.serial _ _ c.in_ok-table.table c.entries.ensures.count (table.listed.table_is told),
           );
-      elsewhere = λ other ne t. blocks.elsewhere other ne t ∙ ap (λ (h : ℕ → Pack). h other) (table.same (blocks.never_again t));
-      why = tt;
-      left = tt;
       few = omega (arith, c.entries.ensures.count, c.entries.ensures.valid.room);
-      fault = tt;
-      never_again = λ t. table.never_again (blocks.never_again t);
-      cause = caused_then table.cause.later (caused_ok _ blocks.cause.later);
+      elsewhere = λ other ne t. blocks.elsewhere other ne t ∙ ap (λ (h : ℕ → Pack). h other) (table.same (blocks.step.goes.never_again t));
+      step = step_ok _ (goes_then table.step.goes blocks.step.goes) blocks.step.well;
     }

@@ -1,20 +1,21 @@
 use Rattle.std.proofs.Common.{◌≡◌, inl, inr, ℕ, ◌+◌, ◌-◌, ◌*◌, ◌^◌, ◌<◌, ◌≤◌, ◌==◌, ◌&&◌, not, min, Bool, true, false, List, [], ◌∷◌, ◌++◌, length, get_or, refl, sym, ap, ◌∙◌, arith}
 use Rattle.std.specs.Prelude.{codes, decimal}
-use Rattle.std.proofs.lemmas.Bool.{eq-eqb, ne_eqb, false≢true}
+use Rattle.std.proofs.lemmas.Bool.{eq-eqb}
 use Rattle.std.proofs.lemmas.Fmt.{decimal_digit, decimal_step}
 use Rattle.std.proofs.Math.ListN.{replicate}
 use Rattle.pack_geometry.specs.declared.DriveKind.{DriveKind}
 use Rattle.pack_geometry.specs.declared.DriveKind.TheVariants.{Rp06, Rm03, Rm05}
 use Rattle.pack_geometry.specs.Geometry.{block_count, copy_at, limit_of, replacement_at}
 use Rattle.pack_geometry.specs.Pack.{Pack, block_at, is_marked}
-use Rattle.pack_format.specs.Formatted.{Copy, Data, IsWritten, Replacement}
+use Rattle.pack_format.specs.Formatted.{IsWritten}
 use Rattle.pack_format.specs.testing.Stages.{IsAsLong}
-use Rattle.pack_format.specs.testing.Stages.{if_done, is_copy}
+use Rattle.pack_format.specs.testing.Stages.{if_done}
 use Rattle.command_parts.specs.Lines.{Told, too_long_text}
 use Rattle.command_parts.specs.Statuses.{status_code}
 use Rattle.pack_commands.specs.Formats.{format_status, format_text}
 use Rattle.pack_format.specs.declared.fault.FormatFault.{FormatFault}
 use Rattle.pack_format.specs.declared.fault.FormatFault.TheVariants.{Memory, TooLong, TooMany, Spare, NoCopy, Differs, Store}
+use Rattle.pack_format.proofs.FormatLaws.{on_drive}
 use Rattle.pack_format.proofs.SurveyLaws.{count_more}
 use Rattle.promise_rows.specs.Formats.{HeadsLeftWhereTheyAre, AnotherBlockTold, CopyLeftOut, ZerosLeftOut, FailedReadingPassedOver, AnotherUnitNamedTooLong, KindTakenForAnother, FormatLengthensTheImage, DiffersAtALaterByte}
 use Rattle.promise_rows.proofs.packs.formats_law.Goals as goal
@@ -26,22 +27,14 @@ heads_left kind block drive below aimed = less drive.cc _ aimed.heads below
     less a b same below = omega (arith, same, below)
 
 block_told : AnotherBlockTold
-block_told told block at wrote read bytes some stop = false≢true (sym (ne_eqb 0 block (λ none. omega (arith, none, some))) ∙ stop.1.written.0)
+block_told told block at wrote read bytes some stop = omega (arith, some, stop.1.written.0)
 
 -- what a sector has that was done
 both : (a b : Bool) → a ≡ true → b ≡ false → a && not b ≡ true
 both a b one other = ap (λ (x : Bool). x && not b) one ∙ ap not other
 
-first_copy : (kind : DriveKind) → is_copy kind 5 (copy_at kind 0) ≡ true
-unfolding is_copy
-first_copy Rp06 = refl
-first_copy other = refl
-
 copy_left : CopyLeftOut
-copy_left unit kind bytes old new unmarked differs fills =
-    let copy : ℕ = copy_at kind 0 in
-    differs (fills.sectors copy ∙ ap (λ (done : Bool). if_done done bytes (block_at (old unit).image copy))
-    (both (is_copy kind 5 copy) (is_marked (old unit) copy) (first_copy kind) unmarked))
+copy_left kind serial old new unmarked differs formatted = differs (formatted.copies 0 (omega arith) unmarked)
 
 zeros_left : ZerosLeftOut
 zeros_left unit block old new unmarked pattern fills =
@@ -89,25 +82,7 @@ kind_taken unit serial faults faults_after old new taken after long runs = above
     above : (most size : ℕ) → size ≤ most → most < size → ⊥
     above most size fits long = omega (arith, fits, long)
 
--- a sector that is written lies on the drive,
-on_data : (kind : DriveKind) (sector : ℕ) → sector < limit_of kind → sector < block_count kind
-on_data Rp06 sector lt = omega (arith, lt)
-on_data other sector lt = omega (arith, lt)
-
-on_spare : (kind : DriveKind) (i : ℕ) → replacement_at kind i < block_count kind
-on_spare Rp06 i = omega arith
-on_spare other i = omega arith
-
-on_copy : (kind : DriveKind) (k : ℕ) → k < 5 → copy_at kind k < block_count kind
-on_copy Rp06 k lt = omega (arith, lt)
-on_copy other k lt = omega (arith, lt)
-
-on_drive : (kind : DriveKind) (pack : Pack) (sector : ℕ) → IsWritten kind pack sector → sector < block_count kind
-on_drive kind pack sector (Data below unmarked) = on_data kind sector below
-on_drive kind pack sector (Replacement i less is unmarked) = omega (arith, is, on_spare kind i)
-on_drive kind pack sector (Copy k less is unmarked) = omega (arith, is, on_copy kind k less)
-
--- so the image ends there
+-- a sector that is written lies on the drive, so the image ends there
 ends_there : (written : ℕ → Type 0) (count old new : ℕ) → IsAsLong written old new → ((sector : ℕ) → written sector → sector < count) → old ≤ 512 * count → 512 * count < new → ⊥
 ends_there written count old new long within fits above =
     elim long.most [

@@ -8,6 +8,5 @@ go-requires c = record { ready = ap is_ready c.requires.good.work_is; online = Î
 
 pub returns : goal.returns
 returns c =
-    let did = begun c.args.kind c.args.block c.args.write c.direction.result c.args.drive.now c.go.new.self c.direction.ensures c.go.ensures
-    c.requires.good c.requires.addressed c.requires.aimed in
-    record { good = did.good; aimed = did.aimed }
+    begun c.args.kind c.args.block c.args.write c.direction.result c.args.drive.now c.go.new.self c.direction.ensures c.go.ensures
+    c.requires.good c.requires.addressed c.requires.aimed

@@ -1,28 +1,22 @@
 use Rattle.std.proofs.Common.{◌≡◌, ℕ, List, ap, sym, refl, get_or, ◌∙◌}
 use Rattle.std.specs.Prelude.{slice_index}
-use Rattle.pack_format.proofs.testing.ExitLaws.{caused_differs, caused_failed, caused_ok, not_done}
-use Rattle.pack_format.proofs.testing.StageLaws.{eq_same, read_back, read_keeps}
-use Rattle.pack_format.proofs.testing.StopLaws.{at_error}
+use Rattle.pack_format.proofs.ExitLaws.{differs_is_not_store}
+use Rattle.pack_format.proofs.StepLaws.{step_err, step_failed, step_ok}
+use Rattle.pack_format.proofs.testing.StageLaws.{read_back, read_keeps}
 use Rattle.pack_format.proofs.testing.testing.read_back.Goals as goal
 
 pub returns-in_err-poll_read : goal.returns-in_err-poll_read
 returns-in_err-poll_read g c =
     let read = c.in_err-poll_read.ensures in record {
       same = read.failed;
-      rest = not_done _ _ c.from_residual.ensures.0;
-      stop = at_error _ _ c.from_residual.ensures.1 tt;
-      never_again = read.never_again;
-      cause = caused_failed read.cause;
+      step = step_failed _ c.from_residual.ensures.1 read.tries tt;
     }
 
 pub returns-in-None : goal.returns-in-None
 returns-in-None g c =
     let read = c.in_ok-poll_read.ensures in record {
-      same = read_keeps c.args.unit c.args.block _ c.in_ok-poll_read.field-0 _ _ _ _ read.polls;
-      rest = read.rest;
-      stop = tt;
-      never_again = read.never_again;
-      cause = caused_ok _ read.cause.later;
+      same = read_keeps c.args.job.unit c.args.block _ c.in_ok-poll_read.field-0 _ _ _ _ read.polls;
+      step = step_ok _ read.tries.goes (record { unit = c.requires.ready.unit; rest = read.rest });
     }
 
 pub returns-in-Some : goal.returns-in-Some
@@ -33,15 +27,14 @@ returns-in-Some g c =
     let wrote : get_or c.args.bytes.now c.from.result 0 ≡ slice_index c.args.bytes.now c.in-Some.at = ap (λ (n : ℕ). get_or c.args.bytes.now n 0) c.from.ensures in
     let came : get_or c.poll_read.new.into c.from-in-Some.result 0 ≡ slice_index c.poll_read.new.into c.in-Some.at = ap (λ (n : ℕ). get_or c.poll_read.new.into n 0) c.from-in-Some.ensures in
     record {
-      same = read_keeps c.args.unit c.args.block _ polled _ _ _ _ read.polls;
-      rest = tt;
-      stop = (
-        λ t. let told = read.never_again t in
+      same = read_keeps c.args.job.unit c.args.block _ polled _ _ _ _ read.polls;
+      step = step_err _ refl read.tries.goes differs_is_not_store (
+        λ t. let told = read.tries.goes.never_again t in
             differ.1 (ap (λ (xs : List ℕ). slice_index xs c.in-Some.at)
-            (sym (c.requires.written told) ∙ sym (read_back c.args.unit c.args.block _ polled _ _ _ _ read.polls t (c.requires.unmarked told)))),
+            (sym (c.requires.written told) ∙ sym (read_back c.args.job.unit c.args.block _ polled _ _ _ _ read.polls t (c.requires.unmarked told)))),
         record {
           bytes = c.args.bytes.now;
-          written = (eq_same c.args.block c.args.block refl, refl);
+          written = (refl, refl);
           back = c.poll_read.new.into;
           size = c.poll_read.array_long;
           within = differ.0;
@@ -51,6 +44,4 @@ returns-in-Some g c =
           other = λ same. differ.1 (sym wrote ∙ sym same ∙ came);
         },
       );
-      never_again = read.never_again;
-      cause = caused_differs read.cause.later;
     }

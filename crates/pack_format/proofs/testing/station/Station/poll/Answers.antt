@@ -4,12 +4,11 @@ use Rattle.main_memory.specs.Memory.{IsLent}
 use Rattle.hardware_table.specs.Adapter.{AdapterState}
 use Rattle.pack_format.specs.testing.Polls.{IsOldOrNew, Polls, sides_of}
 use Rattle.pack_format.specs.testing.Stations.{IsFrame, IsStarted}
-use Rattle.pack_format.proofs.testing.ExitLaws.{cause_ok, cause_on, no_value, not_done}
-use Rattle.pack_format.proofs.testing.PollLaws.{on_err}
+use Rattle.pack_format.proofs.StepLaws.{no_value, not_done, on_err, tries_on}
 use Rattle.pack_format.proofs.testing.station.Station.poll.Goals as goal
 
 pub aim-requires : goal.aim-requires
-aim-requires g c = record { good = c.requires.rest.drive; block = c.requires.block }
+aim-requires g c = record { good = c.requires.rest.drive; block = c.requires.sector.below }
 
 pub begin-requires : goal.begin-requires
 begin-requires g c = record { good = c.aim.ensures.good; addressed = c.aim.ensures.addressed; aimed = c.aim.ensures.aimed }
@@ -20,8 +19,7 @@ hand-frame-requires g c = record { free = c.requires.rest.free; frame = c.requir
 pub try_block-requires : goal.try_block-requires
 try_block-requires g c =
     let same = sym c.hand-frame.ensures.same in record {
-      unit = c.requires.unit;
-      block = c.requires.block;
+      sector = c.requires.sector;
       begun = record {
         drive = c.begin.ensures.good;
         aimed = c.begin.ensures.aimed;
@@ -38,15 +36,12 @@ returns-in_err-polled g c =
     let tried = c.in_err-polled.ensures in record {
       polls = no_value _ _ is;
       frame = no_value _ _ is;
-      drive = not_done _ _ is;
-      free = not_done _ _ is;
-      rest = not_done _ _ is;
+      held = not_done _ _ is;
       failed = on_err _ is
           (subst (λ (frame : Loan). IsOldOrNew c.args.unit c.args.block c.args.write (g.P.Packs.tells c.try_block.new.packs)
           (sides_of (g.P.Packs.held c.args.packs.now) frame c.args.self.now.memory) (g.P.Packs.held c.try_block.new.packs)) c.hand-frame.ensures.same tried.failed);
       stuck = on_err _ is tried.stuck;
-      never_again = tried.never_again;
-      cause = cause_on _ is tried.cause;
+      tries = tries_on _ is tried.tries;
     }
 
 pub returns : goal.returns
@@ -57,11 +52,14 @@ returns g c =
           (sides_of (g.P.Packs.held c.args.packs.now) frame c.args.self.now.memory) (sides_of (g.P.Packs.held c.try_block.new.packs) frame c.try_block.new.self.memory)
           c.in_ok-polled.polled) same tried.polls;
       frame = c.complete-frame.ensures.same_buffer ∙ same;
-      drive = tried.drive;
-      free = ap (λ (adapter : AdapterState). adapter.busy) c.complete-frame.ensures.adapter;
-      rest = (tried.rest.0, subst (λ (frame : Loan). IsLent c.try_block.new.self.memory frame) same tried.rest.1);
+      held = record {
+        drive = tried.moved.drive;
+        free = ap (λ (adapter : AdapterState). adapter.busy) c.complete-frame.ensures.adapter;
+        frame = c.requires.rest.frame;
+        lent = subst (λ (frame : Loan). IsLent c.try_block.new.self.memory frame) same tried.moved.lent;
+        quiet = tried.moved.quiet;
+      };
       failed = tt;
       stuck = tt;
-      never_again = tried.never_again;
-      cause = cause_ok _ tried.cause.later;
+      tries = record { goes = tried.tries.goes; failed = tt };
     }

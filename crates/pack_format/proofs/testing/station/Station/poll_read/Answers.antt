@@ -3,9 +3,8 @@ use Rattle.main_memory.specs.Blocks.{Loan, bytes_in, span_of}
 use Rattle.main_memory.specs.Bytes.{filled}
 use Rattle.main_memory.specs.Memory.{IsLent}
 use Rattle.pack_format.specs.testing.Stations.{IsFrame}
-use Rattle.pack_format.proofs.testing.ExitLaws.{cause_ok, cause_on, no_value, not_done}
+use Rattle.pack_format.proofs.StepLaws.{broken, no_value, on_err, tries_on}
 use Rattle.pack_format.proofs.testing.MoveLaws.{free_again, read_failed, read_polls}
-use Rattle.pack_format.proofs.testing.PollLaws.{on_err}
 use Rattle.pack_format.proofs.testing.StageLaws.{false_true}
 use Rattle.pack_format.proofs.testing.station.Station.poll_read.Goals as goal
 
@@ -14,11 +13,9 @@ returns-in_err-polled g c =
     let is = c.from_residual.ensures.0 in
     let polled = c.in_err-polled.ensures in record {
       polls = no_value _ _ is;
-      rest = not_done _ _ is;
+      rest = broken _ _ _ is (λ rest. false_true (sym rest.free ∙ polled.stuck));
       failed = on_err _ is (read_failed c.args.unit c.args.block _ _ _ _ polled.failed);
-      stuck = on_err _ is (λ rest. false_true (sym rest.free ∙ polled.stuck));
-      never_again = polled.never_again;
-      cause = cause_on _ is polled.cause;
+      tries = tries_on _ is polled.tries;
     }
 
 pub returns : goal.returns
@@ -27,15 +24,13 @@ returns g c =
       polls = read_polls c.args.unit c.args.block _ _ _ _ _ _ _ _ polled.polls
           (λ is. c.take.ensures.clean is ∙ ap (λ (frame : Loan). filled 512 (bytes_in (span_of frame 0) c.poll.new.self.memory.bytes)) polled.frame) c.take.ensures.marked;
       rest = record {
-        drive = polled.drive;
-        free = polled.free;
+        drive = polled.held.drive;
+        free = polled.held.free;
         frame = free_again _ _ _ _ c.give_back.ensures.count (ap (λ (frame : Loan). length frame.frames) polled.frame) c.frame-frame.ensures.frame.frames;
-        quiet = polled.rest.0;
+        quiet = polled.held.quiet;
       };
       failed = tt;
-      stuck = tt;
-      never_again = polled.never_again;
-      cause = cause_ok _ polled.cause.later;
+      tries = record { goes = polled.tries.goes; failed = tt };
     }
 
 pub frame-frame-requires : goal.frame-frame-requires
@@ -43,8 +38,7 @@ frame-frame-requires g c = c.requires.rest.frame
 
 pub poll-requires : goal.poll-requires
 poll-requires g c = record {
-  unit = c.requires.unit;
-  block = c.requires.block;
+  sector = c.requires.sector;
   rest = record {
     drive = c.requires.rest.drive;
     free = c.requires.rest.free;
@@ -55,10 +49,10 @@ poll-requires g c = record {
 }
 
 pub give_back-requires : goal.give_back-requires
-give_back-requires g c = subst (λ (frame : Loan). IsLent c.poll.new.self.memory frame) (sym c.in_ok-polled.ensures.frame) c.in_ok-polled.ensures.rest.1
+give_back-requires g c = subst (λ (frame : Loan). IsLent c.poll.new.self.memory frame) (sym c.in_ok-polled.ensures.frame) c.in_ok-polled.ensures.held.lent
 
 pub take-requires : goal.take-requires
 take-requires g c = record {
   frame = subst (λ (frame : Loan). IsFrame frame) (sym c.in_ok-polled.ensures.frame) c.frame-frame.ensures.frame;
-  lent = subst (λ (frame : Loan). IsLent c.poll.new.self.memory frame) (sym c.in_ok-polled.ensures.frame) c.in_ok-polled.ensures.rest.1;
+  lent = subst (λ (frame : Loan). IsLent c.poll.new.self.memory frame) (sym c.in_ok-polled.ensures.frame) c.in_ok-polled.ensures.held.lent;
 }
