@@ -14,7 +14,7 @@ type View = (
     &'static str,
 );
 
-static VIEWS: [View; 10] = [
+static VIEWS: [View; 11] = [
     ("text", b"unit 0 rp06\n", Ok(b""), 0, ""),
     (
         "png",
@@ -52,6 +52,13 @@ static VIEWS: [View; 10] = [
         Ok(b"idle x\n"),
         3,
         "hpview: line 1 of hp.trace: the text is not a line of a trace",
+    ),
+    (
+        "text",
+        b"unit 0 rp06\nread 1 0 c 0 1\n",
+        Ok(b"end 3 0 1\nend 3 0 1\n"),
+        3,
+        "hpview: line 2 of hp.trace: a line above has ended its request: it is perhaps the trace of another run",
     ),
     (
         "text",

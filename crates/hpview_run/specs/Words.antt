@@ -69,6 +69,7 @@ trace_word kinds.Long = codes "long"
 trace_word kinds.Word = codes "word"
 trace_word kinds.Order = codes "order"
 trace_word kinds.Script = codes "script"
+trace_word kinds.Ended = codes "ended"
 
 unfoldable pub trace_refused : List ℕ
 trace_refused = codes "refused trace line "

@@ -16,6 +16,7 @@ fn put_trace_kind(text: &mut LineBuf, kind: TraceKind)
         TraceKind::Word => text.put("word"),
         TraceKind::Order => text.put("order"),
         TraceKind::Script => text.put("script"),
+        TraceKind::Ended => text.put("ended"),
     }
 }
 

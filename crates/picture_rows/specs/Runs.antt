@@ -1,6 +1,6 @@
 -- What wrong bodies would see of a run, refused by the words of its lines, notes, drives and windows, of faults and of the program's ends.
-use Rattle.std.specs.Prelude.{◌≡◌, ◌≢◌, ℕ, ◌+◌, ◌-◌, ◌^◌, ◌<◌, ◌≤◌, min, List, [], ◌∷◌, Some, Err}
-use Rattle.trace_lines.specs.declared.telling.Told.TheVariants.{Try}
+use Rattle.std.specs.Prelude.{◌≡◌, ◌≢◌, ℕ, ◌+◌, ◌-◌, ◌^◌, ◌<◌, ◌≤◌, min, List, [], ◌∷◌, ◌++◌, Some, Err}
+use Rattle.trace_lines.specs.declared.telling.Told.TheVariants.{Try, End}
 use Rattle.drive_pictures.specs.declared.drives.Drive.{Drive}
 use Rattle.drive_pictures.specs.Drives as drives
 use Rattle.drive_pictures.specs.Events.{line_of}
@@ -11,6 +11,8 @@ use Rattle.run_view.specs.Notes.{note_at}
 use Rattle.script_reader.specs.Stored.{Stored}
 use Rattle.trace_reader.specs.declared.fault.TraceKind.TheVariants.{Script}
 use Rattle.trace_reader.specs.declared.line.TraceLine.{TraceLine}
+use Rattle.trace_reader.specs.declared.line.TraceLine.TheVariants.{Deed}
+use Rattle.trace_reader.specs.Grammar.{last_number}
 use Rattle.trace_reader.specs.Lines.{line_number}
 use Rattle.trace_reader.specs.Reading.{standing}
 use Rattle.hpview_run.specs.declared.status.Status.TheVariants.{Usage, OutOfMemory}
@@ -48,4 +50,10 @@ NoMemoryTakenForUsage = ¬ (status_code Usage ≡ status_code OutOfMemory)
 
 -- of a line with two faults the second is told: its number falls, and it is none of the script's run
 abbrev pub SecondFaultRefused : Type 0
-SecondFaultRefused = (script : Stored) (before : ℕ) (line : TraceLine) → line_number line < before → Err Script ≢ standing script before line
+SecondFaultRefused = (script : Stored) (before : List TraceLine) (line : TraceLine) → line_number line < last_number before → Err Script ≢ standing script before line
+
+-- a run is drawn in whose trace two lines end one request
+abbrev pub TwoEndsOfOneRequest : Type 0
+TwoEndsOfOneRequest = (command : Command) (text trace picture : List ℕ) (front between behind : List TraceLine) (line later unit id : ℕ)
+    → (d : Draws command text trace picture) → 0 < d.stored.count
+    → ¬ (d.views.lines ≡ front ++ Deed line unit id End ∷ (between ++ Deed later unit id End ∷ behind))

@@ -6,7 +6,7 @@
 ghost use Rattle.picture_rows.specs.Outcomes.{ColumnDropsAnEvent, IdleEventLeftOut, AmpersandAsItIs, CoordinateOf20000, WindowFromTheFirstEvent, LeadOfEqualsTheFirst, AllAdaptersTakenTogether, RequestBehindTheWindowShown, LineOfAnotherDrive, GroupEndedAroundAnArm, TooltipEndedTwice};
 ghost use Rattle.picture_rows.specs.Nested.{GroupLeftOpen, LettersLeftOpen, ScriptLineLeftOpen, MarksOfAnotherUnit, LinesDropped, DriveDrawnTwice};
 ghost use Rattle.picture_rows.specs.Charted.{PanelDropsAColumn, RowOfAnotherUnit, LaneLeftOut, ShownNotListed, RowLeftOut, LetterNotOnceInTheLegend};
-ghost use Rattle.picture_rows.specs.Runs.{LastPlayNotSeen, PlayedBehindItsLines, LineInAColumnLate, TryCountedTwice, WindowOneEventEarly, NoMemoryTakenForUsage, SecondFaultRefused};
+ghost use Rattle.picture_rows.specs.Runs.{LastPlayNotSeen, PlayedBehindItsLines, LineInAColumnLate, TryCountedTwice, WindowOneEventEarly, NoMemoryTakenForUsage, SecondFaultRefused, TwoEndsOfOneRequest};
 ghost use Rattle.picture_rows.specs.Planned.{RequestLeftOut, ColumnLeftOut, SliceOfAnotherUnit, CaptionOfAnotherRun, ScaleTurnedRound, LegendWithoutALetter};
 
 #[cfg(test)]
@@ -64,6 +64,7 @@ pub fn runs_law()
     ensures window_one_event_early { WindowOneEventEarly }
     ensures no_memory_taken_for_usage { NoMemoryTakenForUsage }
     ensures second_fault_refused { SecondFaultRefused }
+    ensures two_ends_of_one_request { TwoEndsOfOneRequest }
 {}
 
 /// Refused outcomes of what a plan leaves out, and of what stands at the head of a picture.

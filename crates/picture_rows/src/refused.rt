@@ -14,7 +14,7 @@ const THREE: &[u8] =
 
 /// A script, its trace, and what is told of the first faulty line: each kind of refusal, and each two neighbours in the order of
 /// the checks.
-static REFUSED: [(&[u8], &[u8], &[u8]); 41] = [
+static REFUSED: [(&[u8], &[u8], &[u8]); 46] = [
     (
         b"",
         b"idle 1\nidle 1000001\nidle 1000002\n",
@@ -128,6 +128,31 @@ static REFUSED: [(&[u8], &[u8], &[u8]); 41] = [
     ),
     (ONE, b"arrive 3 0 2\n", b"refused trace line 1 script\n"),
     (ONE, b"arrive 4 1 1", b"refused trace line 1 script\n"),
+    (
+        ONE,
+        b"end 8 0 1\nend 8 0 1\n",
+        b"refused trace line 2 ended\n",
+    ),
+    (
+        ONE,
+        b"end 8 0 1\nend 8 0 2\narrive 8 0 1\nend 8 0 2\n",
+        b"refused trace line 3 ended\n",
+    ),
+    (
+        ONE,
+        b"end 8 0 1\nend 7 0 1\n",
+        b"refused trace line 2 order\n",
+    ),
+    (
+        ONE,
+        b"end 8 0 1\nend 8 0 6\n",
+        b"refused trace line 2 script\n",
+    ),
+    (
+        THREE,
+        b"end 13 2 1\nend 14 0 2\nend 14 1 3\nend 14 2 1\n",
+        b"refused trace line 4 ended\n",
+    ),
 ];
 
 /// Whether a trace is refused beside a script with the text that is told.
@@ -143,9 +168,9 @@ fn first_faults(rt: HostRuntime) {
     }
 }
 
-/// Each form of a line, and the ends of its ranges.
+/// Each form of a line, and the ends of its ranges. Beside a script that has no line, a request may end twice.
 const FORMS: &[u8] =
-    b"cmd 1 0 0 search 0 0\ncmd 1 31 4294967295 search 822 31\ncmd 1 0 0 seek 822\ncmd 1 0 0 recal\ncmd 1 0 0 offset +400\ncmd 1 0 0 offset -1200\ncmd 1 0 0 rtc\ncmd 1 0 0 dclr\ncmd 1 0 0 pack\ncmd 1 0 0 rcom 500383 1\ncmd 1 0 0 wcom 0 127\narrive 1 0 0\nsector 1 0 0 0 clean\nsector 1 0 0 7 burst 4128 3777\nsector 1 0 0 7 burst 1 1\nsector 1 0 0 7 ecc\nsector 1 0 0 7 mark\nsector 1 0 0 7 seek\nsector 1 0 0 7 opi\nsector 1 0 0 7 dte\nsector 1 0 0 7 hcrc\nsector 1 0 0 7 late\nsector 1 0 0 7 offline\nintr 1 0 0\ntry 1 0 0 7 1\ntry 1 0 0 7 28\nattn 1 0 0\nend 2 0 0\n";
+    b"cmd 1 0 0 search 0 0\ncmd 1 31 4294967295 search 822 31\ncmd 1 0 0 seek 822\ncmd 1 0 0 recal\ncmd 1 0 0 offset +400\ncmd 1 0 0 offset -1200\ncmd 1 0 0 rtc\ncmd 1 0 0 dclr\ncmd 1 0 0 pack\ncmd 1 0 0 rcom 500383 1\ncmd 1 0 0 wcom 0 127\narrive 1 0 0\nsector 1 0 0 0 clean\nsector 1 0 0 7 burst 4128 3777\nsector 1 0 0 7 burst 1 1\nsector 1 0 0 7 ecc\nsector 1 0 0 7 mark\nsector 1 0 0 7 seek\nsector 1 0 0 7 opi\nsector 1 0 0 7 dte\nsector 1 0 0 7 hcrc\nsector 1 0 0 7 late\nsector 1 0 0 7 offline\nintr 1 0 0\ntry 1 0 0 7 1\ntry 1 0 0 7 28\nattn 1 0 0\nend 2 0 0\nend 2 0 0\n";
 
 /// How many lines of a trace are read beside a script that has no line.
 fn count_of_lines(alloc: Global, trace: &[u8]) -> Option<usize> {
@@ -160,5 +185,5 @@ fn count_of_lines(alloc: Global, trace: &[u8]) -> Option<usize> {
 
 #[test]
 fn each_form(rt: HostRuntime) {
-    assert!(rt; count_of_lines(rt.alloc(), FORMS) == Some(28));
+    assert!(rt; count_of_lines(rt.alloc(), FORMS) == Some(29));
 }

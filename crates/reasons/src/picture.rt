@@ -27,6 +27,8 @@ fn trace_fault(kind: &[u8]) -> &'static str {
         "the text is not a line of a trace"
     } else if is(kind, "order") {
         "its event comes before that of the line above"
+    } else if is(kind, "ended") {
+        "a line above has ended its request: it is perhaps the trace of another run"
     } else {
         "no line of the script asks for it: it is perhaps the trace of another script"
     }

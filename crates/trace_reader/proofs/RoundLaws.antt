@@ -35,25 +35,25 @@ pieces_are l rest h =
     ap (λ (text : List ℕ). pieces_of (text ++ rest)) (text_of_words l) ∙ ap pieces_of (append_assoc (joined (words_in l)) (10 ∷ []) rest)
     ∙ piece_off (joined (words_in l)) rest (joined_plain (words_in l) (line_whole l h))
 
-said : (script : Stored) (before : ℕ) (ls : List TraceLine) → AreOfRun script before ls → Say script before (pieces_of (flat_map line_text ls)) ls
+said : (script : Stored) (before : List TraceLine) (ls : List TraceLine) → AreOfRun script before ls → Say script before (pieces_of (flat_map line_text ls)) ls
 said script before [] h = tt
 said script before (l ∷ ls) h =
     let here : Says (joined (words_in l)) l = record { is_line = h.0; spelled = sym (text_of_words l) } in
-    subst (λ (texts : List (List ℕ)). Say script before texts (l ∷ ls)) (sym (pieces_are l (flat_map line_text ls) h.0)) (here, h.1, said script (line_number l) ls h.2)
+    subst (λ (texts : List (List ℕ)). Say script before texts (l ∷ ls)) (sym (pieces_are l (flat_map line_text ls) h.0)) (here, h.1, said script (before ++ l ∷ []) ls h.2)
 
 pub reads_as_told : ReadsAsTold
 reads_as_told script ms h short = record {
   short = short;
-  says = subst (λ (text : List ℕ). Say script 0 (pieces_of text) (lines_told ms)) (sym (trace_is ms)) (said script 0 (lines_told ms) h);
+  says = subst (λ (text : List ℕ). Say script [] (pieces_of text) (lines_told ms)) (sym (trace_is ms)) (said script [] (lines_told ms) h);
 }
 
 -- texts that say lines are their texts
-written : (script : Stored) (before : ℕ) (texts : List (List ℕ)) (ls : List TraceLine) → Say script before texts ls → flat_map line_text ls ≡ ended texts
+written : (script : Stored) (before : List TraceLine) (texts : List (List ℕ)) (ls : List TraceLine) → Say script before texts ls → flat_map line_text ls ≡ ended texts
 written script before [] [] h = refl
 written script before [] (l ∷ ls) h = absurd h
 written script before (text ∷ texts) [] h = absurd h
 written script before (text ∷ texts) (l ∷ ls) h =
-    ap (λ (t : List ℕ). t ++ flat_map line_text ls) (sym h.0.spelled) ∙ ap (λ (t : List ℕ). (text ++ 10 ∷ []) ++ t) (written script (line_number l) texts ls h.2)
+    ap (λ (t : List ℕ). t ++ flat_map line_text ls) (sym h.0.spelled) ∙ ap (λ (t : List ℕ). (text ++ 10 ∷ []) ++ t) (written script (before ++ l ∷ []) texts ls h.2)
 
 -- bytes are their lines
 equal : (b : ℕ) → (b == 10) ≡ true → b ≡ 10
@@ -88,13 +88,13 @@ ended_is (b ∷ []) = last_by b (b == 10) refl
 ended_is (b ∷ c ∷ cs) = more_by b (b == 10) (pieces_of (c ∷ cs)) (closed (c ∷ cs)) refl (some_pieces c cs) (ended_is (c ∷ cs))
 
 pub writes_as_read : WritesAsRead
-writes_as_read script bytes ls h = written script 0 (pieces_of bytes) ls h.says ∙ ended_is bytes
+writes_as_read script bytes ls h = written script [] (pieces_of bytes) ls h.says ∙ ended_is bytes
 
-of_run : (script : Stored) (before : ℕ) (texts : List (List ℕ)) (ls : List TraceLine) → Say script before texts ls → AreOfRun script before ls
+of_run : (script : Stored) (before : List TraceLine) (texts : List (List ℕ)) (ls : List TraceLine) → Say script before texts ls → AreOfRun script before ls
 of_run script before [] [] h = tt
 of_run script before [] (l ∷ ls) h = absurd h
 of_run script before (text ∷ texts) [] h = absurd h
-of_run script before (text ∷ texts) (l ∷ ls) h = (h.0.is_line, h.1, of_run script (line_number l) texts ls h.2)
+of_run script before (text ∷ texts) (l ∷ ls) h = (h.0.is_line, h.1, of_run script (before ++ l ∷ []) texts ls h.2)
 
 pub reads_of_run : ReadsOfRun
-reads_of_run script bytes ls h = of_run script 0 (pieces_of bytes) ls h.says
+reads_of_run script bytes ls h = of_run script [] (pieces_of bytes) ls h.says

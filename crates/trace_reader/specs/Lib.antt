@@ -1,4 +1,5 @@
 pub mod Asked
+pub mod Ended
 pub mod Grammar
 pub mod Knowing
 pub mod Lines

@@ -16,7 +16,7 @@ use Rattle.script_lines.specs.Words.{named, offsets}
 use Rattle.trace_lines.specs.declared.telling.Told.{Told}
 use Rattle.trace_lines.specs.declared.telling.Told.TheVariants as told
 use Rattle.trace_reader.specs.declared.fault.TraceKind.{TraceKind}
-use Rattle.trace_reader.specs.declared.fault.TraceKind.TheVariants.{Word, Order, Script}
+use Rattle.trace_reader.specs.declared.fault.TraceKind.TheVariants.{Word, Order, Script, Ended}
 use Rattle.trace_reader.specs.declared.line.TraceLine.{TraceLine}
 use Rattle.trace_reader.specs.declared.line.TraceLine.TheVariants.{Deed, Idle}
 use Rattle.trace_reader.specs.declared.verbs.Command.{Command}
@@ -24,6 +24,8 @@ use Rattle.trace_reader.specs.declared.verbs.Command.TheVariants as commands
 use Rattle.trace_reader.specs.declared.verbs.Verb.{Verb}
 use Rattle.trace_reader.specs.declared.verbs.Verb.TheVariants as verbs
 use Rattle.trace_reader.specs.Asked.{is_of_script}
+use Rattle.trace_reader.specs.Ended.{is_under_way}
+use Rattle.trace_reader.specs.Grammar.{last_number}
 use Rattle.trace_reader.specs.Lines.{line_number}
 use Rattle.trace_replay.specs.Text.{offset_word, fault_word}
 
@@ -180,22 +182,30 @@ line_form (word ∷ words) =
     if bytes_eq word (codes "idle") then first line_in (λ line. none (Idle line)) words
     else and_then (verb_in word) (λ verb. deed_form verb words)
 
--- a line that was read, behind one of number `before`
-abbrev pub standing : Stored → ℕ → TraceLine → Result TraceLine TraceKind
-standing script before line =
-    if nat_lt (line_number line) before then Err Order
-    else if is_of_script script.lines script.count line then Ok line else Err Script
+-- a line that was read, behind one of number `number`, where its request is under way or not
+abbrev pub standing_at : Stored → ℕ → Bool → TraceLine → Result TraceLine TraceKind
+standing_at script number going line =
+    if nat_lt (line_number line) number then Err Order
+    else if is_of_script script.lines script.count line then (if going then Ok line else Err Ended) else Err Script
 
-unfoldable pub judged : Stored → ℕ → List ℕ → Result TraceLine TraceKind
-judged script before text = on (line_form (words_of text)) (λ line. standing script before line) (λ no_line. Err Word)
+-- and behind some lines
+abbrev pub standing : Stored → List TraceLine → TraceLine → Result TraceLine TraceKind
+standing script before line = standing_at script (last_number before) (is_under_way script.count before line) line
+
+-- what a text says there, by what is found of a line
+abbrev pub judged_by : (TraceLine → Result TraceLine TraceKind) → List ℕ → Result TraceLine TraceKind
+judged_by stands text = on (line_form (words_of text)) stands (λ no_line. Err Word)
+
+unfoldable pub judged : Stored → List TraceLine → List ℕ → Result TraceLine TraceKind
+judged script before text = judged_by (standing script before) text
 
 -- A WHOLE TRACE. The number of the first faulty line, and what is wrong with it
 pub record Refusal : Type 0 where
   pub line : ℕ
   pub kind : TraceKind
 
--- the lines, behind those that were read, of which the last has number `before`
-abbrev pub reading : Stored → List TraceLine → ℕ → ℕ → List (List ℕ) → Result (List TraceLine) Refusal
-reading script lines before n [] = Ok lines
-reading script lines before n (text ∷ texts) =
-    on (judged script before text) (λ line. reading script (lines ++ line ∷ []) (line_number line) (n + 1) texts) (λ kind. Err (record { line = n; kind = kind }))
+-- the lines, behind those that were read
+abbrev pub reading : Stored → List TraceLine → ℕ → List (List ℕ) → Result (List TraceLine) Refusal
+reading script lines n [] = Ok lines
+reading script lines n (text ∷ texts) =
+    on (judged script lines text) (λ line. reading script (lines ++ line ∷ []) (n + 1) texts) (λ kind. Err (record { line = n; kind = kind }))

@@ -1,5 +1,5 @@
 -- Traces that are written are read as what was told, and what is read is written again as the same bytes.
-use Rattle.std.specs.Prelude.{◌≡◌, ℕ, ◌≤◌, ◌==◌, if◌then◌else◌, List, [], ◌∷◌, length}
+use Rattle.std.specs.Prelude.{◌≡◌, ℕ, ◌≤◌, ◌==◌, if◌then◌else◌, List, [], ◌∷◌, ◌++◌, length}
 use Rattle.std.specs.List.{flat_map}
 use Rattle.script_reader.specs.Stored.{Stored}
 use Rattle.trace_lines.specs.declared.telling.Told.{Told}
@@ -7,7 +7,7 @@ use Rattle.trace_lines.specs.declared.telling.Told.TheVariants as told
 use Rattle.trace_reader.specs.declared.line.TraceLine.{TraceLine}
 use Rattle.trace_reader.specs.declared.line.TraceLine.TheVariants as lines
 use Rattle.trace_reader.specs.Grammar.{MayStand, Spells}
-use Rattle.trace_reader.specs.Lines.{IsLine, line_number, line_text}
+use Rattle.trace_reader.specs.Lines.{IsLine, line_text}
 use Rattle.trace_replay.specs.Moments.{Deed, Search, Seek, Recal, Offset, Centre, Clear, Pack, Transfer, Arrive, Sector, Intr, Try, Attn, End, Moment, Played, Told as Said, Idle}
 use Rattle.trace_replay.specs.Text.{trace_text}
 
@@ -35,14 +35,14 @@ lines_told (Played line input ∷ ms) = lines_told ms
 lines_told (Said line unit_number id deed ∷ ms) = lines.Deed line unit_number id (told_of deed) ∷ lines_told ms
 lines_told (Idle line ∷ ms) = lines.Idle line ∷ lines_told ms
 
--- lines are of a run of the script, behind one of number `before`: each number is in its range, and each may stand where it does
-abbrev pub AreOfRun : Stored → ℕ → List TraceLine → Type 0
+-- lines are of a run of the script, behind others: each number is in its range, and each may stand where it does
+abbrev pub AreOfRun : Stored → List TraceLine → List TraceLine → Type 0
 AreOfRun script before [] = Unit {0}
-AreOfRun script before (line ∷ lines) = IsLine line × MayStand script before line × AreOfRun script (line_number line) lines
+AreOfRun script before (line ∷ lines) = IsLine line × MayStand script before line × AreOfRun script (before ++ line ∷ []) lines
 
 -- THE TEXT OF A RUN is read as what it tells.
 abbrev pub ReadsAsTold : Type 0
-ReadsAsTold = (script : Stored) (ms : List Moment) → AreOfRun script 0 (lines_told ms) → length (trace_text ms) ≤ 268435456
+ReadsAsTold = (script : Stored) (ms : List Moment) → AreOfRun script [] (lines_told ms) → length (trace_text ms) ≤ 268435456
     → Spells script (trace_text ms) (lines_told ms)
 
 -- bytes, with LF behind a last line that stands without it
@@ -57,4 +57,4 @@ WritesAsRead = (script : Stored) (bytes : List ℕ) (lines : List TraceLine) →
 
 -- AND SO what is read is of a run of the script.
 abbrev pub ReadsOfRun : Type 0
-ReadsOfRun = (script : Stored) (bytes : List ℕ) (lines : List TraceLine) → Spells script bytes lines → AreOfRun script 0 lines
+ReadsOfRun = (script : Stored) (bytes : List ℕ) (lines : List TraceLine) → Spells script bytes lines → AreOfRun script [] lines

@@ -17,7 +17,7 @@ pub(crate) struct Asked {
 }
 
 /// An id and a unit as one number.
-fn key(unit: u8, id: u32) -> u64
+pub(crate) fn key(unit: u8, id: u32) -> u64
     ensures { result ≡ id * 256 + unit }
 {
     u64::from(id) * 256 + u64::from(unit)

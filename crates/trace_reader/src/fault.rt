@@ -14,6 +14,8 @@ pub enum TraceKind {
     /// The number of the line is beyond the script's last drain, or no line of the script up to that number asks the line's unit
     /// for the request of the line's id.
     Script,
+    /// A line before has ended the request of the line's id.
+    Ended,
 }
 
 /// Why a trace was not read.

@@ -3,10 +3,12 @@ ghost use Rattle.std.specs.Prelude.{◌≡◌, [], IfOk, IfErr, List};
 ghost use Rattle.trace_reader.specs.declared.line.TraceLine.{TraceLine};
 ghost use Rattle.trace_reader.specs.Grammar.{Refuses};
 ghost use Rattle.trace_reader.specs.Knowing.{Knows};
-ghost use Rattle.trace_reader.specs.Reading.{judged, standing};
+ghost use Rattle.trace_reader.specs.Ended.{is_open};
+ghost use Rattle.trace_reader.specs.Reading.{judged_by, standing_at};
 ghost use Rattle.trace_reader.specs.SoFar.{HasRead, Reads};
 
 use crate::asked::Asked;
+use crate::ended::Ended;
 use crate::fault::{TraceFault, TraceKind};
 use crate::forms::line_of;
 use crate::line::{ReadLine, TraceLine};
@@ -21,38 +23,48 @@ const LONGEST: usize = 268_435_456;
 fn standing(
     script: &Script,
     asked: &Asked,
+    ended: &Ended,
     before: u32,
     line: TraceLine,
 ) -> Result<TraceLine, TraceKind>
     requires { Knows asked.now script.now.lines }
-    ensures { result ≡ standing script.now before line }
+    ensures { result ≡ standing_at script.now before (is_open ended.now script.now.count line) line }
 {
     if line.line() < before {
         return Err(TraceKind::Order);
     }
-    if asked.is_of_script(script, &line) {
+    if !asked.is_of_script(script, &line) {
+        return Err(TraceKind::Script);
+    }
+    if ended.is_open(script.count(), &line) {
         Ok(line)
     } else {
-        Err(TraceKind::Script)
+        Err(TraceKind::Ended)
     }
 }
 
 /// What a text says, after a line with the number `before`.
-#[tactic(auto, unfolding(crate::specs::Reading::judged))]
-fn judged(script: &Script, asked: &Asked, before: u32, text: &[u8]) -> Result<TraceLine, TraceKind>
+fn judged(
+    script: &Script,
+    asked: &Asked,
+    ended: &Ended,
+    before: u32,
+    text: &[u8],
+) -> Result<TraceLine, TraceKind>
     requires { Knows asked.now script.now.lines }
-    ensures { result ≡ judged script.now before text.now }
+    ensures { result ≡ judged_by (λ line. standing_at script.now before (is_open ended.now script.now.count line) line) text.now }
 {
     let line = line_of(text).map_err(|_| TraceKind::Word)?;
-    standing(script, asked, before, line)
+    standing(script, asked, ended, before, line)
 }
 
-/// The lines of a trace, one after another, beside the script of its run. The value holds the requests of the script, and the
-/// place that was reached in the trace.
+/// The lines of a trace, one after another, beside the script of its run. The value holds the requests of the script, those that
+/// have ended, and the place that was reached in the trace.
 #[derive(Drop)]
 pub struct TraceLines<'a> {
     script: &'a Script,
     asked: Asked,
+    ended: Ended,
     bytes: &'a [u8],
     rest: &'a [u8],
     before: u32,
@@ -72,6 +84,7 @@ impl<'a> Model for TraceLines<'a> {
       bytes = l.bytes.now;
       texts = pieces_of l.rest.now;
       before = l.before;
+      ended = l.ended;
       number = l.number;
     } };
 
@@ -101,6 +114,7 @@ impl<'a> TraceLines<'a> {
         Ok(TraceLines {
             script,
             asked,
+            ended: Ended::new(alloc),
             bytes,
             rest: bytes,
             before: 0,
@@ -119,8 +133,9 @@ impl<'a> TraceLines<'a> {
             return Ok(None);
         }
         let (text, after) = first_piece(self.rest);
-        match judged(self.script, &self.asked, self.before, text) {
+        match judged(self.script, &self.asked, &self.ended, self.before, text) {
             Ok(line) => {
+                self.ended.learn(&line)?;
                 self.rest = after;
                 self.before = line.line();
                 self.number += 1;

@@ -7,6 +7,7 @@
 #![tactic(auto)]
 
 mod asked;
+mod ended;
 mod fault;
 mod forms;
 mod left;
