@@ -15,8 +15,8 @@ use Rattle.driver_machine.specs.Guards.{InHand, Allowed, MayChange}
 use Rattle.driver_machine.proofs.Frame.{effect_same}
 use Rattle.driver_machine.specs.Runs.{Run, Works}
 use Rattle.driver_laws.proofs.invariant.Calls.{submit_works, event_works}
-use Rattle.driver_laws.proofs.invariant.Passes.{Contains-first, Contains-later}
-use Rattle.driver_laws.proofs.invariant.Passes.{slot_there}
+use Rattle.driver_laws.proofs.invariant.SlotsLists.{Contains-first, Contains-later}
+use Rattle.driver_laws.proofs.invariant.Hand.{slot_there}
 use Rattle.driver_laws.proofs.invariant.Sound.{sound_after}
 use Rattle.driver_laws.specs.answers.Ids.{AreOf, ids_with, StartsOfNone, ActsAdd, RunsAdd, EventsAddNone, SubmissionsAdd, TakingAddsNone, NoOthers, OthersAreFresh}
 use Rattle.driver_laws.proofs.answers.Parts.{AreAll, Holds, all_submitted, all_of_event}

@@ -17,8 +17,8 @@ use Rattle.driver_machine.specs.Acts.{Tried, Taken, after_all}
 use Rattle.driver_machine.specs.Lines.{lines_of_all}
 use Rattle.driver_machine.specs.Events.{submit_by, submit_acts, refusal_of, event_acts, next_event}
 use Rattle.driver_machine.specs.Runs.{Run, Works, MaySubmit, MayCome}
-use Rattle.driver_laws.proofs.answers.Passes.{submit_works, event_works, taken_works}
-use Rattle.driver_laws.proofs.answers.Passes.{sound_after}
+use Rattle.driver_laws.proofs.invariant.Calls.{submit_works, event_works, taken_works}
+use Rattle.driver_laws.proofs.invariant.Sound.{sound_after}
 use Rattle.driver_laws.specs.answers.Packs.{packs_after_all}
 use Rattle.driver_laws.specs.shown.Calls.{Stands}
 use Rattle.driver_laws.proofs.shown.Telling.{IsTold}

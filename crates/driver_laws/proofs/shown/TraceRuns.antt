@@ -19,10 +19,10 @@ use Rattle.driver_machine.specs.Lines.{lines_of_all}
 use Rattle.driver_machine.specs.Events.{event_acts, next_event}
 use Rattle.driver_machine.specs.Guards.{Allowed}
 use Rattle.driver_machine.specs.Sound.{Sound, AtWork}
-use Rattle.driver_laws.proofs.shown.Passes.{effect_same}
+use Rattle.driver_machine.proofs.Frame.{effect_same}
 use Rattle.driver_machine.specs.Runs.{Run}
-use Rattle.driver_laws.proofs.answers.Passes.{next_can}
-pub use Rattle.driver_laws.proofs.answers.Passes.{sound_after}
+use Rattle.driver_laws.proofs.invariant.Next.{next_can, unit_there}
+pub use Rattle.driver_laws.proofs.invariant.Sound.{sound_after}
 use Rattle.driver_laws.specs.answers.Packs.{packs_after_all}
 use Rattle.driver_laws.specs.shown.Calls.{Ends, IsLeft, AreThere}
 use Rattle.driver_laws.proofs.shown.Telling.{IsTold}
@@ -30,7 +30,6 @@ use Rattle.driver_laws.proofs.shown.Named.{IsTriedOn}
 use Rattle.driver_laws.specs.shown.Runs.{IsSoFar, IsDraining}
 use Rattle.driver_laws.proofs.shown.DrainsLaws.{GoesOn, drain_goes_on, drain_between, drain_begins, drain_idle, event_goes, call_left, drain_left, none_outstanding}
 use Rattle.driver_laws.proofs.rules.Quiet.{after_parts}
-use Rattle.driver_laws.proofs.invariant.Next.{unit_there}
 use Rattle.trace_replay.proofs.Following.{joined as follows_append}
 
 -- THE UNITS that are set up stay so.
