@@ -1,5 +1,5 @@
 -- The transfer under way at an adapter: for whom it is, and what the move of its next sector is.
-use Rattle.std.proofs.Common.{◌≡◌, ℕ, ◌<◌, Bool, true, false, List, [], ◌∷◌, length, refl, sym, ap, ◌∙◌, subst}
+use Rattle.std.proofs.Common.{◌≡◌, ℕ, ◌<◌, Bool, true, false, [], ◌∷◌, length, refl, sym, ap, ◌∙◌, subst}
 use Rattle.std.specs.Prelude.{not, ◌&&◌}
 use Rattle.hardware_table.specs.Adapter.{next_block}
 use Rattle.driver_machine.specs.World.{World, adapter_of, drive_of, unit_of, unit_at, adapter_at, held_in, slot_in_hand}

@@ -9,7 +9,7 @@ use Rattle.hardware_table.specs.Events.{transfer_ended}
 use Rattle.hardware_table.specs.Moves.{after_move}
 use Rattle.hardware_table.specs.Adapter.{AdapterState, stepped, next_block}
 use Rattle.hardware_table.specs.Noise.{Book}
-use Rattle.driver_machine.specs.World.{World, UnitView, AdapterView, Held, no_unit, unit_at, adapter_at, adapter_of}
+use Rattle.driver_machine.specs.World.{World, UnitView, AdapterView, Held, no_unit, adapter_at, adapter_of}
 use Rattle.driver_machine.specs.Acts.{with_drive, with_state}
 use Rattle.request_slots.proofs.WorkLaws.{move_work}
 use Rattle.request_slots.specs.Steps.{Bench, MayStep, drive_behind}

@@ -1,5 +1,5 @@
 -- What the trying of one sector comes to.
-use Rattle.std.proofs.Common.{◌≡◌, inl, inr, ℕ, ◌≤◌, Bool, true, false, List, [], ◌∷◌, ◌++◌, length, Option, Some, None, refl, sym, ap, ◌∙◌, subst, arith}
+use Rattle.std.proofs.Common.{◌≡◌, inl, inr, ℕ, ◌≤◌, Bool, true, false, List, [], ◌++◌, Option, Some, refl, sym, ap, ◌∙◌, subst, arith}
 use Rattle.std.specs.Prelude.{Result, Ok, Err, IfErr, if◌then◌else◌, IsTrue, slice_set, not, ◌&&◌}
 use Rattle.std.proofs.lemmas.Bool.{false≢true}
 use Rattle.main_memory.specs.Bytes.{filled}
@@ -8,9 +8,8 @@ use Rattle.hardware_table.specs.declared.Moved.{Moved}
 use Rattle.hardware_table.specs.declared.Moved.TheVariants.{Clean}
 use Rattle.hardware_table.specs.declared.Work.TheVariants.{Transfer}
 use Rattle.hardware_table.specs.Drive.{DriveState, is_writing}
-use Rattle.hardware_table.specs.Adapter.{AdapterState, next_block, next_window, stepped, drive_stepped}
+use Rattle.hardware_table.specs.Adapter.{next_block, next_window}
 use Rattle.hardware_table.specs.Moves.{was_read, was_written, has_bytes}
-use Rattle.hardware_table.specs.Noise.{Book}
 use Rattle.drive_model.specs.Move.{Scene}
 use Rattle.driver_machine.specs.World.{World, Held, unit_of, unit_at, adapter_at, held_in, slot_in_hand, adapter_of, drive_of, block_in, with_block_in}
 use Rattle.driver_machine.specs.Acts.{Act, Of, Sector, Nothing, Tried, after}
@@ -134,7 +133,6 @@ write_off false write is off = absurd (let e : false ≡ true = is in cc)
 
 no_sector : Tried
 no_sector = record { marked = false; verdict = Clean; bytes = [] }
-
 
 -- THE TRANSFER under way at an adapter, for a unit that has a request in hand
 module _ (w : World) (a u : ℕ) (sound : Sound w) (can : can_move (adapter_at w a) ≡ true) (is : u ≡ unit_of w a) where

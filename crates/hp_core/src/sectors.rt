@@ -12,12 +12,7 @@ use outside_traits::traits::{Packs, Sink, StoreFailed};
 
 impl Core {
     /// Tries the next sector of the transfer under way, which is for the request of a slot.
-    fn try_next<P: Packs>(
-        &mut self,
-        u: u8,
-        slot: u32,
-        packs: &mut P,
-    ) -> Result<Moved, StoreFailed>
+    fn try_next<P: Packs>(&mut self, u: u8, slot: u32, packs: &mut P) -> Result<Moved, StoreFailed>
         requires there { HasUnit self.old.world u }
         requires slot { slot ≡ slot_in_hand (unit_at self.old.world u) }
         requires may { MayStep self.old.world.slots slot (adapter_at self.old.world (adapter_of u)).state (unit_at self.old.world u).drive }

@@ -1,17 +1,16 @@
 -- The acts of each event, where it finds something to do; and that they may come.
 use Rattle.std.proofs.Common.{◌≡◌, ℕ, ◌<◌, Bool, true, false, List, [], ◌∷◌, length, refl, sym, ap, ◌∙◌, subst, arith}
-use Rattle.std.specs.Prelude.{Result, Ok, Err, not, ◌&&◌}
-use Rattle.hardware_table.specs.Adapter.{next_block}
+use Rattle.std.specs.Prelude.{Result, Ok, Err}
 use Rattle.driver_machine.specs.declared.Task.{Task}
-use Rattle.driver_machine.specs.declared.Task.TheVariants.{Clear, Judge, Steps, Command, GiveUp}
+use Rattle.driver_machine.specs.declared.Task.TheVariants.{Clear}
 use Rattle.driver_machine.specs.declared.Phase.{Phase}
-use Rattle.driver_machine.specs.declared.Phase.TheVariants.{Waiting, Positioning, Queued, Transferring, Due}
-use Rattle.driver_machine.specs.World.{World, UnitView, AdapterView, Held, adapter_of, drive_of, unit_on, unit_of, unit_at, adapter_at, held_in, slot_in_hand}
+use Rattle.driver_machine.specs.declared.Phase.TheVariants.{Waiting, Positioning, Due}
+use Rattle.driver_machine.specs.World.{World, UnitView, AdapterView, Held, adapter_of, unit_on, unit_of, unit_at, adapter_at, held_in, slot_in_hand}
 use Rattle.driver_machine.specs.Acts as deed
 use Rattle.driver_machine.specs.Acts.{Act, Of, Nothing, Deed, Tried}
-use Rattle.driver_machine.specs.Events.{when_by, in_hand, due_acts, begun, choose_by, choose_acts, or_nothing, arrive_acts, move_acts, attend_acts, attended, can_arrive, can_move, can_attend, data_interrupt, attention, steps_taken}
+use Rattle.driver_machine.specs.Events.{when_by, in_hand, due_acts, begun, choose_by, choose_acts, or_nothing, arrive_acts, attend_acts, attended, can_arrive, can_attend, data_interrupt, attention, steps_taken}
 use Rattle.driver_machine.specs.Due.{command_of}
-use Rattle.driver_machine.specs.Guards.{Allowed, InHand, IsBusyFor}
+use Rattle.driver_machine.specs.Guards.{Allowed}
 use Rattle.driver_machine.specs.Sound.{Sound, IsPhase, IsTask, is_waiting}
 use Rattle.driver_machine.proofs.DueFacts.{false_true}
 use Rattle.driver_laws.proofs.invariant.Sound.{sound_after}
@@ -73,7 +72,6 @@ module _ (w : World) (a u : ℕ) (sound : Sound w) (busy : (adapter_at w a).stat
       ap (λ (b : ℕ). begun line u (deed.Intr (adapter_at w b).state.moved (adapter_at w b).state.verdict) w) (served_its w a u sound busy is)
       ∙ ap (λ (x : ℕ). begun line x (deed.Intr (adapter_at w a).state.moved (adapter_at w a).state.verdict) w) is
       ∙ sym (ap (λ (b : Bool). when_by b (begun line (unit_of w a) (deed.Intr (adapter_at w a).state.moved (adapter_at w a).state.verdict)) w) up)
-
 
 -- AN ATTENTION is up only where a positioning has ended.
 task_down : (task : Task) (v : UnitView) (h : Held) → IsTask v h task → v.drive.attention ≡ false
