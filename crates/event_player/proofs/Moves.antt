@@ -20,8 +20,7 @@ use Rattle.script_runs.proofs.StopsPasses.{IsNoMove}
 use Rattle.hp_driver.specs.declared.drain.Event.{Event}
 use Rattle.hp_driver.specs.declared.drain.Event.TheVariants as event
 use Rattle.hp_driver.specs.Inputs.{input_of}
-use Rattle.hp_driver.specs.Moves.{writes_next}
-use Rattle.hp_driver.specs.Subsystem.{IsThere, is_move, writes_by}
+use Rattle.hp_driver.specs.Subsystem.{IsThere, is_move, writes_by, writes_next}
 use Rattle.hp_driver.proofs.Moves.{tried_by_rules, read_from}
 use Rattle.script_runs.specs.Ahead.{SaysOneSector}
 use Rattle.event_player.proofs.OneAct.{IsShort, short_or}

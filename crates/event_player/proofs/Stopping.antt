@@ -23,8 +23,7 @@ use Rattle.script_runs.specs.StopsPasses.{ShowsAll}
 use Rattle.script_runs.proofs.StopsPasses.{lines_play_nothing, next_blocks_show}
 use Rattle.script_runs.proofs.Passes.{event_fronts}
 use Rattle.trace_lines.specs.answers.AnswerText.{out_text}
-use Rattle.hp_driver.specs.Subsystem.{IsThere, is_move, writes_by}
-use Rattle.hp_driver.specs.Moves.{writes_next}
+use Rattle.hp_driver.specs.Subsystem.{IsThere, is_move, writes_by, writes_next}
 use Rattle.script_runs.specs.Writing.{WriteNothing}
 use Rattle.script_runs.specs.Ahead.{SaysOneSector, AreBehind}
 use Rattle.script_runs.specs.StopsPasses.{IsTorn}
