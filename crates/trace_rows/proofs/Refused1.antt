@@ -1,5 +1,5 @@
 -- What a row that breaks one rule alone keeps: all others; docs/trace-rows/rows.py writes this.
-use Rattle.std.specs.Prelude.{replicate, ◌≢◌, take}
+use Rattle.std.specs.Prelude.{replicate}
 use Rattle.hardware_table.specs.declared.Moved.TheVariants.{Clean, Marked}
 use Rattle.trace_replay.specs.requests.Requests.{ReadOk}
 use Rattle.trace_replay.specs.Moments.{Search, Sector, Attn, End, Told}
@@ -7,6 +7,7 @@ use Rattle.trace_replay.specs.Replay.{after_moments}
 use Rattle.trace_replay.specs.Rules.{RuleName, Keeps, Number, Events, Service, Conversation, Drives, Adapters, Packs, Work}
 use Rattle.trace_rows.specs.Strange.{busy_start, stranded_start, skewed_start}
 use Rattle.std.proofs.Common.{refl}
+use Rattle.std.specs.Prelude.{◌≢◌, take}
 use Rattle.trace_rows.specs.Rows1.{attentions_together_start, attentions_together, first_read_start, first_read}
 
 pub wrong_search_alone : (other : RuleName) → other ≢ Conversation → Keeps other (after_moments first_read_start (take 1 first_read)) (Told 2 0 1 (Search 0 18))
