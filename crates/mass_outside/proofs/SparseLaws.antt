@@ -4,15 +4,16 @@ use Rattle.std.specs.Prelude.{◌==◌, ◌||◌, eqb}
 use Rattle.std.specs.List.{IsDistinct, list_any, position, position_or_len}
 use Rattle.std.proofs.lemmas.Bool.{cases_lt}
 use mathlib.Core.Bool.{true≢false}
-use Rattle.std.proofs.lemmas.List.{get_or_read_under, get_or_append_left}
+use Rattle.std.proofs.Math.ListN.{replicate}
+use Rattle.std.proofs.lemmas.List.{get_or_read_under, get_or_append_left, get_or-replicate, length-replicate, get_or_past}
 use Rattle.std.proofs.lemmas.List.Folds.{list_any-append}
 use Rattle.std.proofs.lemmas.Map.Keys.{IsDistinct-push}
 use Rattle.std.proofs.lemmas.Map.Steps.{length-le_from_distinct_below}
 use Rattle.std.proofs.lemmas.Cmp.{nat_eq_equiv}
 use Rattle.std.proofs.lemmas.Grind.{common_steps, same_number_lists}
 use Rattle.std.proofs.lemmas.Bool.Decides.{nat_tests}
-use Rattle.pack_geometry.specs.Pack.{grown, with_window, block_at, with_block}
-use Rattle.pack_geometry.proofs.PackLaws.{get_or-with_window_here, get_or-with_window_before, get_or-with_window_after, window-with_window_same, window-with_window_other}
+use Rattle.pack_geometry.specs.Pack.{window, grown, with_window, block_at, with_block}
+use Rattle.pack_geometry.proofs.PackLaws.{length-window, get_or-window, get_or-with_window_here, get_or-with_window_before, get_or-with_window_after, window-with_window_same, window-with_window_other}
 use Rattle.mass_outside.specs.Sparse.{overlaid, AreKept}
 
 -- ---- bytes put at a place
@@ -117,6 +118,16 @@ block_other image xs number other long apart =
       | inl less ↦ window-with_window_other image xs (512 * number) 512 (512 * other) (inl (omega (arith, less)))
       | inr more ↦ window-with_window_other image xs (512 * number) 512 (512 * other) (inr (omega (arith, long, more, apart)))
     ]
+
+-- behind the end there are zeros
+past : (bytes : List ℕ) (size at : ℕ) → length bytes ≤ at → replicate size 0 ≡ window size at bytes
+past bytes size at end = same_number_lists _ _ (length-replicate size 0 ∙ sym (length-window size at bytes)) (λ k h.
+    let inside : k < size = omega (arith, h, length-replicate {A = ℕ} size 0) in
+    get_or-replicate size k 0 0 inside ∙ sym (get_or-window size at bytes k inside ∙ get_or_past bytes (at + k) 0 (omega (arith, end))))
+
+pub block_past : (bytes : List ℕ) (number : ℕ) → length bytes ≤ 512 * number → replicate 512 0 ≡ block_at bytes number
+unfolding block_at
+block_past bytes number end = past bytes 512 (512 * number) end
 
 -- ---- blocks that are kept
 

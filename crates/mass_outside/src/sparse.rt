@@ -16,11 +16,16 @@ fn read_window(bytes: &[u8], at: usize, into: &mut [u8])
 }
 
 /// Reads a block of an image.
-#[tactic(auto, unfolding(pack_geometry::specs::Pack::block_at))]
+#[tactic(auto, using(crate::proofs::SparseLaws::block_past), unfolding(pack_geometry::specs::Pack::block_at))]
 fn read_block(bytes: &[u8], block: u32, into: &mut [u8; 512])
     ensures { into.new ≡ block_at bytes.now block }
 {
-    read_window(bytes, 512 * block as usize, into);
+    let at = 512 * block as usize;
+    if at < bytes.len() {
+        read_window(bytes, at, into);
+    } else {
+        *into = [0; 512];
+    }
 }
 
 /// The first place of a number among others.
