@@ -3,7 +3,7 @@ use Rattle.std.specs.Prelude.{ℕ, ◌≡◌, ◌≢◌, true, false, List, [], 
 use Rattle.live_noise.specs.declared.entries.Entry.{Entry}
 use Rattle.live_noise.specs.Book.{number_of, with_entry}
 use Rattle.driver_laws.specs.declared.rules.cached.Entry.{Entry as Cached}
-use Rattle.driver_laws.specs.rules.Entries.{State, changed_in_front}
+use Rattle.driver_laws.specs.rules.Entries.{State, changed_in_front, unchanged, written_back}
 
 -- noise of a sector that was armed later strikes first
 abbrev pub NewNoiseInFrontOfItsSector : Type 0
@@ -17,3 +17,15 @@ ChangedBytesHeldBack = (e : Cached) (bytes : List ℕ) (s : State) → s.entries
 -- or it does not count as changed
 abbrev pub ChangeNotNoted : Type 0
 ChangeNotNoted = (e : Cached) (bytes : List ℕ) (s : State) → s.entries ≡ e ∷ [] → (changed_in_front e.unit e.block bytes s).entries ≡ record e { bytes = bytes; changed = false } ∷ [] → ⊥
+
+-- a sync does not write an entry back that was changed,
+abbrev pub ChangedEntryNotWrittenBack : Type 0
+ChangedEntryNotWrittenBack = (e : Cached) → e.changed ≡ true → written_back (e ∷ []) ≡ [] → ⊥
+
+-- or one that was not,
+abbrev pub UnchangedEntryWrittenBack : Type 0
+UnchangedEntryWrittenBack = (e : Cached) → e.changed ≡ false → written_back (e ∷ []) ≢ [] → ⊥
+
+-- or an entry counts as changed behind it
+abbrev pub EntryLeftChanged : Type 0
+EntryLeftChanged = (e : Cached) → (unchanged e).changed ≡ true → ⊥

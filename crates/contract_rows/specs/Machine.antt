@@ -72,6 +72,14 @@ FirstBlocksLoaded = (u : ℕ) (h : Held) (write : Bool) (t : TransferState) (a :
 abbrev pub StepsForgotten : Type 0
 StepsForgotten = (line u p taken : ℕ) (s : Scene) → 0 < taken → (effect line u p (Attn taken) s).unit.phase ≡ Due (Steps 0) → ⊥
 
+-- or its drive has the attention still,
+abbrev pub AttentionLeftUp : Type 0
+AttentionLeftUp = (line u p taken : ℕ) (s : Scene) → (effect line u p (Attn taken) s).unit.drive.attention ≡ true → ⊥
+
+-- or the adapter has it
+abbrev pub AttentionLeftAtTheAdapter : Type 0
+AttentionLeftAtTheAdapter = (line p taken : ℕ) (s : Scene) → s.adapter.state.attentions ≡ 255 → (effect line 0 p (Attn taken) s).adapter.state.attentions ≡ 255 → ⊥
+
 -- a block was repaired, and is judged again
 abbrev pub RepairedBlockJudgedAgain : Type 0
 RepairedBlockJudgedAgain = (line u p moved at pattern : ℕ) (s : Scene) → (effect line u p (Repair moved at pattern) s).unit.phase ≡ Due (Judge moved Clean) → ⊥

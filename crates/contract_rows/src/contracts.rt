@@ -3,8 +3,8 @@
 
 ghost use Rattle.contract_rows.specs.Memory.{FirstPieceOnly, KnownFrameTakenForTheSame, ByteWrittenTakenForItsFrame, NextFrameNotAsked, OldBytesBehindTheEnd, LentFrameLeftFree, FramesWithoutTheOffset};
 ghost use Rattle.contract_rows.specs.Drives.{TwelvePlaceBurst, BurstPastTheEnd, WritesForgotten, WriteHeldBack, SectorWrittenWithoutItsZeros, MarkTestedBeforeTheArmedFault, NewestNoiseStrikes, ByteCountNotShortened, CompletionOneSectorEarly, MarkedSectorLetThrough, MarkedBlockWritten};
-ghost use Rattle.contract_rows.specs.Machine.{FirstFailureIsFinal, OneSeekAtATime, RtcForgotten, RetryNamesTheFirstBlock, ReplacementForwardedAgain, NewestAnswerTakenFirst, AnswerAtAnotherLine, AllOthersLeaveTheAdapter, HighestUnitFirst, FramesBeforePartition, FirstBlocksLoaded, StepsForgotten, RepairedBlockJudgedAgain, AdapterLeftBusy, CompletionLeftUp, BufferLeftOnTheBus, EachSectorTheFirstBlock, InterruptBeforeTheCompletion, RefusalStopsTheAdapter};
-ghost use Rattle.contract_rows.specs.Entries.{NewNoiseInFrontOfItsSector, ChangedBytesHeldBack, ChangeNotNoted};
+ghost use Rattle.contract_rows.specs.Machine.{FirstFailureIsFinal, OneSeekAtATime, RtcForgotten, RetryNamesTheFirstBlock, ReplacementForwardedAgain, NewestAnswerTakenFirst, AnswerAtAnotherLine, AllOthersLeaveTheAdapter, HighestUnitFirst, FramesBeforePartition, FirstBlocksLoaded, StepsForgotten, AttentionLeftUp, AttentionLeftAtTheAdapter, RepairedBlockJudgedAgain, AdapterLeftBusy, CompletionLeftUp, BufferLeftOnTheBus, EachSectorTheFirstBlock, InterruptBeforeTheCompletion, RefusalStopsTheAdapter};
+ghost use Rattle.contract_rows.specs.Entries.{NewNoiseInFrontOfItsSector, ChangedBytesHeldBack, ChangeNotNoted, ChangedEntryNotWrittenBack, UnchangedEntryWrittenBack, EntryLeftChanged};
 ghost use Rattle.contract_rows.specs.Bytes.{WriteNotAtItsHome, NeighbourWritten, OtherBlockRead, BurstElsewhere, UnusableBlockDone, UnmarkedBlockForwarded, OtherEntryForwarded, TableOfAnotherPack, AnsweredWithOtherBytes};
 ghost use Rattle.contract_rows.specs.Slots.{FrameLost, PutBackUnderAnotherKey, BitLeftOnBehindTheArrival, BitOfAnotherUnit};
 
@@ -54,6 +54,8 @@ pub fn machine_law()
 /// Rules out wrong single steps of the driver: by what a deed leaves, and by the acts of an event.
 pub fn deeds_law()
     ensures steps_forgotten { StepsForgotten }
+    ensures attention_left_up { AttentionLeftUp }
+    ensures attention_left_at_the_adapter { AttentionLeftAtTheAdapter }
     ensures repaired_block_judged_again { RepairedBlockJudgedAgain }
     ensures adapter_left_busy { AdapterLeftBusy }
     ensures completion_left_up { CompletionLeftUp }
@@ -63,11 +65,15 @@ pub fn deeds_law()
     ensures refusal_stops_the_adapter { RefusalStopsTheAdapter }
 {}
 
-/// Rules out wrong entries of noise and of a cache: by where an entry is put, and by what a change leaves of one.
+/// Rules out wrong entries of noise and of a cache: by where an entry is put, by what a change leaves of one, and by what a sync writes
+/// back and leaves.
 pub fn entries_law()
     ensures new_noise_in_front_of_its_sector { NewNoiseInFrontOfItsSector }
     ensures changed_bytes_held_back { ChangedBytesHeldBack }
     ensures change_not_noted { ChangeNotNoted }
+    ensures changed_entry_not_written_back { ChangedEntryNotWrittenBack }
+    ensures unchanged_entry_written_back { UnchangedEntryWrittenBack }
+    ensures entry_left_changed { EntryLeftChanged }
 {}
 
 /// Rules out wrong slots and a wrong row of the units' bits, by what they keep.

@@ -3,13 +3,13 @@ use crate::few_blocks::{FewBlocks, Wrong, few_blocks};
 use bad144_table::{empty_table, insert, write_table};
 use callers::{attached, write_then_read};
 use mass_outside::mem_streams::SureSink;
-use outside_traits::traits::Packs;
+use outside_traits::traits::{NoMemory, Packs};
 use pack_geometry::{DriveKind, Place, copy_block};
 use std::alloc::Global;
 
 /// An RM03 of which block 419, on cylinder 2 in sector 3 of track 3, is marked; its five copies of the table list it, or nothing.
-fn marked_pack(alloc: Global, listed: bool) -> FewBlocks {
-    let mut packs = few_blocks(alloc, &[419], 0, Wrong::Fails);
+fn marked_pack(alloc: Global, listed: bool) -> Result<FewBlocks, NoMemory> {
+    let mut packs = few_blocks(alloc, &[419], 0, Wrong::Fails)?;
     let mut table = empty_table(DriveKind::Rm03, 1);
     if listed {
         let place = Place {
@@ -24,14 +24,14 @@ fn marked_pack(alloc: Global, listed: bool) -> FewBlocks {
     for k in 0..5u32 {
         let _ = packs.write(0, copy_block(DriveKind::Rm03, k), &text);
     }
-    packs
+    Ok(packs)
 }
 
 /// Whether these blocks and the first replacement begin with these bytes.
 fn begin_so(packs: &FewBlocks, firsts: [u8; 4]) -> bool {
     let blocks = [418, 419, 420, 131_647];
     for i in 0..4usize {
-        if packs.content(blocks[i])[0] != firsts[i] {
+        if packs.first_of(blocks[i]) != firsts[i] {
             return false;
         }
     }
@@ -57,7 +57,9 @@ fn asked(
 /// Whether blocks 418 to 420 come back as they were written exactly if the table lists the marked one, and whether the pack then holds
 /// these first bytes.
 fn come_back(alloc: Global, listed: bool, firsts: [u8; 4]) -> bool {
-    let mut packs = marked_pack(alloc, listed);
+    let Ok(mut packs) = marked_pack(alloc, listed) else {
+        return false;
+    };
     let mut from = [1; 1536];
     from[512] = 2;
     from[1024] = 3;

@@ -1,8 +1,10 @@
-// A pack of which few blocks are written, and on which one call goes wrong.
-ghost use Rattle.std.specs.Prelude.{◌≡◌, OnErr};
+// A pack in memory of which few blocks are written, and on which one call goes wrong.
+ghost use Rattle.std.specs.Prelude.{◌≡◌, ◌<◌, OnErr};
 ghost use Rattle.outside_traits.specs.Causes.{HasCause};
 
-use outside_traits::traits::{PackCall, Packs, StoreFailed};
+use mass_outside::mem_packs::MemPacks;
+use mass_outside::slots::Image;
+use outside_traits::traits::{NoMemory, PackCall, Packs, StoreFailed};
 use std::alloc::Global;
 
 /// How a call goes wrong.
@@ -28,40 +30,67 @@ pub(crate) struct Written {
 /// read of the two that are marked.
 pub(crate) const SURVEYED: u64 = 263_305;
 
-/// A pack full of 77, on which one call goes wrong. Some of its blocks are marked. After the first reading of a whole RM03 all data
+/// The blocks that are full of 77: those that are written, and the last one.
+static FILLED: [u32; 14] = [
+    0, 418, 419, 420, 65_760, 131_521, 131_646, 131_647, 131_648, 131_650, 131_652, 131_654,
+    131_656, 131_679,
+];
+
+/// A pack in memory on which one call goes wrong. Some of its blocks are marked. After the first reading of a whole RM03 all data
 /// blocks are marked, except the first one, the last one, and one in the middle. It keeps what is written, and tells nothing.
 #[derive(Drop)]
 pub(crate) struct FewBlocks {
-    pub(crate) length: u64,
+    pub(crate) packs: MemPacks,
     pub(crate) calls: u64,
     pub(crate) written: Vec<Written>,
-    marks: &'static [u32],
     failed: u64,
     failed_at: PackCall,
     number: u64,
     wrong: Wrong,
 }
 
-/// A pack as long as an RM03's, with these blocks marked, of which the call of this number goes wrong in this way.
+/// A pack as long as an RM03's, with these blocks marked, of which the call of this number goes wrong in this way. `NoMemory` if there is
+/// no memory for it.
 pub(crate) fn few_blocks(
     alloc: Global,
-    marks: &'static [u32],
+    marks: &[u32],
     number: u64,
     wrong: Wrong,
-) -> FewBlocks {
-    FewBlocks {
-        length: 67_420_160,
+) -> Result<FewBlocks, NoMemory> {
+    let mut packs = MemPacks::new(alloc, Vec::new(alloc), Vec::new(alloc))?;
+    packs.put(
+        alloc,
+        Image {
+            unit: 0,
+            bytes: Vec::new(alloc),
+            marks: Vec::new(alloc),
+            blocks: 131_680,
+        },
+    )?;
+    for block in &FILLED {
+        let _ = packs.write(0, *block, &[0x77; 512]);
+    }
+    for block in marks {
+        let _ = packs.set_mark(0, *block, true);
+    }
+    Ok(FewBlocks {
+        packs,
         calls: 0,
         written: Vec::new(alloc),
-        marks,
         failed: 0,
         failed_at: PackCall::Length { unit: 0 },
         number,
         wrong,
-    }
+    })
 }
 
 impl FewBlocks {
+    /// From now on the call of this number fails, counted from here.
+    pub(crate) fn fail(&mut self, number: u64) {
+        self.calls = 0;
+        self.number = number;
+    }
+
     /// Counts a call, which fails if it is to fail.
     fn call(&mut self, call: PackCall) -> Result<(), StoreFailed>
         ensures cause { HasCause self.old.failed self.new.failed result }
@@ -85,22 +114,20 @@ impl FewBlocks {
         }
     }
 
-    /// What a block holds.
-    pub(crate) fn content(&self, block: u32) -> [u8; 512] {
-        let mut bytes = [0x77; 512];
-        for written in &self.written {
-            if written.block == block {
-                bytes = written.bytes;
-            }
-        }
-        bytes
+    /// The first byte of a block.
+    pub(crate) fn first_of(&self, block: u32) -> u8 {
+        let mut bytes = [0; 512];
+        self.packs.slot(0).read(block, &mut bytes);
+        bytes[0]
     }
 
-    /// Keeps what is written.
-    fn keep(&mut self, block: u32, bytes: &[u8; 512])
+    /// Writes a block, and notes it by the number of the call.
+    fn keep(&mut self, unit: u8, block: u32, bytes: &[u8; 512])
+        requires { unit < 32 }
         ensures failed { self.new.failed ≡ self.old.failed }
         ensures failed_at { self.new.failed_at ≡ self.old.failed_at }
     {
+        let _ = self.packs.write(unit, block, bytes);
         let _ = self.written.push(Written {
             call: self.calls,
             block,
@@ -123,12 +150,12 @@ impl Packs for FewBlocks {
 
     fn length(&mut self, unit: u8) -> Result<u64, StoreFailed> {
         self.call(PackCall::Length { unit })?;
-        Ok(self.length)
+        Ok(self.packs.slot(unit).length())
     }
 
     fn read(&mut self, unit: u8, block: u32, into: &mut [u8; 512]) -> Result<(), StoreFailed> {
         self.call(PackCall::Block { unit, block })?;
-        *into = self.content(block);
+        self.packs.slot(unit).read(block, into);
         if matches!(self.wrong_now(), Some(Wrong::Lies)) {
             into[511] = !into[511];
         }
@@ -138,7 +165,7 @@ impl Packs for FewBlocks {
     fn write(&mut self, unit: u8, block: u32, from: &[u8; 512]) -> Result<(), StoreFailed> {
         let called = self.call(PackCall::Block { unit, block });
         if matches!(self.wrong_now(), None | Some(Wrong::FailsBehind)) {
-            self.keep(block, from);
+            self.keep(unit, block, from);
         }
         called
     }
@@ -147,7 +174,7 @@ impl Packs for FewBlocks {
         self.call(PackCall::Block { unit, block })?;
         let lies = matches!(self.wrong_now(), Some(Wrong::Lies));
         let good = block == 0 || block == 65_760 || block > 131_520;
-        Ok(lies || self.marks.contains(&block) || (!good && self.calls > SURVEYED))
+        Ok(lies || self.packs.slot(unit).marked(block) || (!good && self.calls > SURVEYED))
     }
 
     fn set_mark(&mut self, _: u8, _: u32, _: bool) -> Result<(), StoreFailed> {

@@ -3,7 +3,7 @@ ghost use Rattle.std.specs.Prelude.{◌<◌};
 ghost use Rattle.pack_geometry.specs.Geometry.{block_count};
 ghost use Rattle.pack_geometry.specs.declared.DriveKind.TheVariants.{Rm03};
 
-use crate::few_blocks::{SURVEYED, Written, Wrong, few_blocks};
+use crate::few_blocks::{FewBlocks, SURVEYED, Written, Wrong, few_blocks};
 use Wrong::{Fails, FailsBehind, Lies};
 use pack_format::testing::Station;
 use pack_format::{FormatFault, FormatReport, format};
@@ -76,7 +76,9 @@ enum End {
 /// Whether a run in which this call goes wrong so ends with the last of so many calls, and has written just what a whole run writes before
 /// it, and by the call itself where that did what it was to do.
 fn ends(alloc: Global, number: u64, wrong: Wrong, calls: u64, end: End) -> bool {
-    let mut packs = few_blocks(alloc, &[5, 160], number, wrong);
+    let Ok(mut packs) = few_blocks(alloc, &[5, 160], number, wrong) else {
+        return false;
+    };
     let is_told = match (format(alloc, &mut packs, 0, DriveKind::Rm03, 9), end) {
         (Ok(FormatReport { bad }), End::Formatted) => bad == 2,
         (Err(FormatFault::Store), End::Stopped) => true,
@@ -171,23 +173,29 @@ fn each_write_comes_back_otherwise(rt: HostRuntime) {
 }
 
 /// Whether the reading of a block fails with this one of its calls, and makes no other call after it.
-fn fails_with(alloc: Global, block: u32, number: u64) -> bool
+fn fails_with(alloc: Global, packs: &mut FewBlocks, block: u32, number: u64) -> bool
     requires { block < block_count Rm03 }
 {
     let Ok(mut station) = Station::new(alloc, DriveKind::Rm03) else {
         return false;
     };
-    let mut packs = few_blocks(alloc, &[5, 160], number, Fails);
+    packs.fail(number);
     let mut bytes = [0; 512];
-    let polled = station.poll_read(&mut packs, 0, DriveKind::Rm03, block, &mut bytes);
+    let polled = station.poll_read(packs, 0, DriveKind::Rm03, block, &mut bytes);
     polled.is_err() && packs.calls == number
 }
 
 /// Whether the reading of each block of an RM03 fails with each of its calls: a mark, and a read if the block is not marked.
 fn fails_with_each(alloc: Global) -> bool {
+    let Ok(mut packs) = few_blocks(alloc, &[5, 160], 1, Fails) else {
+        return false;
+    };
     for block in 0..131_680u32 {
         let is_marked = block == 5 || block == 160;
-        if !fails_with(alloc, block, 1) || !(is_marked || fails_with(alloc, block, 2)) {
+        let packs = &mut packs;
+        if !fails_with(alloc, packs, block, 1)
+            || !(is_marked || fails_with(alloc, packs, block, 2))
+        {
             return false;
         }
     }

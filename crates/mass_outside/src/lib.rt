@@ -12,6 +12,7 @@
 pub mod mem_packs;
 pub mod mem_streams;
 pub mod slots;
+mod sparse;
 pub mod sure_packs;
 
 pub use outside_files::{file_sink, files, folder, os_folder, streams};

@@ -109,7 +109,7 @@ pub(crate) fn slots_of(alloc: Global, mut images: Vec<Image>) -> Result<Vec<Slot
     let mut slots = empty_slots(alloc)?;
     while let Some(image) = images.pop() {
         let unit = image.unit as usize;
-        let slot = Slot::of(image)?;
+        let slot = Slot::of(alloc, image)?;
         if unit < 32 {
             slots[unit] = slot;
         }
@@ -117,8 +117,21 @@ pub(crate) fn slots_of(alloc: Global, mut images: Vec<Image>) -> Result<Vec<Slot
     Ok(slots)
 }
 
+/// The same slots once more.
+fn copies_of(alloc: Global, slots: &[Slot]) -> Result<Vec<Slot>, AllocError>
+    ensures { IfOk result (λ made. made.items ≡ slots.now) }
+{
+    let mut made = Vec::new(alloc);
+    for slot in slots {
+        made.push(slot.copy(alloc)?)?;
+    }
+    Ok(made)
+}
+
 impl MemPacks {
+    ghost use Rattle.std.specs.Prelude.{Some, slice_get, slice_set};
     ghost use Rattle.outside_traits.specs.Causes.{next};
+    ghost use Rattle.mass_outside.specs.Images.{image_slot};
 
     /// Packs with these images, and the list of the calls that are to fail. If a unit has several images, the first one
     /// counts. The call reserves the room for the blocks and marks of the images, so that no later call takes memory.
@@ -140,6 +153,66 @@ impl MemPacks {
             faults: 0,
             failed_at: PackCall::Length { unit: 0 },
         })
+    }
+
+    /// From now on these calls fail, and the calls of each operation are counted anew.
+    pub fn fail(&mut self, fail: Vec<FailCall>)
+        ensures { self.new ≡ record self.old { fail = fail.items; lengths = 0; reads = 0; writes = 0; markeds = 0; set_marks = 0 } }
+    {
+        self.fail = fail;
+        self.lengths = 0;
+        self.reads = 0;
+        self.writes = 0;
+        self.markeds = 0;
+        self.set_marks = 0;
+    }
+
+    /// Puts an image in the place of the pack of its unit; nothing changes if the unit is above 31. The call reserves the room for
+    /// the blocks and marks. `NoMemory` if the room is not available; then nothing changes.
+    pub fn put(&mut self, alloc: Global, image: Image) -> Result<(), NoMemory>
+        ensures ok { OnOk result (self.new ≡ record self.old { slots = slice_set self.old.slots image.unit (image_slot image) }) }
+        ensures err { OnErr result (self.new ≡ self.old) }
+    {
+        let unit = image.unit as usize;
+        let slot = Slot::of(alloc, image)?;
+        if unit < 32 {
+            self.slots[unit] = slot;
+        }
+        Ok(())
+    }
+
+    /// The same packs once more, with room reserved for their blocks and marks. `NoMemory` if there is no memory for them.
+    pub fn copy(&self, alloc: Global) -> Result<MemPacks, NoMemory>
+        ensures { IfOk result (λ packs. packs ≡ self.now) }
+    {
+        let slots = copies_of(alloc, self.slots.as_slice())?;
+        let fail = Vec::from_slice(alloc, self.fail.as_slice())?;
+        Ok(MemPacks {
+            slots,
+            fail,
+            lengths: self.lengths,
+            reads: self.reads,
+            writes: self.writes,
+            markeds: self.markeds,
+            set_marks: self.set_marks,
+            faults: self.faults,
+            failed_at: self.failed_at,
+        })
+    }
+
+    /// How many calls of `set_mark` were made.
+    pub fn set_marks(&self) -> u64
+        ensures { result ≡ self.now.set_marks }
+    {
+        self.set_marks
+    }
+
+    /// The pack of a unit. To look at it is no call of the packs: it is not counted and does not fail.
+    pub fn slot(&self, unit: u8) -> &Slot
+        requires { unit < 32 }
+        ensures { slice_get self.now.slots unit ≡ Some result.now }
+    {
+        &self.slots[unit as usize]
     }
 
     /// Counts a failure of this call.

@@ -1,6 +1,7 @@
 ghost use Rattle.std.specs.Prelude.{◌≡◌, ◌+◌, ◌*◌, ◌^◌, ◌<◌, ◌≤◌, ◌++◌, length, take, drop, vec_len, vec_capacity, IfOk, OnOk};
-ghost use Rattle.pack_geometry.specs.Pack.{block_at, grown, window, with_block, with_window};
+ghost use Rattle.pack_geometry.specs.Pack.{grown, with_window};
 
+use crate::sparse::{Sparse, with_room};
 use std::alloc::{AllocError, Global};
 use std::marker::Model;
 
@@ -15,16 +16,6 @@ pub struct Image {
     pub marks: Vec<u8>,
     /// Blocks below this number can be written and marked.
     pub blocks: u32,
-}
-
-/// Reads a window of bytes. Bytes past the end are zeros.
-fn read_window(bytes: &[u8], at: usize, into: &mut [u8])
-    requires { at + length into.old < 2 ^ 64 }
-    ensures { into.new ≡ window (length into.old) at bytes.now }
-{
-    for (i, byte) in into.iter_mut().enumerate() {
-        *byte = bytes.get(at + i).copied().unwrap_or(0);
-    }
 }
 
 /// Writes bytes at a place inside.
@@ -61,58 +52,27 @@ fn write_window(bytes: &mut Vec<u8>, at: usize, from: &[u8])
     put_at(bytes.as_mut_slice(), at, from);
 }
 
-/// Reads a block of an image.
-#[tactic(auto, unfolding(pack_geometry::specs::Pack::block_at))]
-fn read_block(bytes: &[u8], block: u32, into: &mut [u8; 512])
-    ensures { into.new ≡ block_at bytes.now block }
-{
-    read_window(bytes, 512 * block as usize, into);
-}
-
-/// Replaces a block of an image that has room for it.
-#[tactic(auto, unfolding(pack_geometry::specs::Pack::with_block))]
-fn write_block(bytes: &mut Vec<u8>, block: u32, from: &[u8; 512])
-    requires { 512 * block + 512 ≤ vec_capacity bytes.old }
-    ensures items { bytes.new.items ≡ with_block bytes.old.items block from.now }
-    ensures capacity { vec_capacity bytes.old ≤ vec_capacity bytes.new }
-{
-    write_window(bytes, 512 * block as usize, from);
-}
-
-/// These bytes, with room reserved for a size.
-fn with_room(mut bytes: Vec<u8>, size: usize) -> Result<Vec<u8>, AllocError>
-    ensures same { IfOk result (λ made. made.items ≡ bytes.items) }
-    ensures room { IfOk result (λ made. size ≤ vec_capacity made) }
-{
-    let len = bytes.len();
-    if size > len {
-        bytes.reserve(size - len)?;
-    }
-    Ok(bytes)
-}
-
 /// The pack of a unit in memory. Its room is reserved when the slot is made.
 #[derive(Drop)]
 pub struct Slot {
-    bytes: Vec<u8>,
+    image: Sparse,
     marks: Vec<u8>,
-    blocks: u32,
 }
 
 impl Model for Slot {
-    ghost use Rattle.std.specs.Prelude.{◌*◌, ◌≤◌, vec_capacity};
+    ghost use Rattle.std.specs.Prelude.{◌≤◌, vec_capacity};
     ghost use Rattle.mass_outside.specs.Slots.{SlotView};
 
     ghost Value = { SlotView };
 
-    ghost view = { λ s. record { pack = record { image = s.bytes.items; marks = s.marks.items }; blocks = s.blocks } };
+    ghost view = { λ s. record { pack = record { image = s.image.image; marks = s.marks.items }; blocks = s.image.blocks } };
 
-    ghost invariant = { λ s. (512 * s.blocks ≤ vec_capacity s.bytes) × (s.blocks ≤ vec_capacity s.marks) };
+    ghost invariant = { λ s. s.image.blocks ≤ vec_capacity s.marks };
 }
 
 impl Slot {
     ghost use Rattle.std.specs.Prelude.{nat_lt};
-    ghost use Rattle.pack_geometry.specs.Pack.{is_marked};
+    ghost use Rattle.pack_geometry.specs.Pack.{block_at, is_marked};
     ghost use Rattle.mass_outside.specs.Images.{image_slot};
     ghost use Rattle.mass_outside.specs.Slots.{empty_slot, slot_written, slot_marked};
 
@@ -121,45 +81,49 @@ impl Slot {
         ensures { result ≡ empty_slot }
     {
         Slot {
-            bytes: Vec::new(alloc),
+            image: Sparse::empty(alloc),
             marks: Vec::new(alloc),
-            blocks: 0,
         }
     }
 
     /// A slot with the content of an image, and room for its blocks.
-    pub fn of(image: Image) -> Result<Slot, AllocError>
+    pub fn of(alloc: Global, image: Image) -> Result<Slot, AllocError>
         ensures { IfOk result (λ slot. slot ≡ image_slot image) }
     {
-        let blocks = image.blocks;
-        let bytes = with_room(image.bytes, 512 * blocks as usize)?;
-        let marks = with_room(image.marks, blocks as usize)?;
-        Ok(Slot {
-            bytes,
-            marks,
-            blocks,
-        })
+        let marks = with_room(image.marks, image.blocks as usize)?;
+        let image = Sparse::of(alloc, image.bytes, image.blocks)?;
+        Ok(Slot { image, marks })
+    }
+
+    /// The same slot once more.
+    pub fn copy(&self, alloc: Global) -> Result<Slot, AllocError>
+        ensures { IfOk result (λ slot. slot ≡ self.now) }
+    {
+        let image = self.image.copy(alloc)?;
+        let marks = Vec::from_slice(alloc, self.marks.as_slice())?;
+        let marks = with_room(marks, image.blocks() as usize)?;
+        Ok(Slot { image, marks })
     }
 
     /// Whether there is room for a block.
     pub fn has(&self, block: u32) -> bool
         ensures { result ≡ nat_lt block self.now.blocks }
     {
-        block < self.blocks
+        block < self.image.blocks()
     }
 
     /// The length of the image, in bytes.
     pub fn length(&self) -> u64
         ensures { result ≡ length self.now.pack.image }
     {
-        self.bytes.len() as u64
+        self.image.length()
     }
 
     /// Reads a block.
     pub fn read(&self, block: u32, into: &mut [u8; 512])
         ensures { into.new ≡ block_at self.now.pack.image block }
     {
-        read_block(self.bytes.as_slice(), block, into);
+        self.image.read(block, into);
     }
 
     /// Replaces a block for which there is room.
@@ -167,7 +131,7 @@ impl Slot {
         requires { block < self.old.blocks }
         ensures { self.new ≡ slot_written self.old block from.now }
     {
-        write_block(&mut self.bytes, block, from);
+        self.image.write(block, from);
     }
 
     /// Whether a block is marked.

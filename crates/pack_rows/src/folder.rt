@@ -4,7 +4,11 @@ ghost use Rattle.std.specs.Prelude.{◌<◌, ◌≤◌, length, IfOk};
 use crate::steps::{Call, Step, failures_over};
 use Call::{Length, Mark, Marked, Read, Write};
 use Step::Of;
+use mass_outside::mem_packs::MemPacks;
+use mass_outside::slots::Image;
 use outside_files::folder::{PackFolder, Part};
+use outside_traits::traits::{NoMemory, Packs, StoreFailed};
+use std::alloc::Global;
 use std::io;
 use std::io::ErrorKind;
 
@@ -19,67 +23,82 @@ struct Habit {
     interrupted: u64,
 }
 
-/// A file in memory.
-#[derive(Clone, Copy)]
-struct MemFile {
-    bytes: [u8; 8192],
-    length: u64,
-}
+/// How many blocks unit 0 has room for.
+const ROOM: u32 = 16;
 
-/// The two files of unit 0 in memory.
+/// The two files of each unit, as packs in memory hold them. A file of marks has a byte for each block.
 #[derive(Drop)]
 struct MemFolder {
-    files: [MemFile; 2],
+    packs: MemPacks,
     habit: Habit,
     calls: u64,
     interrupts: u8,
 }
 
-/// An empty file.
-const EMPTY: MemFile = MemFile {
-    bytes: [0; 8192],
-    length: 0,
-};
+/// The block of a byte of an image, and the place of the byte there.
+fn place_of(at: u64) -> (u32, usize)
+    ensures { result.1 < 512 }
+{
+    (
+        u32::try_from(at / 512).unwrap_or(u32::MAX),
+        (at % 512) as usize,
+    )
+}
 
 impl MemFolder {
-    /// A folder with an image of 700 bytes 255.
-    fn new(habit: Habit) -> MemFolder {
-        let mut image = EMPTY;
-        image.bytes[..700].fill(0xFF);
-        image.length = 700;
-        MemFolder {
-            files: [image, EMPTY],
+    /// A folder with an image of 700 bytes 255. `NoMemory` if there is no memory for it.
+    fn new(alloc: Global, habit: Habit) -> Result<MemFolder, NoMemory> {
+        let mut packs = MemPacks::new(alloc, Vec::new(alloc), Vec::new(alloc))?;
+        packs.put(
+            alloc,
+            Image {
+                unit: 0,
+                bytes: vec![in alloc; 0xFF; 700]?,
+                marks: Vec::new(alloc),
+                blocks: ROOM,
+            },
+        )?;
+        Ok(MemFolder {
+            packs,
             habit,
             calls: 0,
             interrupts: 0,
+        })
+    }
+
+    /// How many bytes a file has.
+    fn size_of(&self, unit: u8, part: Part) -> u64 {
+        match part {
+            Part::Image => self.packs.slot(unit % 32).length(),
+            Part::Marks => u64::from(ROOM),
         }
     }
 
-    /// The bytes of a file from a place on.
-    fn rest(&self, number: usize, at: u64) -> &[u8] {
-        match self.files.get(number) {
-            Some(file) => file
-                .bytes
-                .get(at as usize..file.length as usize)
-                .unwrap_or(b""),
-            None => b"",
+    /// A byte of a file.
+    fn byte_at(&self, unit: u8, part: Part, at: u64) -> u8 {
+        let slot = self.packs.slot(unit % 32);
+        let (block, place) = place_of(at);
+        let mut bytes = [0; 512];
+        match part {
+            Part::Image => slot.read(block, &mut bytes),
+            Part::Marks => bytes[place] = u8::from(slot.marked(place as u32)),
         }
+        bytes[place]
     }
 
-    /// Puts bytes at a place of a file, and answers whether there was room for them.
-    fn put(&mut self, number: usize, at: u64, from: &[u8]) -> bool {
-        let Some(file) = self.files.get_mut(number) else {
-            return false;
-        };
-        let end = at.saturating_add(from.len() as u64);
-        let Some(room) = file.bytes.get_mut(at as usize..end as usize) else {
-            return false;
-        };
-        if room.len() == from.len() {
-            room.copy_from_slice(from);
+    /// Puts a byte at a place of a file.
+    fn put(&mut self, unit: u8, part: Part, at: u64, byte: u8) -> Result<(), StoreFailed> {
+        let unit = unit % 32;
+        let (block, place) = place_of(at);
+        let mut bytes = [0; 512];
+        match part {
+            Part::Image => {
+                self.packs.slot(unit).read(block, &mut bytes);
+                bytes[place] = byte;
+                self.packs.write(unit, block, &bytes)
+            }
+            Part::Marks => self.packs.set_mark(unit, place as u32, byte != 0),
         }
-        file.length = file.length.max(end);
-        true
     }
 
     /// How many of the bytes that are asked the next call moves.
@@ -112,25 +131,28 @@ impl PackFolder for MemFolder {
 
     fn length(&mut self, unit: u8, part: Part) -> io::Result<u64> {
         self.next(0)?;
-        Ok(
-            self.files
-                .get(part.number(unit))
-                .map_or(0, |file| file.length),
-        )
+        Ok(self.size_of(unit, part))
     }
 
     fn read_at(&mut self, unit: u8, part: Part, at: u64, into: &mut [u8]) -> io::Result<usize> {
         let most = self.next(into.len())?;
-        let mut rest = self.rest(part.number(unit), at);
-        io::Read::read(&mut rest, &mut into[..most])
+        let rest = self.size_of(unit, part).saturating_sub(at);
+        let count = most.min(rest as usize);
+        for (i, byte) in into[..count].iter_mut().enumerate() {
+            *byte = self.byte_at(unit, part, at.saturating_add(i as u64));
+        }
+        Ok(count)
     }
 
     fn write_at(&mut self, unit: u8, part: Part, at: u64, from: &[u8]) -> io::Result<usize> {
         let count = self.next(from.len())?;
-        if self.put(part.number(unit), at, &from[..count]) {
-            return Ok(count);
+        for (i, byte) in from[..count].iter().enumerate() {
+            let put = self.put(unit, part, at.saturating_add(i as u64), *byte);
+            if put.is_err() {
+                return Err(io::Error::from(ErrorKind::NotFound));
+            }
         }
-        Err(io::Error::from(ErrorKind::NotFound))
+        Ok(count)
     }
 }
 
@@ -180,7 +202,8 @@ fn failures_by(rt: &HostRuntime, short: usize, fail: u64, interrupted: u64) -> O
         fail,
         interrupted,
     };
-    failures_over(rt, MemFolder::new(habit), &CALLS)
+    let folder = MemFolder::new(rt.alloc(), habit).ok()?;
+    failures_over(rt, folder, &CALLS)
 }
 
 /// Whether no call fails if the calls of the folder are short by `short` bytes and each of them, in turn, is interrupted.

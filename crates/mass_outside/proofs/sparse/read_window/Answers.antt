@@ -2,7 +2,7 @@ use Rattle.std.proofs.Common.{◌≡◌, ℕ, ◌<◌, length, sym, ◌∙◌, a
 use Rattle.std.proofs.lemmas.Grind.{same_number_lists}
 use Rattle.pack_geometry.specs.Pack.{window}
 use Rattle.pack_geometry.proofs.PackLaws.{length-window, get_or-window}
-use Rattle.mass_outside.proofs.slots.read_window.Goals as goal
+use Rattle.mass_outside.proofs.sparse.read_window.Goals as goal
 
 pub returns : goal.returns
 returns c =

@@ -1,0 +1,48 @@
+use Rattle.std.proofs.Common.{◌*◌, ◌+◌, ◌++◌, ◌∷◌, [], ℕ, List, max, refl, ap, ◌∙◌, arith}
+use Rattle.pack_geometry.specs.Pack.{with_block}
+use Rattle.mass_outside.specs.Sparse.{SparseView, overlaid}
+use Rattle.mass_outside.proofs.SparseLaws.{write_some, kept_some, write_none, kept_none, room_none, kept_as}
+use Rattle.mass_outside.proofs.sparse.Sparse.write.Goals as goal
+
+pub invariant_of-self : goal.invariant_of-self
+invariant_of-self c = (
+  kept_as _ _ _ _ _ _ _ _ refl refl (c.max-self-inside.ensures ∙ ap (λ n. max c.self.inside.size (512 * n + 512)) c.from.ensures)
+      (kept_some _ _ c.as_slice.result.now _ _ _ c.args.block c.in-Some.place c.args.from.now c.self.invariant.0 c.as_slice.ensures.value c.in-Some.ensures c.told-from),
+  c.self.invariant.1,
+  c.self.invariant.2,
+)
+
+pub push_reserved-requires : goal.push_reserved-requires
+push_reserved-requires c =
+    let blocks = ap (λ (s : SparseView). s.blocks) c.self.view_is in
+    let room = room_none _ _ c.as_slice.result.now _ _ _ c.args.block c.self.invariant.0 c.as_slice.ensures.value c.in-None.ensures (omega (arith, c.requires, blocks)) in
+    omega (arith, room, c.self.inside.written.ok.0, c.self.invariant.1)
+
+pub push_reserved-requires-in-None : goal.push_reserved-requires-in-None
+push_reserved-requires-in-None c =
+    let blocks = ap (λ (s : SparseView). s.blocks) c.self.view_is in
+    let room = room_none _ _ c.as_slice.result.now _ _ _ c.args.block c.self.invariant.0 c.as_slice.ensures.value c.in-None.ensures (omega (arith, c.requires, blocks)) in
+    omega (arith, room, c.self.inside.kept.ok.0, c.self.invariant.0.each, c.self.invariant.2)
+
+pub invariant_of-self-in-None : goal.invariant_of-self-in-None
+invariant_of-self-in-None c =
+    let blocks = ap (λ (s : SparseView). s.blocks) c.self.view_is in (
+      kept_as _ _ _ _ _ _ _ _ c.push_reserved.ensures.items c.push_reserved-in-None.ensures.items (c.max-self-inside.ensures ∙ ap (λ n. max c.self.inside.size (512 * n + 512)) c.from.ensures)
+          (kept_none _ _ c.as_slice.result.now _ _ _ c.args.block c.args.from.now c.self.invariant.0 c.as_slice.ensures.value c.in-None.ensures c.told-from (omega (arith, c.requires, blocks))),
+      omega (arith, c.self.invariant.1, c.push_reserved.ensures.capacity),
+      omega (arith, c.self.invariant.2, c.push_reserved-in-None.ensures.capacity),
+    )
+
+pub returns-in-Some : goal.returns-in-Some
+returns-in-Some c =
+    ap (λ (image : List ℕ). record { image = image; blocks = c.self.inside.blocks })
+    (write_some _ _ c.as_slice.result.now _ _ _ c.args.block c.in-Some.place c.args.from.now c.self.invariant.0 c.as_slice.ensures.value c.in-Some.ensures c.told-from)
+    ∙ ap (λ (s : SparseView). record { image = with_block s.image c.args.block c.args.from.now; blocks = s.blocks }) c.self.view_is
+
+pub returns-in-None : goal.returns-in-None
+returns-in-None c =
+    ap (λ (numbers : List ℕ). record { image = overlaid c.self.inside.given.items numbers c.push_reserved-in-None.new.self.items; blocks = c.self.inside.blocks }) c.push_reserved.ensures.items
+    ∙ ap (λ (blocks : List (List ℕ)). record { image = overlaid c.self.inside.given.items (c.self.inside.written.items ++ c.args.block ∷ []) blocks; blocks = c.self.inside.blocks }) c.push_reserved-in-None.ensures.items
+    ∙ ap (λ (image : List ℕ). record { image = image; blocks = c.self.inside.blocks })
+    (write_none _ _ c.as_slice.result.now _ _ _ c.args.block c.args.from.now c.self.invariant.0 c.as_slice.ensures.value c.in-None.ensures c.told-from)
+    ∙ ap (λ (s : SparseView). record { image = with_block s.image c.args.block c.args.from.now; blocks = s.blocks }) c.self.view_is
