@@ -287,8 +287,9 @@ fn transfer_refusal<'a>(ending: &Ending<'a>) -> Option<Sentence<'a>> {
         ));
     }
     let (done, what) = match ending.out {
+        _ if is(word(ending.words, 1), "read") => (ending.output.taken, "read"),
         [_, _, done] => (value(done), "written"),
-        _ => (ending.output.taken, "read"),
+        _ => return None,
     };
     let block = at.saturating_add(done) / 512;
     Some(say(
