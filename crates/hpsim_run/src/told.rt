@@ -14,7 +14,7 @@ use outside_files::os_folder::OsFolder;
 use outside_files::streams::{StdSink, StdSource};
 use outside_traits::traits::{Sink, Source};
 use pack_windows::window_packs::WindowPacks;
-use reasons::ending::Ending;
+use reasons::ending::{Ending, Program};
 use reasons::lines::text_fields;
 use reasons::told::tell;
 use reasons::warnings::warn;
@@ -79,6 +79,7 @@ where
     let (status, packs) = status_over(alloc, words, folder, &mut script, &mut out, &mut trace);
     let text = text_fields(alloc, out.notes().last_piece());
     let ending = Ending {
+        program: Program::Hpsim,
         words: said.as_slice(),
         status,
         script: script.notes(),

@@ -5,11 +5,12 @@ ghost use Rattle.hpview_run.specs.Words.{command_of as the_command};
 
 use crate::trace_source::TraceSource;
 use crate::{Status, view};
+use outside_files::failure::{Deed, PackNotes};
 use outside_files::streams::{StdSink, StdSource};
 use outside_traits::traits::{Sink, Source};
+use reasons::ending::{Ending, Program};
 use reasons::lines::text_fields;
-use reasons::picture::PictureEnding;
-use reasons::told::tell_picture;
+use reasons::told::tell;
 use reasons::words::bytes_of;
 use std::alloc::Global;
 use std::io;
@@ -67,14 +68,16 @@ pub fn end_status<R: Read + Drop, T: Read + Drop, W: Write + Drop, E: Write>(
     let status = status_of(alloc, &words, &mut script, &mut trace, &mut out);
     let said = words_of(alloc, &words);
     let text = text_fields(alloc, out.notes().last_piece());
-    let ending = PictureEnding {
+    let ending = Ending {
+        program: Program::Hpview,
         words: said.as_slice(),
         status,
         script: script.notes(),
-        trace: trace.first_error(),
+        packs: PackNotes::new(),
+        trace: trace.first_error().map(|error| (Deed::Read, error)),
         out: text.as_slice(),
         output: out.notes(),
     };
-    let _ = tell_picture(alloc, &ending, errors);
+    let _ = tell(alloc, &ending, errors);
     status
 }

@@ -1,19 +1,27 @@
-// Why a run of `hpsim` ended.
-use crate::fields::kind_name;
-use crate::lines::{fields_of, kind_of_unit, line_fault, line_of};
-use crate::reason::{Came, FileName, Reason, Tried};
-use crate::refusals::{refused_line, too_long, unusable, value};
-use crate::shown::Shown;
-use crate::words::{command_fault, is, target};
-use outside_files::failure::{Deed, FileCall, PackNotes, SinkNotes, SourceNotes};
+// Why a run ended.
+use crate::lines::{check_line, fields_of, kind_of_unit, line_of};
+use crate::sentence::Piece::{Error, Letter, Number, Text, Word};
+use crate::sentence::{Piece, Sentence, say};
+use crate::words::{check_command, check_view, is, target, text_of, value, word};
+use outside_files::failure::{Deed, PackNotes, SinkNotes, SourceNotes};
+use outside_files::folder::Part;
 use pack_geometry::{DriveKind, blocks, data_limit, replacement};
-use partitions::{Part, part_of, part_range};
+use partitions::{part_of, part_range};
 use std::alloc::Global;
 use std::io;
+use std::io::ErrorKind;
 
-/// What is known of a run that ended: its words, its status, and what its files and streams kept.
+/// Which program ran.
+#[derive(Clone, Copy)]
+pub enum Program {
+    Hpsim,
+    Hpview,
+}
+
+/// What is known of a run that ended: its program, its words, its status, and what its files and streams kept.
 #[derive(Clone, Copy)]
 pub struct Ending<'a> {
+    pub program: Program,
     pub words: &'a [&'a [u8]],
     pub status: u8,
     pub script: &'a SourceNotes,
@@ -23,321 +31,388 @@ pub struct Ending<'a> {
     pub trace: Option<(Deed, io::Error)>,
 }
 
-/// Why a script was refused, from the refused line and the word for the kind of refusal.
-pub fn script_reason<'a>(
-    line: u64,
-    kind: &'a [u8],
-    script: &'a [u8],
-    fields: &[&'a [u8]],
-    is_cached: bool,
-) -> Reason<'a> {
-    let verb = fields.first().copied().unwrap_or(b"");
-    let second = Shown::new(fields.get(1).copied().unwrap_or(b""));
-    let third = Shown::new(fields.get(2).copied().unwrap_or(b""));
-    let unit = if is(verb, "read") || is(verb, "write") {
-        third
-    } else {
-        second
-    };
-    if is(kind, "scriptlong") {
-        Reason::ScriptLong
-    } else if is(kind, "linelong") {
-        Reason::LineLong { line }
-    } else if is(kind, "toomany") {
-        Reason::TooMany { line }
-    } else if is(kind, "lateunit") {
-        Reason::LateUnit { line }
-    } else if is(kind, "unittwice") {
-        Reason::UnitTwice { line, unit }
-    } else if is(kind, "unitunknown") {
-        Reason::UnitUnknown { line, unit }
-    } else if is(kind, "idtwice") {
-        Reason::IdTwice { line, id: second }
-    } else {
-        match line_fault(script, fields, is_cached) {
-            Some(fault) => Reason::Field { line, fault },
-            None if is(kind, "bits") => Reason::Bits { line },
-            None => Reason::Script {
-                line,
-                kind: Shown::new(kind),
-            },
-        }
+/// Why a line of a trace was refused, by the word for the kind of refusal.
+static TRACE_FAULTS: [(&str, &str); 5] = [
+    (
+        "long",
+        "line {} of hp.trace: the trace has more than 268435456 bytes",
+    ),
+    (
+        "word",
+        "line {} of hp.trace: the text is not a line of a trace",
+    ),
+    (
+        "order",
+        "line {} of hp.trace: its event comes before that of the line above",
+    ),
+    (
+        "ended",
+        "line {} of hp.trace: a line above has ended its request: it is perhaps the trace of another run",
+    ),
+    (
+        "script",
+        "line {} of hp.trace: no line of the script asks for it: it is perhaps the trace of another script",
+    ),
+];
+
+/// Why a line of a script was refused, by the word for the kind of refusal.
+static LINE_FAULTS: [(&str, &str); 6] = [
+    ("linelong", "the line has more than 140000 bytes"),
+    (
+        "toomany",
+        "the script is too long: it may have at most 1000000 lines, 65536 requests and 4096 'noise' lines",
+    ),
+    ("lateunit", "'unit' lines must come before all other lines"),
+    ("unittwice", "unit {} is declared already"),
+    (
+        "unitunknown",
+        "unit {} is not declared: a line 'unit U KIND' must come before",
+    ),
+    (
+        "idtwice",
+        "id {} is used already, and each request needs an id of its own",
+    ),
+];
+
+/// What a command may not have memory for.
+static NEEDS: [(&str, &str); 6] = [
+    ("play", "the script, its requests and what they move"),
+    ("cached", "the script and the cache"),
+    ("exercise", "the exercise and its packs"),
+    ("format", "the drive that tests the pack"),
+    ("raw", "the bytes that are moved"),
+    ("dump", "the bytes that are moved"),
+];
+
+/// The name of a kind of drive, in lower case.
+pub(crate) fn kind_name(kind: DriveKind) -> &'static str {
+    match kind {
+        DriveKind::Rp06 => "rp06",
+        DriveKind::Rm03 => "rm03",
+        DriveKind::Rm05 => "rm05",
     }
 }
 
-/// Why a script was refused, from the text of the refusal. None if the text is no refusal of a line, or if there is no memory.
-pub fn script_refusal<'a>(
-    alloc: Global,
-    text: &[&'a [u8]],
-    script: &'a SourceNotes,
-    is_cached: bool,
-) -> Option<Reason<'a>> {
-    let (line, kind) = refused_line(text)?;
-    let bytes = match &script.kept {
+/// The script, if it was kept.
+fn script_of<'a>(ending: &Ending<'a>) -> &'a [u8] {
+    match &ending.script.kept {
         Some(kept) => kept.as_slice(),
         None => b"",
-    };
-    match fields_of(alloc, line_of(bytes, line)) {
-        Ok(fields) => Some(script_reason(line, kind, bytes, fields.as_slice(), is_cached)),
-        Err(_) => None,
     }
 }
 
-/// The reason if an image is too long.
-fn long_image<'a>(ending: &Ending<'a>) -> Option<Reason<'a>> {
-    let (unit, length) = too_long(ending.out)?;
-    let kind = match target(ending.words) {
-        Some((_, kind)) => kind,
-        None => match &ending.script.kept {
-            Some(kept) => kind_of_unit(kept.as_slice(), unit)?,
-            None => return None,
-        },
+/// Why a line of the script was refused, from the word for the kind of refusal. None if there is no memory.
+fn line_refusal<'a>(
+    alloc: Global,
+    ending: &Ending<'a>,
+    line: u64,
+    kind: &'a [u8],
+) -> Option<Sentence<'a>> {
+    let script = script_of(ending);
+    let fields = fields_of(alloc, line_of(script, line)).ok()?;
+    let fields = fields.as_slice();
+    let verb = word(fields, 0);
+    let is_request = is(verb, "read") || is(verb, "write");
+    let named = if is_request && !is(kind, "idtwice") {
+        word(fields, 2)
+    } else {
+        word(fields, 1)
     };
-    Some(Reason::TooLong {
-        unit,
-        length,
-        kind: kind_name(kind),
-        whole: u64::from(blocks(kind)).saturating_mul(512),
+    if let Some(text) = text_of(&LINE_FAULTS, kind) {
+        return Some(say(text, &[Word(named)]).in_line(line));
+    }
+    let is_cached = is(word(ending.words, 0), "cached");
+    if let Err(fault) = check_line(script, fields, is_cached) {
+        return Some(fault.in_line(line));
+    }
+    let bits = "BITS must be 1 to 64 places from 0 to 4127, each greater than the one before";
+    Some(if is(kind, "bits") {
+        say(bits, &[]).in_line(line)
+    } else {
+        say(
+            "line {} of the script is refused: {}",
+            &[Number(line), Word(kind)],
+        )
     })
 }
 
-/// The reason if a marked replacement would be needed: its index and its block.
-fn spare(unit: u8, kind: DriveKind, index: u64) -> Option<Reason<'static>> {
-    if index > 125 {
-        return None;
-    }
-    let block = u64::from(replacement(kind, index as u32));
-    Some(Reason::Spare { unit, index, block })
-}
-
-/// Why `bad144` or `format` refused.
-fn tool_refusal<'a>(ending: &Ending<'a>) -> Option<Reason<'a>> {
-    let (unit, target) = target(ending.words)?;
-    let kind = kind_name(target);
-    let block = match ending.words {
-        [_, _, _, _, block, ..] => value(block),
-        _ => 0,
-    };
-    let last = u64::from(data_limit(target)).saturating_sub(1);
+/// Why the script or the trace was refused. None if there is no memory.
+fn refusal<'a>(alloc: Global, ending: &Ending<'a>) -> Option<Sentence<'a>> {
     match ending.out {
-        [_, word, ..] if is(word, "reserved") => Some(Reason::Reserved { block, kind, last }),
-        [_, word, ..] if is(word, "full") => Some(Reason::Full { unit }),
-        [_, word, entry, ..] if is(word, "listed") => Some(Reason::Listed {
-            block,
-            entry: value(entry),
-        }),
-        [_, word, index, ..] if is(word, "spare") => spare(unit, target, value(index)),
-        [_, word, block, ..] if is(word, "differs") => Some(Reason::Differs {
-            unit,
-            block: value(block),
-        }),
-        [_, _, word, ..] if is(word, "table") => Some(Reason::NoTable { unit, kind }),
-        [_, _, word, ..] if is(word, "copy") => Some(Reason::NoCopy { unit }),
-        [_, _, _, count, ..] => Some(Reason::TooManyMarks {
-            unit,
-            count: value(count),
-        }),
+        [_, _, _, b"scriptlong"] => Some(say("the script has more than 16777216 bytes", &[])),
+        [_, _, line, kind] => line_refusal(alloc, ending, value(line), kind),
+        [_, _, _, line, kind] => {
+            let text = text_of(&TRACE_FAULTS, kind)?;
+            Some(say(text, &[Number(value(line))]))
+        }
         _ => None,
     }
 }
 
-/// A transfer: its unit and kind of drive, its partition, and the bytes of it that it covers.
-#[derive(Clone, Copy)]
-struct Covered {
-    unit: u8,
-    kind: DriveKind,
-    part: Part,
-    letter: char,
-    at: u64,
-    size: u64,
-    reads: bool,
-}
-
-/// The bytes of a partition.
-fn bytes_of(kind: DriveKind, part: Part) -> u64 {
-    u64::from(part_range(kind, part).size).saturating_mul(512)
-}
-
-/// What a `raw` command covers, if standard input gave `given` bytes.
-fn raw_span(words: &[&[u8]], unit: u8, kind: DriveKind, given: u64) -> Option<Covered> {
-    let (letter, at, size, reads) = match words {
-        [_, _, _, _, part, at] => (part, value(at), given, false),
-        [_, _, _, _, part, at, size] => (part, value(at), value(size), true),
+/// The reason if an image is too long.
+fn long_image<'a>(ending: &Ending<'a>) -> Option<Sentence<'a>> {
+    let (unit, length) = match ending.out {
+        [_, _, _, unit, _, length] => (value(unit), Number(value(length))),
         _ => return None,
     };
-    let letter = match letter {
-        [letter] => *letter,
-        _ => return None,
+    let kind = match target(ending.words) {
+        Some((_, kind)) => kind,
+        None => kind_of_unit(script_of(ending), unit.min(31) as u8)?,
     };
-    Some(Covered {
-        unit,
-        kind,
-        part: part_of(letter)?,
-        letter: char::from(letter),
-        at,
-        size,
-        reads,
-    })
+    let unit = Number(unit);
+    let whole = Number(u64::from(blocks(kind)).saturating_mul(512));
+    Some(say(
+        "hp{}.dsk has {} bytes, and a whole {} has {}: if that is the right kind, the rest may be a footer of SIMH's, which 'truncate -s {} hp{}.dsk' removes",
+        &[unit, length, Text(kind_name(kind)), whole, whole, unit],
+    ))
 }
 
-/// What a transfer covers. A dump covers whole blocks at the end of partition `b`.
-fn span_of(ending: &Ending) -> Option<Covered> {
-    let (unit, kind) = target(ending.words)?;
+/// Why `bad144 add` refused.
+fn add_refusal<'a>(ending: &Ending<'a>, unit: u64, drive: DriveKind) -> Option<Sentence<'a>> {
+    let block = Number(value(word(ending.words, 4)));
+    let verdict = word(ending.out, 1);
+    if is(verdict, "reserved") {
+        let last = Number(u64::from(data_limit(drive)).saturating_sub(1));
+        return Some(say(
+            "block {} of an {} is not a data block: data blocks are 0 to {}, and replacements and tables follow them",
+            &[block, Text(kind_name(drive)), last],
+        ));
+    }
+    if is(verdict, "listed") {
+        let entry = Number(value(word(ending.out, 2)));
+        return Some(say("block {} is listed already, as entry {}", &[block, entry]));
+    }
+    if is(verdict, "full") {
+        let text = "the table of hp{}.dsk is full: it has 126 entries";
+        return Some(say(text, &[Number(unit)]));
+    }
+    None
+}
+
+/// Why the blocks of a pack were refused.
+fn block_refusal<'a>(ending: &Ending<'a>, unit: u64, drive: DriveKind) -> Option<Sentence<'a>> {
+    let verdict = word(ending.out, 1);
+    let third = value(word(ending.out, 2));
+    let (unit, at) = (Number(unit), Number(third));
+    if is(verdict, "spare") && third < 126 {
+        let block = Number(u64::from(replacement(drive, third as u32)));
+        return Some(say(
+            "replacement {} of hp{}.dsk (block {}) is needed, but it is marked in hp{}.bad",
+            &[at, unit, block, unit],
+        ));
+    }
+    if is(verdict, "differs") {
+        return Some(say(
+            "block {} of hp{}.dsk does not read back as it was written: the blocks up to it are empty now, and no table was written",
+            &[at, unit],
+        ));
+    }
+    None
+}
+
+/// Why the table of a pack was refused.
+fn table_refusal<'a>(ending: &Ending<'a>, unit: u64, drive: DriveKind) -> Option<Sentence<'a>> {
+    let (unit, kind) = (Number(unit), Text(kind_name(drive)));
+    let missing = word(ending.out, 2);
+    if is(missing, "table") {
+        return Some(say(
+            "hp{}.dsk has no bad-sector table for an {}: 'hpsim bad144 fresh {} {} SERIAL' writes an empty one",
+            &[unit, kind, unit, kind],
+        ));
+    }
+    if is(missing, "copy") {
+        return Some(say(
+            "hp{}.dsk has no room for a table: all five places are marked in hp{}.bad",
+            &[unit, unit],
+        ));
+    }
+    let count = Number(value(ending.out.get(3)?));
+    Some(say(
+        "hp{}.bad marks {} data blocks, and a table lists at most 126",
+        &[unit, count],
+    ))
+}
+
+/// Why `bad144` or `format` refused.
+fn tool_refusal<'a>(ending: &Ending<'a>) -> Option<Sentence<'a>> {
+    let (unit, drive) = target(ending.words)?;
+    let unit = u64::from(unit);
+    if let Some(sentence) = add_refusal(ending, unit, drive) {
+        return Some(sentence);
+    }
+    if let Some(sentence) = block_refusal(ending, unit, drive) {
+        return Some(sentence);
+    }
+    table_refusal(ending, unit, drive)
+}
+
+/// Why a transfer was refused. A dump covers whole blocks at the end of partition `b`.
+fn transfer_refusal<'a>(ending: &Ending<'a>) -> Option<Sentence<'a>> {
+    let (unit, drive) = target(ending.words)?;
+    let letter = match ending.words {
+        [_, _, _, _, [letter], ..] => *letter,
+        _ => b'b',
+    };
+    let part = part_of(letter)?;
+    let whole = u64::from(part_range(drive, part).size).saturating_mul(512);
     let given = ending.script.given;
-    match ending.words {
-        [first, ..] if is(first, "dump") => {
+    let (most, at, size) = match ending.words {
+        [_, _, _, _, _, at, size] => (u64::MAX, value(at), value(size)),
+        [_, _, _, _, _, at] => (16_777_216, value(at), given),
+        _ => {
             let size = given.div_ceil(512).saturating_mul(512);
-            Some(Covered {
-                unit,
-                kind,
-                part: Part::B,
-                letter: 'b',
-                at: bytes_of(kind, Part::B).saturating_sub(size),
-                size,
-                reads: false,
-            })
+            (8_388_608, whole.saturating_sub(size), size)
         }
-        words => raw_span(words, unit, kind, given),
-    }
-}
-
-/// The most bytes that a transfer writes.
-fn most_bytes(words: &[&[u8]]) -> u64 {
-    match words {
-        [first, ..] if is(first, "dump") => 8_388_608,
-        _ => 16_777_216,
-    }
-}
-
-/// Why a transfer was refused.
-fn transfer_refusal<'a>(ending: &Ending<'a>) -> Option<Reason<'a>> {
-    let moved = span_of(ending)?;
-    let size = bytes_of(moved.kind, moved.part);
-    let end = moved.at.saturating_add(moved.size);
-    let most = most_bytes(ending.words);
-    if !moved.reads && ending.script.given > most {
-        return Some(Reason::TooManyBytes { most });
-    }
-    if end > size {
-        return Some(Reason::Outside {
-            at: moved.at,
-            end: end.saturating_sub(1).max(moved.at),
-            part: moved.letter,
-            kind: kind_name(moved.kind),
-            size,
-            blocks: size / 512,
-        });
-    }
-    let (done, what) = if moved.reads {
-        (ending.output.taken, "read")
-    } else {
-        (unusable(ending.out)?, "written")
     };
-    Some(Reason::Unusable {
-        block: moved.at.saturating_add(done) / 512,
-        part: moved.letter,
-        unit: moved.unit,
-        moved: done,
-        what,
+    if given > most {
+        return Some(say(
+            "standard input has more than {} bytes, the most that is written at once",
+            &[Number(most)],
+        ));
+    }
+    let end = at.saturating_add(size);
+    let part = Letter(char::from(letter));
+    if end > whole {
+        let last = end.saturating_sub(1).max(at);
+        return Some(say(
+            "bytes {} to {} reach beyond partition {} of an {}, which has {} bytes ({} blocks)",
+            &[
+                Number(at),
+                Number(last),
+                part,
+                Text(kind_name(drive)),
+                Number(whole),
+                Number(whole / 512),
+            ],
+        ));
+    }
+    let (done, what) = match ending.out {
+        _ if is(word(ending.words, 1), "read") => (ending.output.taken, "read"),
+        [_, _, done] => (value(done), "written"),
+        _ => return None,
+    };
+    let block = at.saturating_add(done) / 512;
+    Some(say(
+        "block {} of partition {} of hp{}.dsk is marked and has no good replacement: {} bytes before it were {}",
+        &[
+            Number(block),
+            part,
+            Number(u64::from(unit)),
+            Number(done),
+            Text(what),
+        ],
+    ))
+}
+
+/// What a call on a file tried.
+fn tried<'a>(deed: Deed) -> Piece<'a> {
+    Text(match deed {
+        Deed::Open => "open",
+        Deed::Make => "open or make",
+        Deed::Read => "read",
+        Deed::Write => "write",
+        Deed::Measure => "get the length of",
     })
 }
 
-/// Whether the message of a failure says how far the command came. It does so for `format`, `dump` and `raw`.
-fn writes(words: &[&[u8]]) -> bool {
-    match words {
-        [first, ..] => is(first, "format") || is(first, "dump") || is(first, "raw"),
-        [] => false,
-    }
-}
-
-/// The reason if a call on the packs failed.
-fn pack_failure<'a>(
-    words: &[&[u8]],
-    packs: &PackNotes,
-    call: FileCall,
-    error: io::Error,
-) -> Reason<'a> {
-    let tried = Tried { deed: call.deed };
-    let file = FileName::new(call.unit, call.part);
-    if !writes(words) {
-        return Reason::File { tried, file, error };
-    }
-    Reason::FileAfter {
-        tried,
-        file,
-        error,
-        came: Came {
-            written: packs.written,
-            last: packs.last,
-        },
-    }
-}
-
-/// The reason if standard output or the trace failed.
-fn sink_failure<'a>(ending: &Ending<'a>) -> Option<Reason<'a>> {
-    if let Some((_, error)) = ending.output.failures.first {
-        return Some(Reason::Output { error });
-    }
-    let (deed, error) = ending.trace?;
-    Some(Reason::TraceUnwritten {
-        tried: Tried { deed },
-        error,
+/// The reason if a call on the packs failed. For `format`, `dump` and `raw` it says how far the command came.
+fn pack_failure<'a>(ending: &Ending<'a>) -> Option<Sentence<'a>> {
+    let (call, error) = ending.packs.failures.first?;
+    let suffix = match call.part {
+        Part::Image => "dsk",
+        Part::Marks => "bad",
+    };
+    let (tried, unit) = (tried(call.deed), Number(u64::from(call.unit)));
+    let (suffix, error) = (Text(suffix), Error(error));
+    let last = Number(u64::from(ending.packs.last));
+    let command = word(ending.words, 0);
+    let writes = is(command, "format") || is(command, "dump") || is(command, "raw");
+    Some(match ending.packs.written {
+        _ if !writes => say("cannot {} hp{}.{}: {}", &[tried, unit, suffix, error]),
+        0 => say(
+            "cannot {} hp{}.{}: {}; no block was written before",
+            &[tried, unit, suffix, error],
+        ),
+        1 => say(
+            "cannot {} hp{}.{}: {}; one block was written before, block {} of the pack",
+            &[tried, unit, suffix, error, last],
+        ),
+        written => say(
+            "cannot {} hp{}.{}: {}; {} blocks were written before, the last one block {} of the pack",
+            &[tried, unit, suffix, error, Number(written), last],
+        ),
     })
 }
 
-/// What there was no memory for.
-fn memory(words: &[&[u8]]) -> &'static str {
-    match words {
-        [first, ..] if is(first, "play") => "the script, its requests and what they move",
-        [first, ..] if is(first, "cached") => "the script and the cache",
-        [first, ..] if is(first, "exercise") => "the exercise and its packs",
-        [first, ..] if is(first, "format") => "the drive that tests the pack",
-        [first, ..] if is(first, "raw") || is(first, "dump") => "the bytes that are moved",
-        _ => "the words of the command, or for what is read ahead",
+/// The reason if a stream or the file of the trace failed.
+fn stream_failure<'a>(
+    stream: Option<(Deed, io::Error)>,
+    text: &'static str,
+    trace: Option<(Deed, io::Error)>,
+) -> Option<Sentence<'a>> {
+    if let Some((_, error)) = stream {
+        return Some(say(text, &[Error(error)]));
     }
+    let (deed, error) = trace?;
+    if deed == Deed::Read && error.kind() == ErrorKind::NotFound {
+        let text = "there is no hp.trace in this folder: run 'hpsim play' first";
+        return Some(say(text, &[]));
+    }
+    Some(say("cannot {} hp.trace: {}", &[tried(deed), Error(error)]))
 }
 
-/// Whether the command plays a script through a cache.
-fn is_cached(words: &[&[u8]]) -> bool {
-    match words {
-        [first, ..] => is(first, "cached"),
-        [] => false,
-    }
+/// The reason if standard input could not be read, or the trace of `hpview`.
+fn input_failure<'a>(ending: &Ending<'a>) -> Option<Sentence<'a>> {
+    let stream = ending.script.failures.first;
+    stream_failure(stream, "cannot read standard input: {}", ending.trace)
+}
+
+/// The reason if standard output could not be written, or the trace of `hpsim`.
+fn output_failure<'a>(ending: &Ending<'a>) -> Option<Sentence<'a>> {
+    let stream = ending.output.failures.first;
+    stream_failure(stream, "cannot write to standard output: {}", ending.trace)
+}
+
+/// The reason if there was no memory.
+fn no_memory<'a>(ending: &Ending<'a>) -> Option<Sentence<'a>> {
+    let what = match ending.program {
+        Program::Hpsim => text_of(&NEEDS, word(ending.words, 0)).unwrap_or(
+            "the words of the command, or for what is read ahead",
+        ),
+        Program::Hpview => "the script, the trace and the picture",
+    };
+    Some(say("there is not enough memory for {}", &[Text(what)]))
+}
+
+/// What is wrong with the words. None if nothing is found to be wrong.
+fn words_fault<'a>(ending: &Ending<'a>) -> Option<Sentence<'a>> {
+    let checked = match ending.program {
+        Program::Hpsim => check_command(ending.words),
+        Program::Hpview => check_view(ending.words),
+    };
+    checked.err()
 }
 
 /// The reason by the status. None if it is not known.
-fn known<'a>(alloc: Global, ending: &Ending<'a>) -> Option<Reason<'a>> {
+fn known<'a>(alloc: Global, ending: &Ending<'a>) -> Option<Sentence<'a>> {
     match ending.status {
-        2 => match command_fault(ending.words) {
-            Some(fault) => Some(Reason::Words(fault)),
-            None => None,
-        },
-        3 => script_refusal(alloc, ending.out, ending.script, is_cached(ending.words)),
-        4 => match ending.script.failures.first {
-            Some((_, error)) => Some(Reason::Input { error }),
-            None => None,
-        },
-        5 => sink_failure(ending),
-        6 => match ending.packs.failures.first {
-            Some((call, error)) => Some(pack_failure(ending.words, &ending.packs, call, error)),
-            None => None,
-        },
+        2 => words_fault(ending),
+        3 => refusal(alloc, ending),
+        4 => input_failure(ending),
+        5 => output_failure(ending),
+        6 => pack_failure(ending),
         7 => long_image(ending),
         8 | 11 => tool_refusal(ending),
-        9 => Some(Reason::Memory {
-            what: memory(ending.words),
-        }),
+        9 => no_memory(ending),
         10 => transfer_refusal(ending),
         _ => None,
     }
 }
 
-/// Why a run of `hpsim` ended with a status other than 0.
-pub fn reason<'a>(alloc: Global, ending: &Ending<'a>) -> Reason<'a> {
-    match known(alloc, ending) {
-        Some(reason) => reason,
-        None => Reason::Other {
-            status: ending.status,
-        },
-    }
+/// Why a run ended with a status other than 0.
+pub(crate) fn reason<'a>(alloc: Global, ending: &Ending<'a>) -> Sentence<'a> {
+    known(alloc, ending).unwrap_or(say(
+        "the run ended with status {}",
+        &[Number(u64::from(ending.status))],
+    ))
 }

@@ -1,181 +1,87 @@
-// What a field may contain, and the first field that contains something else.
-use crate::shown::Shown;
-use mass_text::{Fields, Radix, number};
-use pack_geometry::DriveKind;
-use std::fmt;
-use std::fmt::{Display, Formatter};
-use thiserror::Error;
+// The fields of commands and of lines, and the first one that contains something that it may not contain.
+use crate::sentence::Piece::{Text, Word};
+use crate::sentence::{Piece, Sentence, say};
+use crate::words::is;
+use mass_text::{Radix, number};
 
 /// What a field may contain.
-#[derive(Clone, Copy, Debug)]
+#[derive(Clone, Copy)]
 pub enum Allowed {
-    /// A decimal number from `low` to `high`.
-    Numbers { low: u64, high: u64 },
-    /// One of these words, which are separated by blanks.
+    /// A decimal number from the first one to the second one.
+    Numbers(u64, u64),
+    /// One of these words, which commas separate.
     Words(&'static str),
     /// This many hexadecimal digits.
     Digits(usize),
 }
 
 /// A field: its name, as the usage and `docs/formats.md` give it, and what it may contain.
-#[derive(Clone, Copy, Debug)]
-pub struct Field {
-    pub name: &'static str,
-    pub allowed: Allowed,
-}
+#[derive(Clone, Copy)]
+pub struct Field(pub &'static str, pub Allowed);
 
-/// What is wrong with the words of a command or of a line of a script.
-#[derive(Clone, Copy, Debug, Error)]
-pub enum FieldFault<'a> {
-    /// A field is missing, since the words end before it.
-    #[error("{0} is missing ({allowed})", allowed = .0.allowed)]
-    Missing(Field),
-    /// A field contains a word that it may not contain.
-    #[error("{1} is not a valid {0} ({allowed})", allowed = .0.allowed)]
-    Wrong(Field, Shown<'a>),
-    /// There is a word too many.
-    #[error("{0} is one word too many")]
-    LeftOver(Shown<'a>),
-    /// A comment follows the words of a line.
-    #[error("{0} cannot stand there: a comment is a line of its own that begins with #")]
-    Comment(Shown<'a>),
-    /// `off`, `last`, `copy` or `mark` is one word too many or in the wrong order.
-    #[error("{0} cannot stand there: only these may follow: {1}, in this order")]
-    Order(Shown<'a>, &'static str),
-    /// The first line begins with a byte-order mark.
-    #[error("it begins with a byte-order mark, so save the script without one")]
-    OrderMark,
-}
+pub const UNIT: Field = Field("U", Allowed::Numbers(0, 31));
 
-/// A field that contains a number from `low` to `high`.
-pub const fn numbers(name: &'static str, low: u64, high: u64) -> Field {
-    Field {
-        name,
-        allowed: Allowed::Numbers { low, high },
+pub const KIND: Field = Field("KIND", Allowed::Words("rp06, rm03, rm05"));
+
+pub const PART: Field = Field("PART", Allowed::Words("a, b, c, d, e, f, g, h"));
+
+pub const BYTE: Field = Field("HH", Allowed::Digits(2));
+
+/// What a sentence says of what a field may contain.
+fn shown<'a>(allowed: Allowed) -> Piece<'a> {
+    match allowed {
+        Allowed::Numbers(low, high) => Piece::Numbers(low, high),
+        Allowed::Words(words) => Text(words),
+        Allowed::Digits(count) => Piece::Digits(count),
     }
 }
 
-/// A field that contains one of these words, which are separated by blanks.
-pub const fn choice(name: &'static str, words: &'static str) -> Field {
-    Field {
-        name,
-        allowed: Allowed::Words(words),
-    }
-}
-
-/// A field that contains `count` hexadecimal digits.
-pub const fn digits(name: &'static str, count: usize) -> Field {
-    Field {
-        name,
-        allowed: Allowed::Digits(count),
-    }
-}
-
-/// The field of a unit.
-pub fn unit_field() -> Field {
-    numbers("U", 0, 31)
-}
-
-/// The field of a kind of drive.
-pub fn kind_field() -> Field {
-    choice("KIND", "rp06 rm03 rm05")
-}
-
-/// The field of a partition.
-pub fn part_field() -> Field {
-    choice("PART", "a b c d e f g h")
-}
-
-/// The name of a kind of drive, in lower case.
-pub fn kind_name(kind: DriveKind) -> &'static str {
-    match kind {
-        DriveKind::Rp06 => "rp06",
-        DriveKind::Rm03 => "rm03",
-        DriveKind::Rm05 => "rm05",
-    }
-}
-
-/// Whether a word is one of these words, which are separated by blanks.
+/// Whether a word is one of these words, which commas separate.
 fn is_among(word: &[u8], words: &str) -> bool {
-    let mut rest = Fields::new(words.as_bytes());
-    for _ in 0..32u8 {
-        match rest.next() {
-            Some(one) => {
-                if one == word {
-                    return true;
-                }
-            }
-            None => return false,
+    for one in words.split(", ") {
+        if is(word, one) {
+            return true;
         }
     }
     false
 }
 
-/// Whether a byte is a hexadecimal digit.
-fn is_digit(byte: u8) -> bool {
-    byte.is_ascii_hexdigit()
-}
-
-/// Whether a word consists of `count` hexadecimal digits.
-fn are_digits(word: &[u8], count: usize) -> bool {
-    word.len() == count && word.iter().all(|byte| is_digit(*byte))
-}
-
-impl Field {
-    /// Whether the field may contain a word.
-    pub fn allows(&self, word: &[u8]) -> bool {
-        match self.allowed {
-            Allowed::Numbers { low, high } => match number(word, Radix::Decimal, high) {
-                Ok(value) => value >= low,
-                Err(_) => false,
-            },
-            Allowed::Words(words) => is_among(word, words),
-            Allowed::Digits(count) => are_digits(word, count),
+/// An error unless a field may contain this word.
+fn check<'a>(field: Field, word: &'a [u8]) -> Result<(), Sentence<'a>> {
+    let Field(name, allowed) = field;
+    let is_allowed = match allowed {
+        Allowed::Numbers(low, high) => match number(word, Radix::Decimal, high) {
+            Ok(value) => value >= low,
+            Err(_) => false,
+        },
+        Allowed::Words(words) => is_among(word, words),
+        Allowed::Digits(count) => {
+            word.len() == count && word.iter().all(|byte| byte.is_ascii_hexdigit())
         }
+    };
+    if is_allowed {
+        return Ok(());
     }
+    let pieces = [Word(word), Text(name), shown(allowed)];
+    Err(say("{} is not a valid {} ({})", &pieces))
 }
 
-impl Display for Field {
-    fn fmt<W: fmt::Write>(&self, f: &mut Formatter<W>) -> fmt::Result {
-        f.write_str(self.name)
-    }
+/// The sentence about a field that is missing.
+fn missing<'a>(field: Field) -> Sentence<'a> {
+    say("{} is missing ({})", &[Text(field.0), shown(field.1)])
 }
 
-/// Puts words, with commas between them.
-fn put_words<W: fmt::Write>(words: &str, f: &mut Formatter<W>) -> fmt::Result {
-    for byte in words.as_bytes() {
-        if *byte == b' ' {
-            f.write_str(", ")?;
-        } else {
-            write!(f, "{}", char::from(*byte))?;
-        }
-    }
-    Ok(())
-}
-
-impl Display for Allowed {
-    fn fmt<W: fmt::Write>(&self, f: &mut Formatter<W>) -> fmt::Result {
-        match self {
-            Allowed::Numbers { low, high } => write!(f, "{low} to {high}"),
-            Allowed::Words(words) => put_words(words, f),
-            Allowed::Digits(count) => write!(f, "{count} hexadecimal digits"),
-        }
-    }
-}
-
-/// The words that follow these fields, or what is wrong with the first faulty field.
+/// The words that follow these fields. An error says what is wrong with the first faulty field.
 pub fn walk<'a, 'b>(
     words: &'b [&'a [u8]],
-    steps: &[Field],
-) -> Result<&'b [&'a [u8]], FieldFault<'a>> {
+    fields: &[Field],
+) -> Result<&'b [&'a [u8]], Sentence<'a>> {
     let mut rest = words;
-    for step in steps {
+    for field in fields {
         match rest {
-            [] => return Err(FieldFault::Missing(*step)),
+            [] => return Err(missing(*field)),
             [word, more @ ..] => {
-                if !step.allows(word) {
-                    return Err(FieldFault::Wrong(*step, Shown::new(word)));
-                }
+                check(*field, word)?;
                 rest = more;
             }
         }
@@ -183,19 +89,31 @@ pub fn walk<'a, 'b>(
     Ok(rest)
 }
 
-/// What is wrong with words that must be exactly these fields.
-pub fn walk_all<'a>(words: &[&'a [u8]], steps: &[Field]) -> Option<FieldFault<'a>> {
-    match walk(words, steps) {
-        Err(fault) => Some(fault),
-        Ok([]) => None,
-        Ok([word, ..]) => Some(left_over(word)),
+/// The words that follow an optional word and its fields. If the words do not begin with the optional word, all of them.
+pub fn optional<'a, 'b>(
+    words: &'b [&'a [u8]],
+    name: &str,
+    fields: &[Field],
+) -> Result<&'b [&'a [u8]], Sentence<'a>> {
+    match words {
+        [word, rest @ ..] if is(word, name) => walk(rest, fields),
+        _ => Ok(words),
     }
 }
 
-/// The fault of a word that is one too many.
-pub fn left_over<'a>(word: &'a [u8]) -> FieldFault<'a> {
-    match word {
-        [b'#', ..] => FieldFault::Comment(Shown::new(word)),
-        _ => FieldFault::LeftOver(Shown::new(word)),
+/// An error unless the words are exactly these fields.
+pub fn only<'a>(words: &[&'a [u8]], fields: &[Field]) -> Result<(), Sentence<'a>> {
+    match walk(words, fields)? {
+        [] => Ok(()),
+        [word, ..] => Err(left_over(word, "{} is one word too many")),
     }
+}
+
+/// The sentence about a word that is one too many: this text, unless the word begins a comment.
+pub fn left_over<'a>(word: &'a [u8], text: &'static str) -> Sentence<'a> {
+    let text = match word {
+        [b'#', ..] => "{} cannot stand there: a comment is a line of its own that begins with #",
+        _ => text,
+    };
+    say(text, &[Word(word)])
 }

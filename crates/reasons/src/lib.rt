@@ -7,12 +7,9 @@
 #![tactic(auto)]
 
 pub mod ending;
-pub mod fields;
+mod fields;
 pub mod lines;
-pub mod picture;
-pub mod reason;
-pub mod refusals;
-pub mod shown;
+mod sentence;
 pub mod told;
 pub mod usage;
 pub mod version;

@@ -102,3 +102,14 @@ usage:
   FROM TO  the events to be shown, 1 to 4294967295; without them all of them
   SCRIPT   the script that 'hpsim play' made hp.trace from
 ";
+
+/// What `help COMMAND` prints.
+pub(crate) static HELPS: [(&str, &str); 7] = [
+    ("play", PLAY),
+    ("cached", CACHED),
+    ("bad144", BAD144),
+    ("format", FORMAT),
+    ("raw", RAW),
+    ("dump", DUMP),
+    ("exercise", EXERCISE),
+];

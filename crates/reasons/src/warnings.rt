@@ -1,7 +1,8 @@
 // Warnings that are printed before a run begins.
-use crate::fields::kind_name;
-use crate::reason::Warning;
-use crate::words::{command_fault, is, target};
+use crate::ending::kind_name;
+use crate::sentence::Piece::{Number, Text};
+use crate::sentence::{Sentence, say};
+use crate::words::{check_command, is, target, word};
 use bad144_table::table_of;
 use outside_files::files::FilePacks;
 use outside_files::folder::Part;
@@ -12,31 +13,12 @@ use std::os::unix::fs::FileExt;
 use std::rt::Files;
 use std::{fs, io};
 
-/// Whether a command reads a pack that should exist.
-fn reads(words: &[&[u8]]) -> bool {
-    match words {
-        [first, verb, ..] if is(first, "bad144") => !is(verb, "fresh"),
-        [first, verb, ..] if is(first, "raw") => is(verb, "read"),
-        _ => false,
-    }
-}
-
-/// Whether a command makes a new table on a pack.
-fn renews(words: &[&[u8]]) -> bool {
-    match words {
-        [first, ..] if is(first, "format") => true,
-        [first, verb, ..] if is(first, "bad144") => is(verb, "fresh"),
-        _ => false,
-    }
-}
-
 /// Whether a unit's image is missing.
 fn is_missing<R: Files + AllocGlobal>(rt: &R, unit: u8) -> bool {
-    let name = match Part::Image.name(rt.alloc(), unit) {
-        Ok(name) => name,
-        Err(_) => return false,
-    };
-    matches!(fs::exists(rt, name.as_str()), Ok(false))
+    match Part::Image.name(rt.alloc(), unit) {
+        Ok(name) => matches!(fs::exists(rt, name.as_str()), Ok(false)),
+        Err(_) => false,
+    }
 }
 
 /// The kind of drive whose table a pack has, if that is another kind than this one.
@@ -59,26 +41,31 @@ where
 }
 
 /// The warning of a command, if there is one.
-fn warning<R: Files + AllocGlobal>(rt: &R, words: &[&[u8]]) -> Option<Warning>
+fn warning<R: Files + AllocGlobal>(rt: &R, words: &[&[u8]]) -> Option<Sentence<'static>>
 where
     R::File: FileExt,
 {
-    if command_fault(words).is_some() {
+    if check_command(words).is_err() {
         return None;
     }
     let (unit, kind) = target(words)?;
-    if reads(words) && is_missing(rt, unit) {
-        return Some(Warning::Missing { unit });
+    let number = Number(u64::from(unit));
+    let (command, verb) = (word(words, 0), word(words, 1));
+    let is_tool = is(command, "bad144");
+    if is(command, "format") || is_tool && is(verb, "fresh") {
+        let (old, new) = (kind_name(other_kind(rt, unit, kind)?), kind_name(kind));
+        return Some(say(
+            "hp{}.dsk has the bad-sector table of an {}, and is written as an {} now",
+            &[number, Text(old), Text(new)],
+        ));
     }
-    if !renews(words) {
-        return None;
+    if (is_tool || is(verb, "read")) && is_missing(rt, unit) {
+        return Some(say(
+            "hp{}.dsk does not exist, and is taken as an empty pack",
+            &[number],
+        ));
     }
-    let other = other_kind(rt, unit, kind)?;
-    Some(Warning::OtherKind {
-        unit,
-        old: kind_name(other),
-        new: kind_name(kind),
-    })
+    None
 }
 
 /// Prints a warning if a command reads a pack whose image is missing, or if it writes a new table to a pack that has the table of

@@ -1,11 +1,32 @@
 // The words of a command line, and which of them is wrong.
-use crate::fields::{
-    Allowed, Field, FieldFault, choice, kind_field, numbers, part_field, unit_field, walk, walk_all,
-};
-use crate::shown::Shown;
+use crate::fields::Allowed::{Numbers, Words};
+use crate::fields::{Field, KIND, PART, UNIT, only, optional, walk};
+use crate::sentence::Piece::Word;
+use crate::sentence::{Sentence, say};
 use mass_text::{Radix, number};
 use pack_geometry::{DriveKind, blocks, kind_of};
 use std::alloc::{AllocError, Global};
+
+const COMMAND: Field = Field(
+    "COMMAND",
+    Words("play, cached, bad144, format, raw, dump, exercise, help"),
+);
+
+const TOOL: Field = Field("word after bad144", Words("list, add, fresh, mark"));
+
+const WAY: Field = Field("word after raw", Words("read, write"));
+
+const SERIAL: Field = Field("SERIAL", Numbers(0, 4_294_967_295));
+
+const PLACE: Field = Field("AT", Numbers(0, 1_099_511_627_775));
+
+const LENGTH: Field = Field("LEN", Numbers(0, 16_777_216));
+
+const SIZE: Field = Field("N", Numbers(1, 4096));
+
+const SEED: Field = Field("N", Numbers(0, u64::MAX));
+
+const FORM: Field = Field("FORM", Words("svg, text, tsv, summary, json"));
 
 /// The words of a command line as bytes. An error if there is no memory for the list.
 pub fn bytes_of<'a>(alloc: Global, words: &'a [String]) -> Result<Vec<&'a [u8]>, AllocError> {
@@ -17,20 +38,45 @@ pub fn bytes_of<'a>(alloc: Global, words: &'a [String]) -> Result<Vec<&'a [u8]>,
 }
 
 /// Whether a word is this text.
-pub fn is(word: &[u8], text: &str) -> bool {
+pub(crate) fn is(word: &[u8], text: &str) -> bool {
     word == text.as_bytes()
+}
+
+/// A word by its place. It is empty if there is no such word.
+pub(crate) fn word<'a>(words: &[&'a [u8]], at: usize) -> &'a [u8] {
+    words.get(at).copied().unwrap_or(b"")
+}
+
+/// The text that a table has for a word. None if the table does not have the word.
+pub(crate) fn text_of(table: &[(&'static str, &'static str)], word: &[u8]) -> Option<&'static str> {
+    for (name, text) in table {
+        if is(word, name) {
+            return Some(*text);
+        }
+    }
+    None
+}
+
+/// The decimal number in a field. 0 if the field contains no number that fits.
+pub(crate) fn value(field: &[u8]) -> u64 {
+    number(field, Radix::Decimal, u64::MAX).unwrap_or(0)
 }
 
 /// Whether the command reads a script.
 pub fn names_script(words: &[&[u8]]) -> bool {
-    match words {
-        [first, ..] => is(first, "play") || is(first, "cached"),
-        [] => false,
-    }
+    let command = word(words, 0);
+    is(command, "play") || is(command, "cached")
+}
+
+/// A unit and a kind of drive, from their words. None if one of the words is not valid.
+pub(crate) fn named(unit: &[u8], kind: &[u8]) -> Option<(u8, DriveKind)> {
+    let unit = number(unit, Radix::Decimal, 31).ok()?;
+    let kind = kind_of(kind)?;
+    Some(((unit as u8).min(31), kind))
 }
 
 /// The unit and the kind of drive that a command names. None if the command names no unit.
-pub fn target(words: &[&[u8]]) -> Option<(u8, DriveKind)> {
+pub(crate) fn target(words: &[&[u8]]) -> Option<(u8, DriveKind)> {
     match words {
         [first, unit, kind, ..] if is(first, "format") || is(first, "dump") => named(unit, kind),
         [first, _, unit, kind, ..] if is(first, "bad144") || is(first, "raw") => named(unit, kind),
@@ -38,139 +84,74 @@ pub fn target(words: &[&[u8]]) -> Option<(u8, DriveKind)> {
     }
 }
 
-/// A unit and a kind of drive, from their words. None if one of the words is not valid.
-pub fn named(unit: &[u8], kind: &[u8]) -> Option<(u8, DriveKind)> {
-    let unit = number(unit, Radix::Decimal, 31).ok()?;
-    let kind = kind_of(kind)?;
-    Some(((unit as u8).min(31), kind))
-}
-
-/// What is wrong with the words after `bad144 add`.
-fn add_fault<'a>(words: &[&'a [u8]]) -> Option<FieldFault<'a>> {
-    let rest = match walk(words, &[unit_field(), kind_field()]) {
-        Ok(rest) => rest,
-        Err(fault) => return Some(fault),
-    };
-    let kind = match words {
-        [_, kind, ..] => kind_of(kind).unwrap_or(DriveKind::Rp06),
-        _ => DriveKind::Rp06,
-    };
+/// The field of a block of a unit.
+pub(crate) fn block_field(kind: DriveKind) -> Field {
     let last = u64::from(blocks(kind)).saturating_sub(1);
-    match walk(rest, &[numbers("BLOCK", 0, last)]) {
-        Err(fault) => Some(fault),
-        Ok(ways) => way_fault(ways),
+    Field("BLOCK", Numbers(0, last))
+}
+
+/// An error if there is something wrong with the words after `bad144 add`.
+fn check_add<'a>(words: &[&'a [u8]]) -> Result<(), Sentence<'a>> {
+    let rest = walk(words, &[UNIT, KIND])?;
+    let kind = kind_of(word(words, 1)).unwrap_or(DriveKind::Rp06);
+    let ways = walk(rest, &[block_field(kind)])?;
+    match optional(optional(ways, "copy", &[])?, "mark", &[])? {
+        [] => Ok(()),
+        [word, ..] => Err(say(
+            "{} cannot stand there: only these may follow: [copy] [mark], in this order",
+            &[Word(word)],
+        )),
     }
 }
 
-/// What is wrong with the words after the block of `bad144 add`.
-fn way_fault<'a>(words: &[&'a [u8]]) -> Option<FieldFault<'a>> {
-    let wrong = match words {
-        [] => return None,
-        [word] if is(word, "copy") || is(word, "mark") => return None,
-        [first, second] if is(first, "copy") && is(second, "mark") => return None,
-        [first, second, more, ..] if is(first, "copy") && is(second, "mark") => more,
-        [first, second, ..] if is(first, "copy") || is(first, "mark") => second,
-        [first, ..] => first,
-    };
-    Some(FieldFault::Order(Shown::new(wrong), "[copy] [mark]"))
-}
-
-/// What is wrong with the words after `bad144`.
-fn tool_fault<'a>(words: &[&'a [u8]]) -> Option<FieldFault<'a>> {
-    let verb = choice("word after bad144", "list add fresh mark");
-    let rest = match walk(words, &[verb]) {
-        Ok(rest) => rest,
-        Err(fault) => return Some(fault),
-    };
-    match words {
-        [verb, ..] if is(verb, "add") => add_fault(rest),
-        [verb, ..] if is(verb, "fresh") => walk_all(rest, &[unit_field(), kind_field(), serial()]),
-        _ => walk_all(rest, &[unit_field(), kind_field()]),
+/// An error if there is something wrong with the words after `bad144`.
+fn check_tool<'a>(words: &[&'a [u8]]) -> Result<(), Sentence<'a>> {
+    let rest = walk(words, &[TOOL])?;
+    match word(words, 0) {
+        b"add" => check_add(rest),
+        b"fresh" => only(rest, &[UNIT, KIND, SERIAL]),
+        _ => only(rest, &[UNIT, KIND]),
     }
 }
 
-/// A serial number.
-fn serial() -> Field {
-    numbers("SERIAL", 0, 4_294_967_295)
-}
-
-/// A place in a partition, in bytes.
-fn place() -> Field {
-    numbers("AT", 0, 1_099_511_627_775)
-}
-
-/// What is wrong with the words after `raw`.
-fn raw_fault<'a>(words: &[&'a [u8]]) -> Option<FieldFault<'a>> {
-    let rest = match walk(words, &[choice("word after raw", "read write")]) {
-        Ok(rest) => rest,
-        Err(fault) => return Some(fault),
-    };
-    match words {
-        [verb, ..] if is(verb, "read") => {
-            let size = numbers("LEN", 0, 16_777_216);
-            walk_all(
-                rest,
-                &[unit_field(), kind_field(), part_field(), place(), size],
-            )
-        }
-        _ => walk_all(rest, &[unit_field(), kind_field(), part_field(), place()]),
+/// An error if there is something wrong with the words after `raw`.
+fn check_raw<'a>(words: &[&'a [u8]]) -> Result<(), Sentence<'a>> {
+    let rest = walk(words, &[WAY])?;
+    match word(words, 0) {
+        b"read" => only(rest, &[UNIT, KIND, PART, PLACE, LENGTH]),
+        _ => only(rest, &[UNIT, KIND, PART, PLACE]),
     }
 }
 
-/// What is wrong with the words of a command line of `hpsim`. None if nothing is found to be wrong.
-pub fn command_fault<'a>(words: &[&'a [u8]]) -> Option<FieldFault<'a>> {
-    let command = choice(
-        "COMMAND",
-        "play cached bad144 format raw dump exercise help",
-    );
-    match words {
-        [first, rest @ ..] => {
-            if is(first, "play") {
-                walk_all(rest, &[])
-            } else if is(first, "cached") {
-                walk_all(rest, &[numbers("N", 1, 4096)])
-            } else if is(first, "exercise") {
-                walk_all(rest, &[numbers("N", 0, u64::MAX)])
-            } else if is(first, "dump") {
-                walk_all(rest, &[unit_field(), kind_field()])
-            } else if is(first, "format") {
-                walk_all(rest, &[unit_field(), kind_field(), serial()])
-            } else if is(first, "bad144") {
-                tool_fault(rest)
-            } else if is(first, "raw") {
-                raw_fault(rest)
-            } else {
-                Some(FieldFault::Wrong(command, Shown::new(first)))
-            }
-        }
-        [] => Some(FieldFault::Missing(command)),
+/// An error if something is found to be wrong with the words of a command line of `hpsim`.
+pub(crate) fn check_command<'a>(words: &[&'a [u8]]) -> Result<(), Sentence<'a>> {
+    let rest = walk(words, &[COMMAND])?;
+    match word(words, 0) {
+        b"cached" => only(rest, &[SIZE]),
+        b"exercise" => only(rest, &[SEED]),
+        b"dump" => only(rest, &[UNIT, KIND]),
+        b"format" => only(rest, &[UNIT, KIND, SERIAL]),
+        b"bad144" => check_tool(rest),
+        b"raw" => check_raw(rest),
+        _ => only(rest, &[]),
     }
 }
 
-/// What is wrong with the words of a command line of `hpview`. None if nothing is found to be wrong.
-pub fn view_fault<'a>(words: &[&'a [u8]]) -> Option<FieldFault<'a>> {
-    let rest = match walk(words, &[choice("FORM", "svg text tsv summary json")]) {
-        Ok(rest) => rest,
-        Err(fault) => return Some(fault),
-    };
-    if let [form, ..] = words {
-        if is(form, "summary") {
-            return walk_all(rest, &[]);
-        }
+/// An error if something is found to be wrong with the words of a command line of `hpview`.
+pub(crate) fn check_view<'a>(words: &[&'a [u8]]) -> Result<(), Sentence<'a>> {
+    let rest = walk(words, &[FORM])?;
+    if is(word(words, 0), "summary") {
+        return only(rest, &[]);
     }
-    let first = match rest {
-        [first, ..] => number(first, Radix::Decimal, 4_294_967_295)
-            .unwrap_or(1)
-            .max(1),
-        [] => 1,
-    };
-    let from = numbers("FROM", 1, 4_294_967_295);
-    let to = Field {
-        name: "TO",
-        allowed: Allowed::Numbers {
-            low: first,
-            high: 4_294_967_295,
-        },
-    };
-    walk_all(rest, &[from, to])
+    let most = 4_294_967_295;
+    let first = number(word(rest, 0), Radix::Decimal, most)
+        .unwrap_or(1)
+        .max(1);
+    only(
+        rest,
+        &[
+            Field("FROM", Numbers(1, most)),
+            Field("TO", Numbers(first, most)),
+        ],
+    )
 }
