@@ -14,7 +14,7 @@ type View = (
     &'static str,
 );
 
-static VIEWS: [View; 11] = [
+static VIEWS: [View; 12] = [
     ("text", b"unit 0 rp06\n", Ok(b""), 0, ""),
     (
         "png",
@@ -59,6 +59,15 @@ static VIEWS: [View; 11] = [
         Ok(b"end 3 0 1\nend 3 0 1\n"),
         3,
         "hpview: line 2 of hp.trace: a line above has ended its request: it is perhaps the trace of another run",
+    ),
+    (
+        "text 6 9",
+        b"unit 0 rp06\nread 1 0 c 0 1\n",
+        Ok(
+            b"cmd 2 0 1 search 0 19\narrive 3 0 1\nattn 3 0 1\ncmd 3 0 1 rcom 0 1\nsector 3 0 1 0 clean\nintr 3 0 1\nend 3 0 1\n",
+        ),
+        10,
+        "hpview: the run ends before event 6: the number of its events is 5",
     ),
     (
         "text",

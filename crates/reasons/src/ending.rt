@@ -373,6 +373,18 @@ fn output_failure<'a>(ending: &Ending<'a>) -> Option<Sentence<'a>> {
     stream_failure(stream, "cannot write to standard output: {}", ending.trace)
 }
 
+/// Why the events that the words of `hpview` name were refused: the run ends before the first of them.
+fn window_refusal<'a>(ending: &Ending<'a>) -> Option<Sentence<'a>> {
+    let (events, from) = match (ending.out, ending.words) {
+        ([_, _, events], [_, from, _]) => (Number(value(events)), Number(value(from))),
+        _ => return None,
+    };
+    Some(say(
+        "the run ends before event {}: the number of its events is {}",
+        &[from, events],
+    ))
+}
+
 /// The reason if there was no memory.
 fn no_memory<'a>(ending: &Ending<'a>) -> Option<Sentence<'a>> {
     let what = match ending.program {
@@ -404,7 +416,10 @@ fn known<'a>(alloc: Global, ending: &Ending<'a>) -> Option<Sentence<'a>> {
         7 => long_image(ending),
         8 | 11 => tool_refusal(ending),
         9 => no_memory(ending),
-        10 => transfer_refusal(ending),
+        10 => match ending.program {
+            Program::Hpsim => transfer_refusal(ending),
+            Program::Hpview => window_refusal(ending),
+        },
         _ => None,
     }
 }
