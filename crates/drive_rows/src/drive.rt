@@ -14,7 +14,7 @@ use drive_registers::Function;
 use fire_code::Noise;
 use main_memory::{MainMemory, Window, to_bus};
 use mba_autoconf::{AttachFault, ProbeFault, attach, probe};
-use outside_traits::traits::Packs;
+use outside_traits::traits::{NoMemory, Packs};
 use pack_geometry::{DriveKind, copy_block};
 use std::alloc::Global;
 
@@ -75,7 +75,7 @@ static ROWS: [Row; 12] = [
 ];
 
 // The packs of a trial, on which the call of this number fails.
-fn packs_for(alloc: Global, trial: Trial, number: u64) -> FewBlocks {
+fn packs_for(alloc: Global, trial: Trial, number: u64) -> Result<FewBlocks, NoMemory> {
     let marks: &'static [u32] = match trial {
         Trial::Mark | MarkedWrite => &[0],
         _ => &[],
@@ -119,7 +119,9 @@ fn is_tried(
     let Some(mut book) = book_for(alloc, row.0) else {
         return false;
     };
-    let mut packs = packs_for(alloc, row.0, number);
+    let Ok(mut packs) = packs_for(alloc, row.0, number) else {
+        return false;
+    };
     let mut drive = transferring(kind, row.0);
     let is_told = match drive.move_sector(&mut packs, 4, 0, &mut book, window) {
         Ok(verdict) => number == 0 && verdict == row.1 && shows_error(&drive, kind, row),
@@ -228,7 +230,9 @@ fn registers(rt: HostRuntime) {
 // fails. It is attached if it is as long as it may be and no call fails; otherwise it is told to be too long, or that a call failed.
 fn is_attached(alloc: Global, row: &Kind, more: u64, number: u64, calls: u64) -> bool {
     let (kind, _, most) = *row;
-    let mut packs = few_blocks(alloc, &[], number, Wrong::Fails);
+    let Ok(mut packs) = few_blocks(alloc, &[], number, Wrong::Fails) else {
+        return false;
+    };
     packs.length = most.saturating_add(more);
     let is_told = match attach(&mut Drive::new(kind, 3), &mut packs, 3) {
         Ok(found) => more == 0 && number == 0 && found.kind == kind && found.table.is_none(),
@@ -291,7 +295,7 @@ static COPIES: [Copies; 5] = [
 
 // The serial number of the table with which such a pack is attached.
 fn serial_found(alloc: Global, marks: &'static [u32], serials: &[u32; 5]) -> Option<u32> {
-    let mut packs = few_blocks(alloc, marks, 0, Wrong::Fails);
+    let mut packs = few_blocks(alloc, marks, 0, Wrong::Fails).ok()?;
     for k in 0..5u32 {
         let mut text = [0; 512];
         write_table(&empty_table(Rp06, serials[k as usize]), &mut text);

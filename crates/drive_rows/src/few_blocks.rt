@@ -1,5 +1,5 @@
 // A pack in memory of which few blocks are written, and on which one call goes wrong.
-ghost use Rattle.std.specs.Prelude.{◌≡◌, ◌<◌, OnErr};
+ghost use Rattle.std.specs.Prelude.{◌≡◌, OnErr};
 ghost use Rattle.outside_traits.specs.Causes.{HasCause};
 
 use mass_outside::mem_packs::MemPacks;
@@ -30,17 +30,20 @@ pub(crate) struct Written {
 /// read of the two that are marked.
 pub(crate) const SURVEYED: u64 = 263_305;
 
-/// The blocks that are full of 77: those that are written, and the last one.
-static FILLED: [u32; 14] = [
+/// The blocks that are full of 77: those that are written.
+static FILLED: [u32; 13] = [
     0, 418, 419, 420, 65_760, 131_521, 131_646, 131_647, 131_648, 131_650, 131_652, 131_654,
-    131_656, 131_679,
+    131_656,
 ];
 
-/// A pack in memory on which one call goes wrong. Some of its blocks are marked. After the first reading of a whole RM03 all data
-/// blocks are marked, except the first one, the last one, and one in the middle. It keeps what is written, and tells nothing.
+/// A pack in memory on which one call goes wrong, whichever unit is named. Some of its blocks are marked. After the first reading of a
+/// whole RM03 all data blocks are marked, except the first one, the last one, and one in the middle. It keeps what is written, and tells
+/// nothing.
 #[derive(Drop)]
 pub(crate) struct FewBlocks {
-    pub(crate) packs: MemPacks,
+    packs: MemPacks,
+    /// The length that it answers, in bytes.
+    pub(crate) length: u64,
     pub(crate) calls: u64,
     pub(crate) written: Vec<Written>,
     failed: u64,
@@ -49,8 +52,8 @@ pub(crate) struct FewBlocks {
     wrong: Wrong,
 }
 
-/// A pack as long as an RM03's, with these blocks marked, of which the call of this number goes wrong in this way. `NoMemory` if there is
-/// no memory for it.
+/// A pack that says that it is as long as an RM03's, with room for the blocks of an RP06 and these blocks marked, of which the call of
+/// this number goes wrong in this way. `NoMemory` if there is no memory for it.
 pub(crate) fn few_blocks(
     alloc: Global,
     marks: &[u32],
@@ -64,7 +67,7 @@ pub(crate) fn few_blocks(
             unit: 0,
             bytes: Vec::new(alloc),
             marks: Vec::new(alloc),
-            blocks: 131_680,
+            blocks: 340_670,
         },
     )?;
     for block in &FILLED {
@@ -75,6 +78,7 @@ pub(crate) fn few_blocks(
     }
     Ok(FewBlocks {
         packs,
+        length: 67_420_160,
         calls: 0,
         written: Vec::new(alloc),
         failed: 0,
@@ -122,12 +126,11 @@ impl FewBlocks {
     }
 
     /// Writes a block, and notes it by the number of the call.
-    fn keep(&mut self, unit: u8, block: u32, bytes: &[u8; 512])
-        requires { unit < 32 }
+    fn keep(&mut self, block: u32, bytes: &[u8; 512])
         ensures failed { self.new.failed ≡ self.old.failed }
         ensures failed_at { self.new.failed_at ≡ self.old.failed_at }
     {
-        let _ = self.packs.write(unit, block, bytes);
+        let _ = self.packs.write(0, block, bytes);
         let _ = self.written.push(Written {
             call: self.calls,
             block,
@@ -150,12 +153,12 @@ impl Packs for FewBlocks {
 
     fn length(&mut self, unit: u8) -> Result<u64, StoreFailed> {
         self.call(PackCall::Length { unit })?;
-        Ok(self.packs.slot(unit).length())
+        Ok(self.length)
     }
 
     fn read(&mut self, unit: u8, block: u32, into: &mut [u8; 512]) -> Result<(), StoreFailed> {
         self.call(PackCall::Block { unit, block })?;
-        self.packs.slot(unit).read(block, into);
+        self.packs.slot(0).read(block, into);
         if matches!(self.wrong_now(), Some(Wrong::Lies)) {
             into[511] = !into[511];
         }
@@ -165,7 +168,7 @@ impl Packs for FewBlocks {
     fn write(&mut self, unit: u8, block: u32, from: &[u8; 512]) -> Result<(), StoreFailed> {
         let called = self.call(PackCall::Block { unit, block });
         if matches!(self.wrong_now(), None | Some(Wrong::FailsBehind)) {
-            self.keep(unit, block, from);
+            self.keep(block, from);
         }
         called
     }
@@ -174,7 +177,7 @@ impl Packs for FewBlocks {
         self.call(PackCall::Block { unit, block })?;
         let lies = matches!(self.wrong_now(), Some(Wrong::Lies));
         let good = block == 0 || block == 65_760 || block > 131_520;
-        Ok(lies || self.packs.slot(unit).marked(block) || (!good && self.calls > SURVEYED))
+        Ok(lies || self.packs.slot(0).marked(block) || (!good && self.calls > SURVEYED))
     }
 
     fn set_mark(&mut self, _: u8, _: u32, _: bool) -> Result<(), StoreFailed> {
