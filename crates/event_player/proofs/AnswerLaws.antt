@@ -157,9 +157,9 @@ none_left w none = ap (λ (answers : List Made). after_all w (takings answers)) 
 pub some_waits : {w : World} {answer : Answer} → IsFirst w answer → w.answers ≢ []
 some_waits {w} first none = let e : first.made ∷ drop 1 w.answers ≡ [] = sym first.oldest.first ∙ none in cc
 
-pub fewer_wait : {now : Spot} {answer : Answer} (mid new : Spot) → IsFirst now.driver.world answer → mid.driver ≡ now.driver
+pub fewer_wait : {answer : Answer} (now mid new : Spot) → IsFirst now.driver.world answer → mid.driver ≡ now.driver
     → new ≡ record mid { driver = record mid.driver { world = after mid.driver.world Taken } } → length new.driver.world.answers < length now.driver.world.answers
-fewer_wait {now} mid new first driver taking =
+fewer_wait now mid new first driver taking =
     subst (λ (s : Spot). length s.driver.world.answers < length now.driver.world.answers) (sym taking)
     (subst (λ (d : State). length (drop 1 d.world.answers) < length now.driver.world.answers) (sym driver)
     (subst (λ (xs : List Made). length (drop 1 xs) < length xs) (sym first.oldest.first) (less (drop 1 now.driver.world.answers))))

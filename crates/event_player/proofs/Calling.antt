@@ -293,7 +293,7 @@ module _ {T A E : Type 0} {line : ℕ} {r : Request} {old mid new : Spot} (sound
   asked_done {x} {y} submits said taken =
       subst (λ (s : Spot). PlaysSubmission line r (seen old) (seen s))
       (sym (asked_left submits said ∙ ap (λ (d : State). record old { driver = d; out = new.out; lines = new.lines; tally = new.tally }) taken))
-      (submission_done old.packs old.out old.lines mid.lines line r old.driver.world mid.driver.world old.tally submits.again new.out new.lines new.tally (Ok {E = E} y) sound work submits.does refl
+      (submission_done old.packs old.out old.lines mid.lines line r old.driver.world mid.driver.world old.tally submits.again new.out new.lines new.tally (Ok y) sound work submits.does refl
       (asked_said submits said) (subst (λ (s : Spot). Counts (waiting mid.driver.world) (waiting_text mid.driver.world) s.tally new.tally) submits.same said.counts))
 
   pub asked_unsaid : {x : T} {e : E} → SubmitsAt line r (Ok x) old mid → SaysText {T = A} (waiting mid.driver.world) (waiting_text mid.driver.world) (Err e) mid new
@@ -347,7 +347,7 @@ module _ {line : ℕ} {input : Input} {old ahead mid : Spot} {unit : Unit {0}} (
         subst (λ (s : Spot). PlaysEvent line input (seen old) (seen s))
         (sym (answered_left said ∙ ap (λ (d : State). record old { driver = d; packs = mid.packs; out = new.out; lines = new.lines; tally = new.tally }) taken))
         (event_done old.packs mid.packs old.out ahead.out old.lines ahead.lines mid.lines line input old.driver.world mid.driver.world old.tally (Ok unit) refl sends.ahead comes.again_lines
-        new.out new.lines new.tally (Ok {E = E} y) sound work (came comes) refl (came_said said)
+        new.out new.lines new.tally (Ok y) sound work (came comes) refl (came_said said)
         (subst (λ (s : Spot). Counts (waiting mid.driver.world) (waiting_text mid.driver.world) s.tally new.tally) (came_left comes) said.counts))
 
     pub came_unsaid : {e : E} → old.driver.world.answers ≡ [] → AllFlip old.driver.world.book.live → SaysText {T = A} (waiting mid.driver.world) (waiting_text mid.driver.world) (Err e) mid new

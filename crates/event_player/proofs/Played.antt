@@ -1,13 +1,14 @@
 -- The whole play of a script, from a start of units that are set up to what packs and sinks are.
 use Rattle.std.proofs.Common.{◌≡◌, ◌⊎◌, inl, inr, ℕ, ◌+◌, ◌^◌, ◌<◌, ◌≤◌, length, take, get_or, false, true, IsTrue, List, [], ◌++◌, Option, refl, sym, ap, subst, arith, append-nil, ◌∙◌}
-use Rattle.std.specs.Prelude.{Result, Ok, Err, IfOk, IsErrAnd, IsErrOf, min, ¬}
+use Rattle.std.specs.Prelude.{Result, Ok, Err, IfOk, IsErrAnd, IsErrOf, min}
+use Rattle.std.proofs.lemmas.List.{length-map}
 use Rattle.outside_traits.specs.Causes.{Rose}
 use Rattle.outside_traits.specs.declared.traits.PackCall.{PackCall}
 use Rattle.outside_traits.specs.declared.traits.SinkFailed.{SinkFailed}
 use Rattle.pack_geometry.specs.PackTable.{AreTablesOf}
 use Rattle.pack_geometry.specs.TableSpelling.{Table}
 use Rattle.script_reader.specs.Meaning.{line_of, meaning_of}
-use Rattle.script_reader.specs.Stored.{Kept, Stored, seen as said_by}
+use Rattle.script_reader.specs.Stored.{Kept, Stored, lines_in, seen as said_by}
 use Rattle.trace_replay.specs.Script.{Script, IsScript, Plays, Drain, drives_of}
 use Rattle.driver_machine.specs.World.{Setup, new_world}
 use Rattle.trace_lines.specs.declared.answers.tally.Tally.{Tally}
@@ -21,7 +22,7 @@ use Rattle.event_player.specs.Calls.{MayGoOn}
 use Rattle.event_player.specs.Plays.{Tallied}
 use Rattle.event_player.specs.Playing.{HasRun, counted, one_request, one_noise}
 use Rattle.event_player.specs.Saying.{Side}
-use Rattle.event_player.specs.Spots.{Spot, seen, IsAtStart, Caused, Keeps, PlaysAs, PlaysAt, PlaysOver, PlaysTheScript, Sends, SendsRest, StopsAs, TurnsOut}
+use Rattle.event_player.specs.Spots.{Begins, PacksAt, Spot, seen, IsAtStart, Caused, Keeps, PlaysAs, PlaysAt, PlaysOver, PlaysTheScript, Sends, SendsRest, StopsAs, TurnsOut}
 use Rattle.event_player.specs.Steps.{MayPlay, PlaysDrain, PlaysScript, Ready}
 use Rattle.event_player.specs.Stops.{StopsAt, StopsInput, StopsScript}
 use Rattle.event_player.proofs.Halting.{line_halts, end_halts, sending_halts, stopped_leaves}
@@ -71,6 +72,11 @@ module _ (stored : Stored) (i : ℕ) (item : Kept) (is : item ≡ get_or stored.
       (λ stops t. line_halts (meaning_of stored) i (line_of (said_by stored.text item)) fault (seen start) (seen mid) (seen new) (here_is stored i item is lt)
       (so.plays (turns.keeps.told.never_again t)) (stops t))
 
+-- no line is left
+pub played_past : (stored : Stored) (i : ℕ) {lines : List Kept} → lines ≡ stored.lines → length lines ≤ i → length (meaning_of stored).lines ≤ i
+played_past stored i is past =
+    subst (λ (n : ℕ). n ≤ i) (sym (length-map (lines_in stored) line_of ∙ length-map stored.lines (said_by stored.text))) (subst (λ (xs : List Kept). length xs ≤ i) is past)
+
 -- the drain behind the last one, and the last sending
 module _ (s : Script) (i number : ℕ) (all : length s.lines ≤ i) (last : number ≡ s.count + 1) {start mid drained new : Spot} (so : IsPlayedTo s i start mid) where
   pub drain_stopped : {V W : Type 0} (result : Result W PlayFault) (fault : PlayFault) → IsErrAnd result (λ x. x ≡ fault)
@@ -83,7 +89,7 @@ module _ (s : Script) (i number : ℕ) (all : length s.lines ≤ i) (last : numb
     pub sending_stopped : {A W : Type 0} {e : SinkFailed} (result : Result W PlayFault) → IsErrAnd result (λ x. x ≡ faults.Sink) → Sends {T = A} true (Err e) drained new → PlaysTheScript s result start new
     sending_stopped result err sends =
         let before = keeps_join so.keeps drains.keeps in
-        stopped result faults.Sink err (keeps_join before (sent_keeps sends)) (caused_behind faults.Sink before sends.ahead.says.failed)
+        stopped result faults.Sink err (keeps_join before (sent_keeps sends)) (caused_behind new faults.Sink before sends.ahead.says.failed)
         (λ t.
         let told = (sent_keeps sends).told.never_again t in
         sending_halts s i number (seen start) (seen mid) (seen drained) (seen new) all last (drains.plays.plays told) (so.plays (drains.keeps.told.never_again told))
@@ -107,35 +113,47 @@ module _ (s : Script) (i number : ℕ) (all : length s.lines ≤ i) (last : numb
 err_same : {a b : PlayFault} → ◌≡◌ {A = Result Tally PlayFault} (Err a) (Err b) → a ≡ b
 err_same is = cc
 
--- FROM A START at which nothing is kept
-module _ (s : Script) (setups : List Setup) (requests noises : ℕ) (start : Spot) (set : AreSetFor s (tables_in setups) setups)
-    (is : start.driver ≡ record { world = new_world setups (min requests 16384) noises; outstanding = requests; failed = false; kept = [] }) (kept : start.out.kept ≡ []) (sent : start.lines.kept ≡ []) where
-  pub at_start : noises ≡ counted one_noise s.lines → requests ≡ counted one_request s.lines → IsAtStart s start
-  at_start count asked = record {
+-- FROM A START of units that are set up
+pub begins_at : {start : Spot} (s : Script) (setups : List Setup) (requests noises : ℕ) → AreSetFor s (tables_in setups) setups
+    → start.driver ≡ record { world = new_world setups (min requests 16384) noises; outstanding = requests; failed = false; kept = [] } → start.out.kept ≡ [] → start.lines.kept ≡ []
+    → noises ≡ counted one_noise s.lines → requests ≡ counted one_request s.lines → (IsTrue start.packs.tells → AreTablesOf (drives_of s) start.packs.held (tables_in setups))
+    → start.tally ≡ tally_by requests [] [] → Begins s start
+begins_at {start} s setups requests noises set is kept sent count asked read none_yet = record {
+  tables = tables_in setups;
+  read = read;
+  run = subst (λ (d : State). HasRun s (tables_in setups) start.packs.held start.packs.held 0 [] d.world []) (sym is) (starts_run s setups (min requests 16384) noises start.packs.held set);
+  start = record {
     may = subst MayGoOn (sym is) (record { going = refl; none_waits = refl });
     ready = subst (λ (d : State). Ready s 0 0 0 [] d.world) (sym is) (starts_ready s setups requests noises set count);
     outstanding = ap (λ (d : State). d.outstanding) is ∙ asked;
     kept = kept;
     sent = sent;
-  }
+  };
+  tally = none_yet ∙ ap (λ (n : ℕ). tally_by n [] []) asked;
+}
 
-  pub start_run : HasRun s (tables_in setups) start.packs.held start.packs.held 0 [] start.driver.world []
-  start_run = subst (λ (d : State). HasRun s (tables_in setups) start.packs.held start.packs.held 0 [] d.world []) (sym is) (starts_run s setups (min requests 16384) noises start.packs.held set)
+-- which may be lent
+pub start_lent : {s : Script} {start : Spot} (loans : List ℕ) → IsAtStart s start → IsAtStart s (record start { loans = loans })
+start_lent loans at = record { may = at.may; ready = at.ready; outstanding = at.outstanding; kept = at.kept; sent = at.sent }
 
-  pub ends_whole : (new : Spot) → IsScript s → AreTablesOf (drives_of s) start.packs.held (tables_in setups) → start.tally ≡ tally_by (counted one_request s.lines) [] []
-      → ((tables : ℕ → Option Table) → PlaysScript s tables (seen start) (seen new))
+pub begins_lent : {s : Script} {start : Spot} (loans : List ℕ) → Begins s start → Begins s (record start { loans = loans })
+begins_lent loans begins = record { tables = begins.tables; read = begins.read; run = begins.run; start = start_lent loans begins.start; tally = begins.tally }
+
+module _ (s : Script) (start : Spot) (begins : Begins s start) where
+  ends_whole : (new : Spot) → IsScript s → IsTrue start.packs.tells → ((tables : ℕ → Option Table) → PlaysScript s tables (seen start) (seen new))
       → Tallied s start.packs.held new.packs.held new.out.tells start.out.took new.out.took new.lines.tells start.lines.took new.lines.took new.tally
-  ends_whole new script read none_yet goes =
-      subst (λ (xs : List ℕ). Tallied s start.packs.held new.packs.held new.out.tells start.out.took new.out.took new.lines.tells xs new.lines.took new.tally) (none_kept start.lines sent)
-      (subst (λ (xs : List ℕ). Tallied s start.packs.held new.packs.held new.out.tells xs new.out.took new.lines.tells (start.lines.took ++ start.lines.kept) new.lines.took new.tally) (none_kept start.out kept)
-      (tally_whole s (tables_in setups) (seen start) (seen new) script read none_yet (goes (tables_in setups) start_run)))
+  ends_whole new script told goes =
+      subst (λ (xs : List ℕ). Tallied s start.packs.held new.packs.held new.out.tells start.out.took new.out.took new.lines.tells xs new.lines.took new.tally) (none_kept start.lines begins.start.sent)
+      (subst (λ (xs : List ℕ). Tallied s start.packs.held new.packs.held new.out.tells xs new.out.took new.lines.tells (start.lines.took ++ start.lines.kept) new.lines.took new.tally)
+      (none_kept start.out begins.start.kept)
+      (tally_whole s begins.tables (seen start) (seen new) script (begins.read told) begins.tally (goes begins.tables begins.run)))
 
-  pub ends_stopped : (new : Spot) (fault : PlayFault) → ((tables : ℕ → Option Table) → StopsScript s tables fault (seen start) (seen new))
-      → StopsAt fault s (tables_in setups) start.packs.held start.out.took start.lines.took (seen new)
+  ends_stopped : (new : Spot) (fault : PlayFault) → ((tables : ℕ → Option Table) → StopsScript s tables fault (seen start) (seen new))
+      → StopsAt fault s begins.tables start.packs.held start.out.took start.lines.took (seen new)
   ends_stopped new fault stops =
-      subst (λ (xs : List ℕ). StopsAt fault s (tables_in setups) start.packs.held start.out.took xs (seen new)) (none_kept start.lines sent)
-      (subst (λ (xs : List ℕ). StopsAt fault s (tables_in setups) start.packs.held xs (start.lines.took ++ start.lines.kept) (seen new)) (none_kept start.out kept)
-      (stops (tables_in setups) start_run))
+      subst (λ (xs : List ℕ). StopsAt fault s begins.tables start.packs.held start.out.took xs (seen new)) (none_kept start.lines begins.start.sent)
+      (subst (λ (xs : List ℕ). StopsAt fault s begins.tables start.packs.held xs (start.lines.took ++ start.lines.kept) (seen new)) (none_kept start.out begins.start.kept)
+      (stops begins.tables begins.run))
 
   -- ---- what is sent behind it
   module _ (now new : Spot) where
@@ -149,7 +167,7 @@ module _ (s : Script) (setups : List Setup) (requests noises : ℕ) (start : Spo
       loans = ap (λ (x : Spot). x.loans) rest.same;
     }
 
-    behind : (fault : PlayFault) → (fault ≡ faults.Store → SendsRest now new) → ((fault ≡ faults.Store → ⊥) → new ≡ now) → Keeps now new
+    pub behind : (fault : PlayFault) → (fault ≡ faults.Store → SendsRest now new) → ((fault ≡ faults.Store → ⊥) → new ≡ now) → Keeps now new
     behind faults.Store rest same = rest_keeps (rest refl)
     behind faults.Sink rest same = subst (Keeps now) (sym (same (λ e. cc e))) (keeps_none now)
     behind faults.Memory rest same = subst (Keeps now) (sym (same (λ e. cc e))) (keeps_none now)
@@ -173,38 +191,49 @@ module _ (s : Script) (setups : List Setup) (requests noises : ℕ) (start : Spo
         on (inr rose) = let more = next.later_lines in inr (omega (arith, rose, more))
     rises other caused first next = absurd caused
 
-    never_long : (fault : PlayFault) → Caused fault start now → (unit n : ℕ) → ¬ (IsErrOf {T = Tally} (Err fault) (faults.TooLong unit n))
+    never_long : (fault : PlayFault) → Caused fault start now → (unit n : ℕ) → IsErrOf {T = Tally} (Err fault) (faults.TooLong unit n) → ⊥
     never_long faults.Store caused unit n e = cc e
     never_long faults.Sink caused unit n e = cc e
     never_long other caused unit n e = absurd caused
 
-    pub plays_over : (call : PackCall) (result : Result Tally PlayFault) → IsScript s → (IsTrue start.packs.tells → AreTablesOf (drives_of s) start.packs.held (tables_in setups))
-        → start.tally ≡ tally_by (counted one_request s.lines) [] [] → PlaysTheScript s result start now → IfOk result (λ tally. tally ≡ now.tally)
+    pub rest_loans : (result : Result Tally PlayFault) → PlaysTheScript s result start now → (IsErrOf result faults.Store → SendsRest now new) → ((IsErrOf result faults.Store → ⊥) → new ≡ now)
+        → new.loans ≡ start.loans
+    rest_loans (Ok tally) turns rest same = ap (λ (x : Spot). x.loans) (same (λ e. cc e)) ∙ turns.keeps.loans
+    rest_loans (Err fault) turns rest same = (behind fault (λ e. rest (ap Err e)) (λ other. same (λ e. other (err_same e)))).loans ∙ turns.keeps.loans
+
+    pub plays_over : (result : Result Tally PlayFault) → IsScript s → PlaysTheScript s result start now → IfOk result (λ tally. tally ≡ now.tally)
         → (IsErrOf result faults.Store → SendsRest now new) → ((IsErrOf result faults.Store → ⊥) → new ≡ now)
-        → PlaysOver s call result start.packs new.packs (record start.out { kept = [] }) (record new.out { kept = [] }) (record start.lines { kept = [] }) (record new.lines { kept = [] })
-    plays_over call (Ok tally) script read none_yet turns told rest same =
-        subst (λ (x : Spot). PlaysOver s call (Ok tally) start.packs x.packs (record start.out { kept = [] }) (record x.out { kept = [] }) (record start.lines { kept = [] }) (record x.lines { kept = [] }))
+        → PlaysOver s result start.packs new.packs (record start.out { kept = [] }) (record new.out { kept = [] }) (record start.lines { kept = [] }) (record new.lines { kept = [] })
+    plays_over (Ok tally) script turns told rest same =
+        subst (λ (x : Spot). PlaysOver s (Ok tally) start.packs x.packs (record start.out { kept = [] }) (record x.out { kept = [] }) (record start.lines { kept = [] }) (record x.lines { kept = [] }))
         (sym (same (λ e. cc e)))
         (record {
           tallied = λ t. subst (λ (x : Tally). Tallied s start.packs.held now.packs.held now.out.tells start.out.took now.out.took now.lines.tells start.lines.took now.lines.took x) (sym told)
-              (ends_whole now script (read (turns.keeps.told.never_again t)) none_yet (turns.plays t));
-          requests = ap (λ (x : Tally). x.requests) told ∙ turns.keeps.requests ∙ ap (λ (x : Tally). x.requests) none_yet;
+              (ends_whole now script (turns.keeps.told.never_again t) (turns.plays t));
+          requests = ap (λ (x : Tally). x.requests) told ∙ turns.keeps.requests ∙ ap (λ (x : Tally). x.requests) begins.tally;
           stopped = tt;
           too_long = λ unit n e. cc e;
           told = turns.keeps.told;
           causes = record { later = turns.keeps.later; later_out = turns.keeps.later_out; later_trace = turns.keeps.later_lines; store = λ e. absurd (cc e); sink = λ e. absurd (cc e) };
         })
-    plays_over call (Err fault) script read none_yet turns told rest same =
+    plays_over (Err fault) script turns told rest same =
         let next : Keeps now new = behind fault (λ e. rest (ap Err e)) (λ other. same (λ e. other (err_same e))) in
         record {
           tallied = tt;
           requests = tt;
-          stopped = λ t. stopped_leaves s (tables_in setups) start.packs.held start now new turns.keeps fault call (read (turns.keeps.told.never_again (next.told.never_again t)))
+          stopped = λ t call. stopped_leaves s begins.tables start.packs.held start now new turns.keeps fault call (begins.read (turns.keeps.told.never_again (next.told.never_again t)))
               (ends_stopped now fault (turns.stops (next.told.never_again t))) (λ e. rest (ap Err e)) (λ other. same (λ e. other (err_same e)));
           too_long = never_long fault turns.caused;
           told = (keeps_join turns.keeps next).told;
           causes = rises fault turns.caused turns.keeps next;
         }
+
+-- what was lent comes back as it is left
+pub over_at : {s : Script} {result : Result Tally PlayFault} {packs new back : PacksAt} {out new_out back_out lines new_lines back_lines : Side}
+    → PlaysOver s result packs new out new_out lines new_lines → new ≡ back → new_out ≡ back_out → new_lines ≡ back_lines → PlaysOver s result packs back out back_out lines back_lines
+over_at {s} {result} {packs} {new} {back} {out} {new_out} {back_out} {lines} {new_lines} {back_lines} over same same_out same_lines =
+    subst (λ z. PlaysOver s result packs z out back_out lines back_lines) same
+    (subst (λ z. PlaysOver s result packs new out z lines back_lines) same_out (subst (PlaysOver s result packs new out new_out lines) same_lines over))
 
 -- nothing but the units and memory stops it before the first line
 pub never_before : {s : Script} {result : Result Tally PlayFault} {old new : Spot} → PlaysTheScript s result old new → IsBefore result → ⊥

@@ -259,7 +259,7 @@ idle_drains {A} {E} {x} line old new over idles =
 
 -- ALL THAT IS KEPT is sent.
 pub all_sent : {A E : Type 0} {x : A} (old new : Spot) → Sends {T = A} {E = E} true (Ok x) old new → IsAllSent (seen old) (seen new)
-all_sent old new sends = record {
+all_sent {x = x} old new sends = record {
   world = ap (λ (s : Spot). s.driver.world) sends.same;
   held = ap (λ (s : Spot). s.packs.held) sends.same;
   tally = ap (λ (s : Spot). s.tally) sends.same;

@@ -22,9 +22,6 @@ stays n = omega arith
 on : (a b c : ℕ) → a ≤ b → b ≤ c → a ≤ c
 on a b c first next = omega (arith, first, next)
 
-of_err : {T E : Type 0} {P : Type 0} (e : E) → OnErr {T = T} (Err e) P → P
-of_err e p = p
-
 -- nothing was called
 pub keeps_none : (s : Spot) → Keeps s s
 keeps_none s = record {
@@ -51,12 +48,12 @@ keeps_join {old} {mid} {new} first next = record {
   loans = next.loans ∙ first.loans;
 }
 
-pub caused_behind : {old mid new : Spot} (fault : PlayFault) → Keeps old mid → Caused fault mid new → Caused fault old new
-caused_behind {old} {mid} {new} faults.Store first rose = rose_more old.packs.faults mid.packs.faults new.packs.faults first.later rose
-caused_behind {old} {mid} {new} faults.Sink first (inl rose) = inl (rose_more old.out.faults mid.out.faults new.out.faults first.later_out rose)
-caused_behind {old} {mid} {new} faults.Sink first (inr rose) = inr (rose_more old.lines.faults mid.lines.faults new.lines.faults first.later_lines rose)
-caused_behind {old} {mid} {new} faults.Memory first rose = rose
-caused_behind {old} {mid} {new} (faults.TooLong unit n) first rose = rose
+pub caused_behind : {old mid : Spot} (new : Spot) (fault : PlayFault) → Keeps old mid → Caused fault mid new → Caused fault old new
+caused_behind {old} {mid} new faults.Store first rose = rose_more old.packs.faults mid.packs.faults new.packs.faults first.later rose
+caused_behind {old} {mid} new faults.Sink first (inl rose) = inl (rose_more old.out.faults mid.out.faults new.out.faults first.later_out rose)
+caused_behind {old} {mid} new faults.Sink first (inr rose) = inr (rose_more old.lines.faults mid.lines.faults new.lines.faults first.later_lines rose)
+caused_behind {old} {mid} new faults.Memory first rose = rose
+caused_behind {old} {mid} new (faults.TooLong unit n) first rose = rose
 
 -- ---- each call
 pub said_keeps : {T E : Type 0} {answers : List Answered} {text : List ℕ} {result : Result T E} {old new : Spot} → SaysText answers text result old new → Keeps old new
@@ -145,7 +142,7 @@ module _ {V : Type 0} {Plays : Spot → Spot → Type 0} {Stops : PlayFault → 
 
   pub stopped_behind : {W : Type 0} {Plays' : Spot → Spot → Type 0} {Stops' : PlayFault → Spot → Spot → Type 0} {mid : Spot} (result : Result V PlayFault) (fault : PlayFault)
       → IsErrAnd result (λ x. x ≡ fault) → Keeps old mid → TurnsOut {V = W} Plays' Stops' (Err fault) mid new → (Stops' fault mid new → Stops fault old new) → TurnsOut Plays Stops result old new
-  stopped_behind result fault is first turns stops = stopped result fault is (keeps_join first turns.keeps) (caused_behind fault first turns.caused) (stops turns.stops)
+  stopped_behind result fault is first turns stops = stopped result fault is (keeps_join first turns.keeps) (caused_behind new fault first turns.caused) (stops turns.stops)
 
   pub turns_behind : {Plays' : Spot → Spot → Type 0} {Stops' : PlayFault → Spot → Spot → Type 0} {mid : Spot} (result : Result V PlayFault) → Keeps old mid → mid.driver.outstanding ≡ old.driver.outstanding
       → TurnsOut Plays' Stops' result mid new → (Plays' mid new → Plays old new) → ((fault : PlayFault) → Stops' fault mid new → Stops fault old new) → TurnsOut Plays Stops result old new
@@ -160,7 +157,7 @@ module _ {V : Type 0} {Plays : Spot → Spot → Type 0} {Stops : PlayFault → 
     plays = tt;
     goes = tt;
     stops = stops fault turns.stops;
-    caused = caused_behind fault first turns.caused;
+    caused = caused_behind new fault first turns.caused;
     keeps = keeps_join first turns.keeps;
   }
 

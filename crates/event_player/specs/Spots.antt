@@ -1,6 +1,7 @@
 -- WHERE A CALL OF THE PLAYER STANDS: the driver, the packs, the two sinks and the tally; and what each call comes to there.
-use Rattle.std.specs.Prelude.{◌≡◌, ◌⊎◌, ℕ, ◌≤◌, Bool, false, IsTrue, List, [], ◌++◌, Option, Result, OnOk, IfOk, IfErr, IsErrOf, ¬}
+use Rattle.std.specs.Prelude.{◌≡◌, ◌⊎◌, ℕ, ◌≤◌, Bool, false, IsTrue, List, [], ◌++◌, Option, Result, OnOk, IfOk, IfErr, IsErrOf}
 use Rattle.pack_geometry.specs.Pack.{Pack}
+use Rattle.pack_geometry.specs.PackTable.{AreTablesOf}
 use Rattle.pack_geometry.specs.TableSpelling.{Table}
 use Rattle.outside_traits.specs.Causes.{Rose, HasCause}
 use Rattle.outside_traits.specs.Gathers.{Gathers}
@@ -8,7 +9,7 @@ use Rattle.outside_traits.specs.declared.traits.PackCall.{PackCall}
 use Rattle.outside_traits.specs.declared.traits.SinkFailed.{SinkFailed}
 use Rattle.trace_replay.specs.requests.Requests as told
 use Rattle.trace_replay.specs.Moments.{Answered, Idle}
-use Rattle.trace_replay.specs.Script.{Script, Input, Statement}
+use Rattle.trace_replay.specs.Script.{Script, Input, Statement, drives_of}
 use Rattle.trace_replay.specs.Text.{moment_text}
 use Rattle.driver_laws.specs.answers.Outcome.{stop_in}
 use Rattle.driver_laws.specs.declared.answers.outcome.Stop.{Stop}
@@ -18,12 +19,12 @@ use Rattle.script_runs.specs.declared.fault.PlayFault.{PlayFault}
 use Rattle.script_runs.specs.declared.fault.PlayFault.TheVariants as faults
 use Rattle.script_runs.specs.Faults.{HaveTold, Rise}
 use Rattle.trace_lines.specs.declared.answers.tally.Tally.{Tally}
-use Rattle.trace_lines.specs.answers.Counting.{Counts}
+use Rattle.trace_lines.specs.answers.Counting.{Counts, tally_by}
 use Rattle.script_runs.specs.Stops.{Took, TakesRest}
 use Rattle.event_player.specs.Saying.{Side, side, Says, SendsAhead}
 use Rattle.event_player.specs.Steps.{Stage, by_sides, Brings, PlaysLine, PlaysScript, Ready}
 use Rattle.event_player.specs.Calls.{KeepsGoing, MayGoOn}
-use Rattle.event_player.specs.Playing.{counted, one_request}
+use Rattle.event_player.specs.Playing.{HasRun, counted, one_request}
 use Rattle.event_player.specs.Plays.{Tallied}
 use Rattle.event_player.specs.Stops.{Leaves, StopsLine, StopsScript}
 
@@ -74,6 +75,9 @@ held_at p = p.held
 
 abbrev pub taking : Side → Side → Took
 taking old new = record { tells = new.tells; before = old.took; after = new.took; faults = old.faults; faults_after = new.faults }
+
+abbrev pub emptied : Side → Side
+emptied s = record s { kept = [] }
 
 abbrev pub seen : Spot → Stage
 seen s = by_sides s.driver.world s.packs.tells s.packs.held s.out s.lines s.tally
@@ -166,15 +170,23 @@ pub record IsAtStart (script : Script) (s : Spot) : Type 0 where
   pub kept : s.out.kept ≡ []
   pub sent : s.lines.kept ≡ []
 
+-- with the tables of its packs, and a tally of none
+pub record Begins (script : Script) (s : Spot) : Type 0 where
+  pub tables : ℕ → Option Table
+  pub read : IsTrue s.packs.tells → AreTablesOf (drives_of script) s.packs.held tables
+  pub run : HasRun script tables s.packs.held s.packs.held 0 [] s.driver.world []
+  pub start : IsAtStart script s
+  pub tally : s.tally ≡ tally_by (counted one_request script.lines) [] []
+
 abbrev pub PlaysTheScript : {V : Type 0} → Script → Result V PlayFault → Spot → Spot → Type 0
 PlaysTheScript script = TurnsOut (λ old new. IsTrue new.packs.tells → (tables : ℕ → Option Table) → PlaysScript script tables (seen old) (seen new))
     (StopsAs (λ fault old new. (tables : ℕ → Option Table) → StopsScript script tables fault old new))
 
 -- THE WHOLE PLAY of units that are set up, from what packs and sinks were to what they are.
-pub record PlaysOver (script : Script) (call : PackCall) (result : Result Tally PlayFault) (packs packs' : PacksAt) (out out' lines lines' : Side) : Type 0 where
+pub record PlaysOver (script : Script) (result : Result Tally PlayFault) (packs packs' : PacksAt) (out out' lines lines' : Side) : Type 0 where
   pub tallied : IfOk result (λ tally. IsTrue packs'.tells → Tallied script packs.held packs'.held out'.tells out.took out'.took lines'.tells lines.took lines'.took tally)
   pub requests : IfOk result (λ tally. tally.requests ≡ counted one_request script.lines)
-  pub stopped : IfErr result (λ fault. IsTrue packs'.tells → Leaves fault script packs.held packs'.held call (taking out out') (taking lines lines'))
-  pub too_long : (unit n : ℕ) → ¬ (IsErrOf result (faults.TooLong unit n))
+  pub stopped : IfErr result (λ fault. IsTrue packs'.tells → (call : PackCall) → Leaves fault script packs.held packs'.held call (taking out out') (taking lines lines'))
+  pub too_long : (unit n : ℕ) → IsErrOf result (faults.TooLong unit n) → ⊥
   pub told : HaveTold packs.tells packs'.tells out.tells out'.tells lines.tells lines'.tells
   pub causes : Rise packs.faults packs'.faults out.faults out'.faults lines.faults lines'.faults result

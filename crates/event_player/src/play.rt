@@ -14,13 +14,13 @@ ghost use Rattle.script_runs.specs.Lengths.{IsTooLong};
 ghost use Rattle.script_runs.specs.Faults.{IsPlaying, IsBefore, IsLongFor, AreUntouched, HaveTold, Rise};
 ghost use Rattle.event_player.specs.Playing.{counted, one_request};
 ghost use Rattle.event_player.specs.Saying.{side};
-ghost use Rattle.event_player.specs.Spots.{IsAtStart, PlaysOver, PlaysTheScript, SendsRest, packs_at};
+ghost use Rattle.event_player.specs.Spots.{Begins, IsAtStart, PlaysOver, PlaysTheScript, SendsRest, emptied, packs_at, spot};
 ghost use Rattle.event_player.specs.Stops.{Leaves};
 ghost use Rattle.script_runs.specs.declared.fault.PlayFault.TheVariants.{Store};
 ghost use Rattle.script_runs.specs.Stops.{took};
 
 use crate::counting::{count_noises, count_requests};
-use crate::desk::Desk;
+use crate::desk::{Desk, Forms};
 use crate::drains::drain;
 use crate::player::play_line;
 use crate::venue::{Outlet, Venue};
@@ -43,11 +43,12 @@ fn bytes(alloc: Global, size: usize) -> Result<Vec<u8>, AllocError>
     vec![in alloc; 0; size]
 }
 
-/// A desk, and the room for the bytes of the longest write.
+/// A desk with its forms, and the room for the bytes of the longest write.
 #[derive(Drop)]
 struct Bench {
     room: Vec<u8>,
     desk: Desk,
+    forms: Forms,
 }
 
 impl Bench {
@@ -60,7 +61,8 @@ impl Bench {
     {
         let room = bytes(alloc, MOST_BYTES)?;
         let desk = Desk::new(alloc, requests)?;
-        Ok(Bench { room, desk })
+        let forms = Forms::new();
+        Ok(Bench { room, desk, forms })
     }
 }
 
@@ -98,6 +100,54 @@ fn send_rest<V: Venue>(played: Result<Tally, PlayFault>, venue: &mut V)
     }
 }
 
+/// Plays a script at a venue, and if the packs failed sends the rest.
+fn play_all<V: Venue>(
+    script: &Script,
+    room: &mut [u8],
+    venue: &mut V,
+) -> Result<Tally, PlayFault>
+    requires good { Spells all_verbs script.now.text (lines_in script.now) script.now.count }
+    requires begins { Begins (meaning_of script.now) (V.at venue.old) }
+    requires room { length room.old ≡ 65024 }
+    ensures plays { PlaysOver (meaning_of script.now) result (V.at venue.old).packs (V.at venue.new).packs (emptied (V.at venue.old).out) (emptied (V.at venue.new).out) (emptied (V.at venue.old).lines) (emptied (V.at venue.new).lines) }
+    ensures begun { IsBefore result → ⊥ }
+    ensures loans { (V.at venue.new).loans ≡ (V.at venue.old).loans }
+{
+    meaning_law();
+    let played = play_lines(script, room, venue);
+    send_rest(played, venue);
+    played
+}
+
+/// Plays a script over what is lent for it.
+fn play_from<P: Packs, O: Sink, T: Sink>(
+    script: &Script,
+    room: &mut [u8],
+    subsystem: &mut Subsystem,
+    desk: &mut Desk,
+    forms: &mut Forms,
+    packs: &mut P,
+    out: &mut O,
+    trace: &mut T,
+) -> Result<Tally, PlayFault>
+    requires good { Spells all_verbs script.now.text (lines_in script.now) script.now.count }
+    requires begins { Begins (meaning_of script.now) (spot P.tells P.held P.faults O.tells O.taken O.faults T.tells T.taken T.faults subsystem.old desk.old.gather desk.old.tally packs.old out.old trace.old []) }
+    requires room { length room.old ≡ 65024 }
+    ensures plays { PlaysOver (meaning_of script.now) result (packs_at P.tells P.held P.faults packs.old) (packs_at P.tells P.held P.faults packs.new)
+        (side O.tells O.taken O.faults out.old []) (side O.tells O.taken O.faults out.new []) (side T.tells T.taken T.faults trace.old []) (side T.tells T.taken T.faults trace.new []) }
+    ensures begun { IsBefore result → ⊥ }
+{
+    let mut venue = Outlet {
+        subsystem,
+        desk,
+        forms,
+        packs,
+        out,
+        trace,
+    };
+    play_all(script, room, &mut venue)
+}
+
 /// Plays a script over units that are set up for it, as `play` does once they are attached. `Memory` comes only before the first line
 /// is played, and `TooLong` never.
 fn play_units<P: Packs, O: Sink, T: Sink>(
@@ -111,7 +161,7 @@ fn play_units<P: Packs, O: Sink, T: Sink>(
     requires good { Spells all_verbs script.now.text (lines_in script.now) script.now.count }
     requires set { AreSetFor (meaning_of script.now) (tables_in (setups_of units.now)) (setups_of units.now) }
     requires tables { IsTrue (P.tells packs.old) → AreTablesOf (drives_of (meaning_of script.now)) (P.held packs.old) (tables_in (setups_of units.now)) }
-    ensures plays { PlaysOver (meaning_of script.now) (P.failed_at packs.new) result (packs_at P.tells P.held P.faults packs.old) (packs_at P.tells P.held P.faults packs.new)
+    ensures plays { PlaysOver (meaning_of script.now) result (packs_at P.tells P.held P.faults packs.old) (packs_at P.tells P.held P.faults packs.new)
         (side O.tells O.taken O.faults out.old []) (side O.tells O.taken O.faults out.new []) (side T.tells T.taken T.faults trace.old []) (side T.tells T.taken T.faults trace.new []) }
     ensures untouched { IsBefore result → AreUntouched (P.tells packs.new) (P.held packs.old) (P.held packs.new) out.old out.new trace.old trace.new }
 {
@@ -120,16 +170,16 @@ fn play_units<P: Packs, O: Sink, T: Sink>(
     let noises = count_noises(script);
     let mut bench = Bench::new(alloc, u64::from(requests))?;
     let mut subsystem = Subsystem::new(alloc, units, requests, noises)?;
-    let mut venue = Outlet {
-        subsystem: &mut subsystem,
-        desk: &mut bench.desk,
+    play_from(
+        script,
+        bench.room.as_mut_slice(),
+        &mut subsystem,
+        &mut bench.desk,
+        &mut bench.forms,
         packs,
         out,
         trace,
-    };
-    let played = play_lines(script, bench.room.as_mut_slice(), &mut venue);
-    send_rest(played, &mut venue);
-    played
+    )
 }
 
 /// Plays a script line by line, and a drain after its last line. The number of the drain is the number of lines plus one. The lines of

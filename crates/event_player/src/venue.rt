@@ -1,5 +1,5 @@
 // Where a script is played: the driver and the desk, with the packs, the sink of the answers and that of the trace.
-ghost use Rattle.std.specs.Prelude.{◌≡◌, ◌<◌, ◌≤◌, ◌≢◌, ℕ, List, [], ◌∷◌, false, true, None, Some, IfSome, IfNone, slice_index_or, take};
+ghost use Rattle.std.specs.Prelude.{◌≡◌, ◌<◌, ◌≤◌, ◌≢◌, ℕ, List, [], ◌∷◌, false, true, None, Some, IfSome, IfNone, slice_index_or};
 ghost use Rattle.trace_lines.specs.answers.AnswerText.{block_text};
 ghost use Rattle.driver_machine.specs.Acts.{Taken, after};
 ghost use Rattle.driver_machine.specs.Events.{next_event};
@@ -12,7 +12,7 @@ ghost use Rattle.event_player.specs.Answering.{first_blocks, first_line, first_t
 ghost use Rattle.event_player.specs.Calls.{MayGoOn};
 ghost use Rattle.event_player.specs.Spots.{Spot, spot, SaysText, Sends, SendsRest, SubmitsAt, ComesAt, IdlesAt};
 
-use crate::desk::Desk;
+use crate::desk::{Desk, Forms};
 use hp_driver::{Answer, Event, Request, Stop, Subsystem};
 use outside_traits::traits::{Packs, Sink, SinkFailed};
 use trace_lines::answers::{Tally, answer_line, write_fill};
@@ -96,56 +96,20 @@ pub(crate) trait Venue {
         ensures { IdlesAt number result (at self.old) (at self.new) };
 }
 
-/// A driver, a desk, the packs and both sinks, each of which was lent.
+/// A driver, a desk with its forms, the packs and both sinks, each of which was lent.
 #[derive(Drop)]
 pub(crate) struct Outlet<'a, P: Packs, O: Sink, T: Sink> {
     pub subsystem: &'a mut Subsystem,
     pub desk: &'a mut Desk,
+    pub forms: &'a mut Forms,
     pub packs: &'a mut P,
     pub out: &'a mut O,
     pub trace: &'a mut T,
 }
 
-/// The first bytes of a block.
-fn front(bytes: &[u8; 512], size: u32) -> &[u8]
-    requires { size ≤ 512 }
-    ensures { result.now ≡ take size bytes.now }
-{
-    &bytes.as_slice()[..size as usize]
-}
-
-impl<'a, P: Packs, O: Sink, T: Sink> Outlet<'a, P, O, T> {
-    /// Says the line of a block that is on the desk, as [`Venue::say`] does.
-    fn say_block_line(&mut self) -> Result<(), SinkFailed>
-        ensures says { SaysText [] self.old.desk.now.line result (⟦<Outlet<'a, P, O, T> as Venue>⟧.at self.old) (⟦<Outlet<'a, P, O, T> as Venue>⟧.at self.new) }
-        ensures driver { (⟦<Outlet<'a, P, O, T> as Venue>⟧.at self.new).driver ≡ (⟦<Outlet<'a, P, O, T> as Venue>⟧.at self.old).driver }
-    {
-        self.desk.tally.count_text(self.desk.line.as_bytes());
-        if self.desk.gather.try_keep(self.desk.line.as_bytes()) {
-            return Ok(());
-        }
-        self.subsystem.send(self.trace)?;
-        self.desk.gather.put(self.desk.line.as_bytes(), self.out)
-    }
-
-    /// Says the line of a block whose bytes are all the same, which is on the desk, as [`Venue::say`] does.
-    fn say_fill(&mut self) -> Result<(), SinkFailed>
-        ensures says { SaysText [] self.old.desk.now.fill result (⟦<Outlet<'a, P, O, T> as Venue>⟧.at self.old) (⟦<Outlet<'a, P, O, T> as Venue>⟧.at self.new) }
-        ensures driver { (⟦<Outlet<'a, P, O, T> as Venue>⟧.at self.new).driver ≡ (⟦<Outlet<'a, P, O, T> as Venue>⟧.at self.old).driver }
-    {
-        let line = &self.desk.fill;
-        self.desk.tally.count_text(line.as_bytes());
-        if self.desk.gather.try_keep_short(line.front(), line.len()) {
-            return Ok(());
-        }
-        self.subsystem.send(self.trace)?;
-        self.desk.gather.put_short(line.front(), line.len(), self.out)
-    }
-}
-
 impl<'a, P: Packs, O: Sink, T: Sink> Venue for Outlet<'a, P, O, T> {
     ghost at = { λ s. spot P.tells P.held P.faults O.tells O.taken O.faults T.tells T.taken T.faults s.subsystem.now s.desk.now.gather s.desk.now.tally
-        s.packs.now s.out.now s.trace.now (s.subsystem.ghost_name ∷ s.desk.ghost_name ∷ s.packs.ghost_name ∷ s.out.ghost_name ∷ s.trace.ghost_name ∷ []) };
+        s.packs.now s.out.now s.trace.now (s.subsystem.ghost_name ∷ s.desk.ghost_name ∷ s.forms.ghost_name ∷ s.packs.ghost_name ∷ s.out.ghost_name ∷ s.trace.ghost_name ∷ []) };
 
     fn law(&self) {
         self.subsystem.law();
@@ -168,12 +132,7 @@ impl<'a, P: Packs, O: Sink, T: Sink> Venue for Outlet<'a, P, O, T> {
     }
 
     fn say(&mut self, text: &[u8]) -> Result<(), SinkFailed> {
-        self.desk.tally.count_text(text);
-        if self.desk.gather.try_keep(text) {
-            return Ok(());
-        }
-        self.subsystem.send(self.trace)?;
-        self.desk.gather.put(text, self.out)
+        self.desk.say(text, self.subsystem, self.out, self.trace)
     }
 
     fn say_line(&mut self, answer: Answer) -> Result<(), SinkFailed> {
@@ -184,12 +143,13 @@ impl<'a, P: Packs, O: Sink, T: Sink> Venue for Outlet<'a, P, O, T> {
 
     fn say_block(&mut self, k: u32, size: u32) -> Result<(), SinkFailed> {
         if let Some(byte) = self.subsystem.answer_fill(k) {
-            write_fill(&mut self.desk.fill, k, byte);
-            return self.say_fill();
+            write_fill(&mut self.forms.fill, k, byte);
+            let line = &self.forms.fill;
+            return self.desk.say_short(line.front(), line.len(), self.subsystem, self.out, self.trace);
         }
-        self.subsystem.answer_block(k, &mut self.desk.block);
-        self.desk.line.write(k, front(&self.desk.block, size));
-        self.say_block_line()
+        self.subsystem.answer_block(k, &mut self.forms.block);
+        self.forms.write_block(k, size);
+        self.desk.say(self.forms.line.as_bytes(), self.subsystem, self.out, self.trace)
     }
 
     fn tally(&self) -> Tally {

@@ -17,7 +17,7 @@ loop-answer-preserved g c =
     c.in_ok-say_answer.ensures.says c.in_ok-say_answer.ensures.driver c.take_answer.ensures
 
 pub loop-answer-smaller : goal.loop-answer-smaller
-loop-answer-smaller g c = fewer_wait (g.V.Venue.at c.say_answer.new.venue) (g.V.Venue.at c.take_answer.new.self) c.in-Some.ensures.some c.in_ok-say_answer.ensures.driver c.take_answer.ensures
+loop-answer-smaller g c = fewer_wait (g.V.Venue.at c.loop-answer.venue) (g.V.Venue.at c.say_answer.new.venue) (g.V.Venue.at c.take_answer.new.self) c.in-Some.ensures.some c.in_ok-say_answer.ensures.driver c.take_answer.ensures
 
 pub returns-in_err-say_answer-clause-says : goal.returns-in_err-say_answer-clause-says
 returns-in_err-say_answer-clause-says g c =

@@ -14,7 +14,7 @@ returns-in_err-say_answers g c =
     let submits = c.in_ok-submit.ensures in
     let said = c.in_err-say_answers.ensures.says in
     stopped c.from_residual-in_err-say_answers.result faults.Sink c.from_residual-in_err-say_answers.ensures.1 (keeps_join (submitted_keeps submits) (said_keeps said))
-    (caused_behind faults.Sink (submitted_keeps submits) said.says.failed) (asked_unsaid c.law.ensures.sound (c.law.ensures.work c.requires.ready.going) submits said)
+    (caused_behind (g.V.Venue.at c.say_answers.new.venue) faults.Sink (submitted_keeps submits) said.says.failed) (asked_unsaid c.law.ensures.sound (c.law.ensures.work c.requires.ready.going) submits said)
 
 pub returns : goal.returns
 returns g c =

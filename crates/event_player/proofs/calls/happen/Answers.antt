@@ -28,7 +28,7 @@ returns-in_err-event g c =
     let comes = c.in_err-event.ensures in
     let halt = c.in_err-event.field-0.0 in
     stopped c.from_residual-in_err-event.result (from_stop halt) c.from_residual-in_err-event.ensures.1 (keeps_join (sent_keeps sends) (come_keeps comes))
-    (caused_behind (from_stop halt) (sent_keeps sends) (come_caused halt comes)) (came_halted sends c.law.ensures.noise comes)
+    (caused_behind (g.V.Venue.at c.event.new.self) (from_stop halt) (sent_keeps sends) (come_caused halt comes)) (came_halted sends c.law.ensures.noise comes)
 
 pub returns-in_err-say_answers : goal.returns-in_err-say_answers
 returns-in_err-say_answers g c =
@@ -36,7 +36,7 @@ returns-in_err-say_answers g c =
     let comes = c.in_ok-event.ensures in
     let said = c.in_err-say_answers.ensures.says in
     let before = keeps_join (sent_keeps sends) (come_keeps comes) in
-    stopped c.from_residual-in_err-say_answers.result faults.Sink c.from_residual-in_err-say_answers.ensures.1 (keeps_join before (said_keeps said)) (caused_behind faults.Sink before said.says.failed)
+    stopped c.from_residual-in_err-say_answers.result faults.Sink c.from_residual-in_err-say_answers.ensures.1 (keeps_join before (said_keeps said)) (caused_behind (g.V.Venue.at c.say_answers.new.venue) faults.Sink before said.says.failed)
     (came_unsaid sends c.law.ensures.sound (c.law.ensures.work c.requires.ready.going) comes c.requires.ready.none_waits c.law.ensures.noise said)
 
 pub returns : goal.returns

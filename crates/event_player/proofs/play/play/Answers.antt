@@ -83,10 +83,10 @@ tallied_at : (told : Type 0) (Of : (ℕ → Pack) → Tally → Type 0) (h first
 tallied_at told Of h first (Ok x) same is = λ t. subst (λ (held : ℕ → Pack). Of held x) (same t) (is t)
 tallied_at told Of h first (Err f) same is = tt
 
-stopped_at : (told : Type 0) (Of : (ℕ → Pack) → PlayFault → Type 0) (h first : ℕ → Pack) (result : Result Tally PlayFault) → (told → h ≡ first)
-    → IfErr result (λ fault. told → Of h fault) → IfErr result (λ fault. told → Of first fault)
-stopped_at told Of h first (Ok x) same is = tt
-stopped_at told Of h first (Err f) same is = λ t. subst (λ (held : ℕ → Pack). Of held f) (same t) (is t)
+stopped_at : (told : Type 0) (Of : (ℕ → Pack) → PackCall → PlayFault → Type 0) (h first : ℕ → Pack) (call : PackCall) (result : Result Tally PlayFault) → (told → h ≡ first)
+    → IfErr result (λ fault. told → (call : PackCall) → Of h call fault) → IfErr result (λ fault. told → Of first call fault)
+stopped_at told Of h first call (Ok x) same is = tt
+stopped_at told Of h first call (Err f) same is = λ t. subst (λ (held : ℕ → Pack). Of held call f) (same t) (is t call)
 
 long_never : (script : Script) (tells : Bool) (packs : ℕ → Pack) (result : Result Tally PlayFault)
     → ((unit n : ℕ) → IsErrOf result (faults.TooLong unit n) → ⊥) → IfErr result (IsLongFor script tells packs)
@@ -126,8 +126,8 @@ returns g c =
       tallied = tallied_at (IsTrue (g.P.Packs.tells c.play_units.new.packs)) (λ h tally. Tallied script h left out.tells out.before out.after trace.tells trace.before trace.after tally)
           attached first c.play_units.result (λ t. units.same (told.never_again t)) plays.tallied;
       requests = plays.requests;
-      stopped = stopped_at (IsTrue (g.P.Packs.tells c.play_units.new.packs)) (λ h fault. Leaves fault script h left (g.P.Packs.failed_at c.play_units.new.packs) out trace)
-          attached first c.play_units.result (λ t. units.same (told.never_again t)) plays.stopped;
+      stopped = stopped_at (IsTrue (g.P.Packs.tells c.play_units.new.packs)) (λ h call fault. Leaves fault script h left call out trace)
+          attached first _ c.play_units.result (λ t. units.same (told.never_again t)) plays.stopped;
       fits = λ playing t. units.fits (told.never_again t);
       too_long = long_never _ _ _ c.play_units.result plays.too_long;
       told = record { never_again = λ t. units.never_again (told.never_again t); never_again_out = λ t. told.never_again_out t; never_again_trace = λ t. told.never_again_trace t };

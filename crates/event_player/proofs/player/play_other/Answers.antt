@@ -1,4 +1,4 @@
-use Rattle.std.proofs.Common.{ℕ, List, take, refl, subst, ◌≡◌}
+use Rattle.std.proofs.Common.{ℕ, List, [], take, refl, subst, ◌≡◌}
 use Rattle.std.specs.Box.{box_value}
 use Rattle.hardware_table.specs.Noise.{LiveNoise}
 use Rattle.hp_driver.specs.declared.drain.Event.TheVariants as event
