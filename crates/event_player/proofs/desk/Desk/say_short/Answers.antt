@@ -15,3 +15,12 @@ returns-clause-says g c =
     c.args.out.now c.put_short.new.sink c.args.trace.now c.send.new.trace c.args.self.now.gather c.try_keep_short.new.self c.put_short.new.self c.args.subsystem.now.kept c.send.new.self.kept c.put_short.result
     (take c.args.len c.args.text.now)
     c.in_ok-send.ensures.puts (ap (λ (s : State). s.kept) c.in_ok-send.ensures.same) (c.if-try_keep_short.ensures.full refl) c.put_short.ensures
+
+pub returns-then-try_keep_short-clause-counts : goal.returns-then-try_keep_short-clause-counts
+returns-then-try_keep_short-clause-counts g c = c.count_text.ensures.counts
+
+pub returns-in_err-send-clause-counts : goal.returns-in_err-send-clause-counts
+returns-in_err-send-clause-counts g c = c.count_text.ensures.counts
+
+pub returns-clause-counts : goal.returns-clause-counts
+returns-clause-counts g c = c.count_text.ensures.counts
