@@ -6,5 +6,5 @@ mod Stays
 mod Turns
 mod Wholes
 mod Tills
-mod Serving
+pub mod Serving
 pub mod Passes

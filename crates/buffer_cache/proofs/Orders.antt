@@ -1,6 +1,6 @@
 -- The order of the blocks and their slots, and the entries that they are.
 use Rattle.std.proofs.Common.{◌≡◌, ◌≢◌, ℕ, zero, suc, ◌+◌, ◌-◌, ◌<◌, ◌≤◌, ◌==◌, Bool, true, false, cond, List, [], ◌∷◌, ◌++◌, length, take, drop, Option, None, Some, refl, sym, ap, ◌∙◌, subst, arith, length-append}
-use Rattle.std.specs.Prelude.{map, nat_lt, is_some, is_err, Result, Ok, Err, OnOk, OnErr, slice_index_or, slice_set, slice_get, if◌then◌else◌}
+use Rattle.std.specs.Prelude.{map, nat_lt, is_some, is_err, Result, Ok, Err, OnOk, slice_index_or, slice_set, slice_get, if◌then◌else◌}
 use Rattle.std.specs.Option.{option_map, option_map_or}
 use Rattle.std.specs.Map.{lookup, lookup_entry, remove_entry, keys_of}
 use Rattle.std.proofs.lemmas.List.{get_or-set_same, get_or-set_other, length-map, length-set, map-append, take-map}

@@ -1,19 +1,21 @@
 -- How a call turns out for a block that is no entry.
-use Rattle.std.proofs.Common.{◌≡◌, inl, inr, ℕ, ◌+◌, ◌-◌, ◌^◌, min, Bool, true, false, List, Option, Some, sym, ap, ◌∙◌, subst}
-use Rattle.std.specs.Prelude.{Result, IsErrAnd}
-use Rattle.pack_geometry.specs.Pack.{Pack}
+use Rattle.std.proofs.Common.{◌≡◌, inl, inr, ℕ, ◌+◌, ◌-◌, ◌^◌, min, Bool, true, false, List, Option, None, Some, refl, sym, ap, ◌∙◌, subst}
+use Rattle.std.specs.Prelude.{Result, Ok, Err, IsErrAnd}
 use Rattle.trace_replay.specs.requests.Requests.{Request}
 use Rattle.driver_laws.specs.declared.answers.outcome.Stop.{Stop}
 use Rattle.driver_laws.specs.declared.rules.cached.Entry.{Entry}
-use Rattle.driver_laws.specs.rules.Entries.{State, put}
+use Rattle.driver_laws.specs.rules.Entries.{State, put, written_back}
 use Rattle.blocking_io.specs.Spots.{Keeps as KeepsSpot}
-use Rattle.buffer_cache.specs.Passes.{Keeps, Spot, Stage, seen, spot}
+use Rattle.blocking_io.proofs.Spots.{keeps_none}
+use Rattle.pack_geometry.specs.Pack.{Pack}
+use Rattle.buffer_cache.specs.Passes.{Keeps, Spot, Stage, seen, setup_at, spot}
 use Rattle.buffer_cache.specs.Passes.{State as Driver}
 use Rattle.buffer_cache.specs.Asks.{AsksTill}
-use Rattle.buffer_cache.specs.Calls.{Holds, IfTold, RefusesOnce, Serves}
+use Rattle.buffer_cache.specs.Calls.{Holds, IfTold, MayUse, RefusesOnce, Serves, SyncsOrStops, stop_of}
 use Rattle.buffer_cache.specs.declared.fault.CacheFault.{CacheFault}
 use Rattle.buffer_cache.specs.declared.fault.CacheFault.TheVariants as fault
-use Rattle.buffer_cache.proofs.Tills.{on_stopped}
+use Rattle.buffer_cache.proofs.Passes.{others_none}
+use Rattle.buffer_cache.proofs.Tills.{no_stop, on_stopped}
 use Rattle.buffer_cache.proofs.Wholes.{never_stopped, stop_is}
 
 -- it stopped
@@ -29,11 +31,52 @@ served_stopped {line = line} {asks = asks} {s = s} {old = old} {new = new} resul
   keeps = subst (KeepsSpot old new) (sym (stop_is result stop is)) keeps;
 }
 
+-- it was an entry, and nothing was called
+pub served_here : {A : Type 0} {does : Stage → Stage → Type 0} {line unit block : ℕ} {from : Option (List ℕ)} {asks : Stage → List Request} {result : Result A CacheFault} {s s' : State} {here : Spot}
+    → stop_of result ≡ None → does (seen here) (seen here) → MayUse s' here.driver → s'.refused ≡ s.refused → Serves does line unit block from asks result s s' here here
+served_here {here = here} none does may refused = record {
+  done = λ e. does;
+  holds = λ t tables fit. record { each = λ u b. inl refl; others = others_none (setup_at (seen here)) };
+  may = λ e. may;
+  refused = inl refused;
+  till = λ stop e. no_stop stop (sym none ∙ e);
+  keeps = subst (KeepsSpot here here) (sym none) (keeps_none here may.ready);
+}
+
+-- it was none, and is served as it is where what was lent is left
+module _ {A : Type 0} (does : State → Stage → Stage → Type 0) (line unit block : ℕ) (from : Option (List ℕ)) (found asks : State → Stage → List Request) (result : Result A CacheFault) where
+  pub served_as : {s mid s' : State} {old new back : Spot} → mid ≡ s → new ≡ back → found s (seen old) ≡ asks s (seen old)
+      → Serves (does mid) line unit block from (found mid) result mid s' old new → Serves (does s) line unit block from (asks s) result s s' old back
+  served_as {s} {mid} {s'} {old} {new} {back} is same asked served =
+      let at : Serves (does s) line unit block from (found s) result s s' old back = subst (λ (z : Spot). Serves (does s) line unit block from (found s) result s s' old z) same
+      (subst (λ (z : State). Serves (does z) line unit block from (found z) result z s' old new) is served) in
+      record {
+        done = at.done;
+        holds = at.holds;
+        may = at.may;
+        refused = at.refused;
+        till = λ stop e t tables fit. subst (λ rs. AsksTill stop line rs (seen old) (seen back)) asked (at.till stop e t tables fit);
+        keeps = at.keeps;
+      }
+
+-- ---- a sync that stopped
+pub sync_stopped : {line : ℕ} {s s' : State} {old new : Spot} (result : Result (Unit {0}) Stop) (stop : Stop) → IsErrAnd result (λ x. x ≡ stop) → IfTold s (seen old) (seen new) (Holds 0 0 None s (seen old) (seen new))
+    → s'.refused ≡ s.refused → AsksTill stop line (written_back s.entries) (seen old) (seen new) → KeepsSpot old new (Some stop) → SyncsOrStops line result s s' old new
+sync_stopped (Ok value) stop is holds refused till keeps = absurd is
+sync_stopped {line = line} {s = s} {old = old} {new = new} (Err other) stop is holds refused till keeps = record {
+  done = tt;
+  holds = holds;
+  may = tt;
+  refused = refused;
+  till = subst (λ z. AsksTill z line (written_back s.entries) (seen old) (seen new)) (sym is) till;
+  keeps = subst (λ z. KeepsSpot old new (Some z)) (sym is) keeps;
+}
+
 -- what is kept where a call stands is kept of its arguments
-pub keeps_of : {O Q : Type 0} (holds : Q → Bool) (held : Q → ℕ → Pack) (packs_faults : Q → ℕ) (tells : O → Bool) (taken : O → List ℕ) (faults : O → ℕ) (s s' : Driver) (packs packs' : Q) (trace trace' : O) (stop : Option Stop)
+pub keeps_of : {O Q : Type 0} (holds : Q → Bool) (held : Q → ℕ → Pack) (packs_faults : Q → ℕ) (tells : O → Bool) (taken : O → List ℕ) (faults : O → ℕ) (s s' : Driver) (packs packs' : Q) (trace trace' : O) {stop : Option Stop}
     → KeepsSpot (spot holds held packs_faults tells taken faults s packs trace) (spot holds held packs_faults tells taken faults s' packs' trace') stop
     → Keeps holds packs_faults tells faults s s' packs packs' trace trace' stop
-keeps_of holds held packs_faults tells taken faults s s' packs packs' trace trace' stop k = record {
+keeps_of holds held packs_faults tells taken faults s s' packs packs' trace trace' k = record {
   ready = k.ready;
   units = k.units;
   outstanding = k.outstanding;

@@ -1,6 +1,7 @@
 -- WHAT THE CALLS OF THE CACHE COME TO, over the driver and the packs.
-use Rattle.std.specs.Prelude.{◌≡◌, ◌⊎◌, ℕ, ◌≤◌, Bool, true, false, if◌then◌else◌, is_some, IsTrue, List, [], ◌∷◌, Option, None, Some, Result, Ok, Err}
+use Rattle.std.specs.Prelude.{◌≡◌, ◌⊎◌, ℕ, ◌≤◌, Bool, true, false, if◌then◌else◌, is_some, IsTrue, List, [], ◌∷◌, Option, None, Some, Result, Ok, Err, IfErr, OnOk}
 use Rattle.std.specs.List.{AllByRecursion}
+use Rattle.driver_laws.specs.answers.Outcome.{stop_in}
 use Rattle.driver_laws.specs.declared.answers.outcome.Stop.{Stop}
 use Rattle.driver_laws.specs.rules.Rest.{HasTables}
 use Rattle.buffer_cache.specs.Passes.{Spot, Stage, seen}
@@ -104,3 +105,12 @@ pub record Serves {A : Type 0} (does : Stage → Stage → Type 0) (line unit bl
   pub refused : RefusesOnce s s'
   pub till : (stop : Stop) → stop_of result ≡ Some stop → IfTold s (seen old) (seen new) (AsksTill stop line (asks (seen old)) (seen old) (seen new))
   pub keeps : Keeps old new (stop_of result)
+
+-- HOW A SYNC TURNS OUT: each changed entry was written back, or it was writing one.
+pub record SyncsOrStops (line : ℕ) (result : Result (Unit {0}) Stop) (s s' : State) (old new : Spot) : Type 0 where
+  pub done : OnOk result (Syncs line s s' (seen old) (seen new))
+  pub holds : IfTold s (seen old) (seen new) (Holds 0 0 None s (seen old) (seen new))
+  pub may : OnOk result (MayUse s' new.driver)
+  pub refused : s'.refused ≡ s.refused
+  pub till : IfErr result (λ stop. AsksTill stop line (written_back s.entries) (seen old) (seen new))
+  pub keeps : Keeps old new (stop_in result)

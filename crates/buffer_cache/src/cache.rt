@@ -3,10 +3,9 @@ ghost use Rattle.std.specs.Prelude.{◌≡◌, ◌≤◌, true, IsSome, None, So
 ghost use Rattle.driver_laws.specs.rules.Entries.{entry_of};
 ghost use Rattle.driver_laws.specs.rules.Calls.{read_done, write_done};
 ghost use Rattle.driver_laws.specs.rules.Contents.{cached};
-ghost use Rattle.driver_laws.specs.declared.answers.outcome.Stop.{Stop};
-ghost use Rattle.buffer_cache.specs.Passes.{map_at, site, Keeps};
-ghost use Rattle.buffer_cache.specs.Asks.{IsData, AsksTill};
-ghost use Rattle.buffer_cache.specs.Calls.{MayUse, Holds, IfTold, Reads, Writes, stop_of, given_by, is_done, RefusesOnce};
+ghost use Rattle.buffer_cache.specs.Passes.{map_at, spot};
+ghost use Rattle.buffer_cache.specs.Asks.{IsData};
+ghost use Rattle.buffer_cache.specs.Calls.{MayUse, Reads, Serves, Writes, given_by, is_done};
 
 use crate::Subsystem;
 use crate::fault::CacheFault;
@@ -38,25 +37,10 @@ impl Cache {
         requires line { 1 ≤ line }
         requires may { MayUse self.old subsystem.old }
         requires block { IsData subsystem.old.world unit block }
-        ensures reads { stop_of result ≡ None → Reads line unit block (given_by result into.new) self.old self.new
-            (site P.tells P.held T.tells T.taken subsystem.old.world packs.old trace.old)
-            (site P.tells P.held T.tells T.taken subsystem.new.world packs.new trace.new) }
+        ensures serves { Serves (Reads line unit block (given_by result into.new) self.old self.new) line unit block None (λ old. (read_done (cached self.old.entries (map_at old) unit block) true self.old unit block).asked) result self.old self.new
+            (spot P.tells P.held P.faults T.tells T.taken T.faults subsystem.old packs.old trace.old)
+            (spot P.tells P.held P.faults T.tells T.taken T.faults subsystem.new packs.new trace.new) }
         ensures no_call { IsSome (entry_of unit block self.old.entries) → (subsystem.new ≡ subsystem.old) × ((packs.new ≡ packs.old) × (trace.new ≡ trace.old)) }
-        ensures holds { IfTold self.old
-            (site P.tells P.held T.tells T.taken subsystem.old.world packs.old trace.old)
-            (site P.tells P.held T.tells T.taken subsystem.new.world packs.new trace.new)
-            (Holds unit block None self.old
-            (site P.tells P.held T.tells T.taken subsystem.old.world packs.old trace.old)
-            (site P.tells P.held T.tells T.taken subsystem.new.world packs.new trace.new)) }
-        ensures may { stop_of result ≡ None → MayUse self.new subsystem.new }
-        ensures refused { RefusesOnce self.old self.new }
-        ensures till { (stop : Stop) → stop_of result ≡ Some stop → IfTold self.old
-            (site P.tells P.held T.tells T.taken subsystem.old.world packs.old trace.old)
-            (site P.tells P.held T.tells T.taken subsystem.new.world packs.new trace.new)
-            (AsksTill stop line (read_done (cached self.old.entries (map_at (site P.tells P.held T.tells T.taken subsystem.old.world packs.old trace.old)) unit block) true self.old unit block).asked
-            (site P.tells P.held T.tells T.taken subsystem.old.world packs.old trace.old)
-            (site P.tells P.held T.tells T.taken subsystem.new.world packs.new trace.new)) }
-        ensures keeps { Keeps P.tells P.faults T.tells T.faults subsystem.old subsystem.new packs.old packs.new trace.old trace.new (stop_of result) }
     {
         cache_law();
         self.law();
@@ -89,25 +73,10 @@ impl Cache {
         requires line { 1 ≤ line }
         requires may { MayUse self.old subsystem.old }
         requires block { IsData subsystem.old.world unit block }
-        ensures writes { stop_of result ≡ None → Writes line unit block (is_done result) from.now self.old self.new
-            (site P.tells P.held T.tells T.taken subsystem.old.world packs.old trace.old)
-            (site P.tells P.held T.tells T.taken subsystem.new.world packs.new trace.new) }
+        ensures serves { Serves (Writes line unit block (is_done result) from.now self.old self.new) line unit block (Some from.now) (λ old. (write_done (cached self.old.entries (map_at old) unit block) true self.old unit block from.now).asked) result self.old self.new
+            (spot P.tells P.held P.faults T.tells T.taken T.faults subsystem.old packs.old trace.old)
+            (spot P.tells P.held P.faults T.tells T.taken T.faults subsystem.new packs.new trace.new) }
         ensures no_call { IsSome (entry_of unit block self.old.entries) → (subsystem.new ≡ subsystem.old) × ((packs.new ≡ packs.old) × (trace.new ≡ trace.old)) }
-        ensures holds { IfTold self.old
-            (site P.tells P.held T.tells T.taken subsystem.old.world packs.old trace.old)
-            (site P.tells P.held T.tells T.taken subsystem.new.world packs.new trace.new)
-            (Holds unit block (Some from.now) self.old
-            (site P.tells P.held T.tells T.taken subsystem.old.world packs.old trace.old)
-            (site P.tells P.held T.tells T.taken subsystem.new.world packs.new trace.new)) }
-        ensures may { stop_of result ≡ None → MayUse self.new subsystem.new }
-        ensures refused { RefusesOnce self.old self.new }
-        ensures till { (stop : Stop) → stop_of result ≡ Some stop → IfTold self.old
-            (site P.tells P.held T.tells T.taken subsystem.old.world packs.old trace.old)
-            (site P.tells P.held T.tells T.taken subsystem.new.world packs.new trace.new)
-            (AsksTill stop line (write_done (cached self.old.entries (map_at (site P.tells P.held T.tells T.taken subsystem.old.world packs.old trace.old)) unit block) true self.old unit block from.now).asked
-            (site P.tells P.held T.tells T.taken subsystem.old.world packs.old trace.old)
-            (site P.tells P.held T.tells T.taken subsystem.new.world packs.new trace.new)) }
-        ensures keeps { Keeps P.tells P.faults T.tells T.faults subsystem.old subsystem.new packs.old packs.new trace.old trace.new (stop_of result) }
     {
         cache_law();
         self.law();

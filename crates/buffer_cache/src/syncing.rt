@@ -1,12 +1,11 @@
 // Every changed entry is written back.
-ghost use Rattle.std.specs.Prelude.{◌≡◌, ◌≤◌, false, Some, None, IfErr, OnOk, map, length};
-ghost use Rattle.driver_laws.specs.answers.Outcome.{stop_in};
-ghost use Rattle.buffer_cache.specs.Passes.{site, Keeps, MayTransfer, TurnsOut};
+ghost use Rattle.std.specs.Prelude.{◌≡◌, ◌≤◌, false, Some, None, OnOk, map, length};
+ghost use Rattle.buffer_cache.specs.Passes.{MayTransfer, TurnsOut, spot};
 ghost use Rattle.driver_laws.specs.rules.Requests.{writes};
 ghost use Rattle.driver_laws.specs.rules.Entries.{unchanged, if_changed, write_backs, written_back};
 ghost use Rattle.buffer_cache.specs.Asks.{IsData, Asks, AsksTill, LeftBy};
 ghost use Rattle.buffer_cache.specs.Views.{entry_with, entries_of, state_of, IsKept};
-ghost use Rattle.buffer_cache.specs.Calls.{MayUse, Holds, IfTold, LeavesOne, Syncs};
+ghost use Rattle.buffer_cache.specs.Calls.{MayUse, LeavesOne, SyncsOrStops};
 
 use crate::entry::{Held, Key};
 use crate::slots::Cache;
@@ -72,21 +71,9 @@ impl Cache {
     ) -> Result<(), Stop>
         requires line { 1 ≤ line }
         requires may { MayUse self.old subsystem.old }
-        ensures syncs { OnOk result (Syncs line self.old self.new
-            (site P.tells P.held T.tells T.taken subsystem.old.world packs.old trace.old)
-            (site P.tells P.held T.tells T.taken subsystem.new.world packs.new trace.new)) }
-        ensures holds { IfTold self.old
-            (site P.tells P.held T.tells T.taken subsystem.old.world packs.old trace.old)
-            (site P.tells P.held T.tells T.taken subsystem.new.world packs.new trace.new)
-            (Holds 0 0 None self.old
-            (site P.tells P.held T.tells T.taken subsystem.old.world packs.old trace.old)
-            (site P.tells P.held T.tells T.taken subsystem.new.world packs.new trace.new)) }
-        ensures may { OnOk result (MayUse self.new subsystem.new) }
-        ensures refused { self.new.refused ≡ self.old.refused }
-        ensures till { IfErr result (λ stop. AsksTill stop line (written_back self.old.entries)
-            (site P.tells P.held T.tells T.taken subsystem.old.world packs.old trace.old)
-            (site P.tells P.held T.tells T.taken subsystem.new.world packs.new trace.new)) }
-        ensures keeps { Keeps P.tells P.faults T.tells T.faults subsystem.old subsystem.new packs.old packs.new trace.old trace.new (stop_in result) }
+        ensures { SyncsOrStops line result self.old self.new
+            (spot P.tells P.held P.faults T.tells T.taken T.faults subsystem.old packs.old trace.old)
+            (spot P.tells P.held P.faults T.tells T.taken T.faults subsystem.new packs.new trace.new) }
     {
         cache_law();
         self.law();

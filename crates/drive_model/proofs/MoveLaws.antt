@@ -1,6 +1,6 @@
 -- What a move leaves, from what the drive, the book and the packs said.
 use Rattle.std.proofs.Common.{◌≡◌, ℕ, Bool, true, false, not, ◌&&◌, IsTrue, MatchBool, if◌then◌else◌, List, Option, None, Some, option_map, refl, sym, ap, ◌∙◌, subst}
-use Rattle.pack_geometry.specs.Pack.{Pack, block_at, is_marked, with_written}
+use Rattle.pack_geometry.specs.Pack.{block_at, is_marked, with_written}
 use Rattle.main_memory.specs.Bytes.{front, filled}
 use Rattle.main_memory.specs.declared.window.Window.{Window}
 use Rattle.main_memory.specs.Windows.{Writes, window_bytes}
@@ -8,7 +8,7 @@ use Rattle.hardware_table.specs.declared.FaultKind.{FaultKind}
 use Rattle.hardware_table.specs.declared.Moved.{Moved}
 use Rattle.hardware_table.specs.declared.Moved.TheVariants.{Clean, Burst, Hard, Marked, Faulted, Offline}
 use Rattle.hardware_table.specs.Drive.{DriveState, is_writing}
-use Rattle.hardware_table.specs.Noise.{Book, strikes, book_struck}
+use Rattle.hardware_table.specs.Noise.{strikes, book_struck}
 use Rattle.hardware_table.specs.Moves.{stop_of, first_armed, has_bytes, was_read, IsVerdict, IsReadVerdict, IsReadAs}
 use Rattle.drive_model.specs.Move.{Site, MovesSector, struck_at}
 
@@ -141,10 +141,3 @@ read_window d places verdict old new bytes reads judged shown writes =
     by_read true false e f written = written
     by_read true true e f written = absurd (no (sym f))
     by_read false b e f written = absurd (no e)
-
--- a move through a window whose size and bytes have other names
-pub moves_as : {unit block : ℕ} {d : DriveState} {told : Bool} {book book' : Book} {held held' : ℕ → Pack} {size size' : ℕ} {before before' after after' : List ℕ} {verdict : Moved}
-    → size ≡ size' → before ≡ before' → after ≡ after'
-    → MovesSector unit block d size told (record { book = book; held = held; window = before }) (record { book = book'; held = held'; window = after }) verdict
-    → MovesSector unit block d size' told (record { book = book; held = held; window = before' }) (record { book = book'; held = held'; window = after' }) verdict
-moves_as e f h moves = rw (← e, ← f, ← h) moves

@@ -10,4 +10,3 @@ pub mod Ids
 pub mod Parts
 pub mod Waiting
 pub mod Taking
-pub mod Passes

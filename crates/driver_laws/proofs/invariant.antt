@@ -61,4 +61,3 @@ pub mod Calls
 pub mod Next
 pub mod Loops
 pub mod Sound
-pub mod Passes

@@ -33,7 +33,6 @@ pub mod Joins
 pub mod Rest
 pub mod Writes
 pub mod Told
-pub mod Passes
 pub mod Joined
 pub mod Due
 pub mod Speaking
@@ -59,7 +58,6 @@ pub mod TraceFronts
 pub mod Asked
 pub mod DrainsTelling
 pub mod Falls
-pub mod TracePasses
 mod Images
 pub mod Acts
 mod Units
@@ -70,7 +68,6 @@ pub mod Blocks
 pub mod ReachActs
 pub mod RunsCalls
 pub mod Lengths
-pub mod RunsPasses
 pub mod Hand
 pub mod Struck
 pub mod QuietSector

@@ -1,5 +1,3 @@
 pub mod Kept
-pub mod Passes
 pub mod Parts
 pub mod InvariantKept
-pub mod InvariantPasses

@@ -2,7 +2,6 @@ pub mod Stages
 pub mod Shows
 pub mod Laws
 pub mod Acts
-pub mod Passes
 pub mod Within
 pub mod Calls
 pub mod Runs
@@ -10,13 +9,11 @@ pub mod Noises
 pub mod Left
 pub mod Fronts
 pub mod Drains
-pub mod TracePasses
 pub mod RunsActs
 pub mod RunsRuns
 pub mod NextBlock
 pub mod Reach
 pub mod Lengths
-pub mod RunsPasses
 pub mod Bytes
 pub mod QuietLaws
 pub mod Quiet

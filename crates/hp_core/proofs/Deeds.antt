@@ -339,7 +339,6 @@ module _ (w : World) (line u id : ℕ) (s : Sound w) where
   -- A SECTOR is moved by a transfer that is under way.
   pub record IsUnderWayFor : Type 0 where
     pub may : MayStep w.slots (slot_in_hand (unit_at w u)) (adapter_at w (adapter_of u)).state (unit_at w u).drive
-    pub segment : (adapter_at w (adapter_of u)).state.block ≡ (segment_of (transfer_of (unit_at w u))).block
     pub small : next_block (adapter_at w (adapter_of u)).state < 2 ^ 32
 
   pub under_way : InHand w u id → IsBusyFor (adapter_at w (adapter_of u)).state (drive_of u) false → IsUnderWayFor
@@ -365,6 +364,5 @@ module _ (w : World) (line u id : ℕ) (s : Sound w) where
             block = inside;
           };
         };
-        segment = block;
         small = below (next_block a) (block_count (unit_at w u).drive.kind) (2 ^ 32) inside (few_blocks (unit_at w u).drive.kind);
       }

@@ -10,3 +10,4 @@ pub mod Starting
 pub mod Passes
 pub mod Units
 pub mod Steps
+pub mod Serving

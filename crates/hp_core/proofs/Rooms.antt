@@ -1,5 +1,5 @@
 -- Room for answers, and the frames of a request that ends.
-use Rattle.std.proofs.Common.{◌≡◌, inl, inr, ℕ, ◌+◌, ◌<◌, ◌≤◌, Bool, true, false, List, [], ◌∷◌, ◌++◌, length, length-set, Option, Some, None, Result, Ok, Err, IfOk, OnErr, refl, sym, ap, ◌∙◌, subst, arith}
+use Rattle.std.proofs.Common.{◌≡◌, inl, inr, ℕ, ◌+◌, ◌<◌, ◌≤◌, Bool, true, false, List, [], ◌∷◌, ◌++◌, length, length-set, Option, Some, None, refl, sym, ap, ◌∙◌, subst, arith}
 use Rattle.std.specs.Prelude.{slice_set, if◌then◌else◌}
 use Rattle.std.proofs.lemmas.Bool.{false≢true}
 use Rattle.std.proofs.lemmas.Option.{same_Some}
@@ -20,15 +20,10 @@ set_or_not : (read : Bool) (slots : List (Option Held)) (p : ℕ) (x : Option He
 set_or_not true slots p x = length-set slots p x
 set_or_not false slots p x = refl
 
-as_many : {E V : Type 0} (A B C : Type 0) (r : Result V E) (old new : List (Option Held)) (p : ℕ) (x : Option Held) (read : V → Bool)
-    → IfOk r (λ v. new ≡ (if read v then slice_set old p x else old)) → OnErr r ((new ≡ old) × A × B × C) → length new ≡ length old
-as_many A B C (Ok v) old new p x read tried failed = ap length tried ∙ set_or_not (read v) old p x
-as_many A B C (Err e) old new p x read tried failed = ap length failed.0
-
-pub room_kept : {E V : Type 0} (A B C : Type 0) (r : Result V E) (old new : List (Option Held)) (p : ℕ) (x : Option Held) (read : V → Bool) (answers : List Made) (most : ℕ)
-    → IfOk r (λ v. new ≡ (if read v then slice_set old p x else old)) → OnErr r ((new ≡ old) × A × B × C) → HasRoom old answers most → HasRoom new answers most
-room_kept A B C r old new p x read answers most tried failed room =
-    let same = as_many A B C r old new p x read tried failed in
+pub room_kept : (read : Bool) (old new : List (Option Held)) (p : ℕ) (x : Option Held) (answers : List Made) (most : ℕ) → new ≡ (if read then slice_set old p x else old)
+    → HasRoom old answers most → HasRoom new answers most
+room_kept read old new p x answers most tried room =
+    let same : length new ≡ length old = ap length tried ∙ set_or_not read old p x in
     record { few = omega (arith, same, room.few); refused = room.refused; spare = omega (arith, same, room.spare) }
 
 -- each answer is of a slot, or of a request that was refused

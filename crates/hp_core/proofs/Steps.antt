@@ -1,5 +1,5 @@
 -- A drive that transfers does not position, nor does it behind the next sector.
-use Rattle.std.proofs.Common.{◌≡◌, ◌<◌, Bool, true, false, List, length, refl, sym, ◌∙◌, ap, subst, Option, Result, Ok, Err, IfOk, OnErr}
+use Rattle.std.proofs.Common.{◌≡◌, ◌<◌, Bool, true, false, List, length, refl, sym, ◌∙◌, ap, subst, Option, Result, Ok, Err}
 use Rattle.std.specs.Prelude.{ℕ, if◌then◌else◌, slice_set, slice_index_or}
 use Rattle.std.proofs.lemmas.List.{set-get_or}
 use Rattle.hardware_table.specs.declared.Moved.{Moved}
@@ -7,58 +7,56 @@ use Rattle.hardware_table.specs.declared.Work.TheVariants.{Transfer}
 use Rattle.hardware_table.specs.Drive.{DriveState, is_positioning}
 use Rattle.hardware_table.specs.Events.{transfer_ended}
 use Rattle.hardware_table.specs.Moves.{after_move}
-use Rattle.hardware_table.specs.Adapter.{AdapterState, stepped, drive_stepped, next_block}
-use Rattle.request_slots.proofs.WorkLaws.{move_work}
+use Rattle.hardware_table.specs.Adapter.{AdapterState, stepped, next_block}
 use Rattle.hardware_table.specs.Noise.{Book}
-use Rattle.driver_machine.specs.World.{UnitView, AdapterView, Held}
-use Rattle.request_slots.specs.Steps.{MayStep}
+use Rattle.driver_machine.specs.World.{World, UnitView, AdapterView, Held, no_unit, adapter_at, adapter_of}
+use Rattle.driver_machine.specs.Acts.{with_drive, with_state}
+use Rattle.request_slots.proofs.WorkLaws.{move_work}
+use Rattle.request_slots.specs.Steps.{Bench, MayStep, drive_behind}
 use Rattle.hp_core.specs.State.{State}
-use Rattle.driver_machine.specs.Acts.{with_drive}
-use Rattle.hp_units.specs.Row.{unit_in}
-use Rattle.hp_units.proofs.Rows.{alone}
+use Rattle.hp_core.specs.Done.{bench_at, with_bench}
+use Rattle.hp_core.proofs.Places.{unit_channel}
+use Rattle.hp_core.proofs.Scenes.{same_adapter}
 
 ended_or_not : (ended : Bool) (d : DriveState) (write : Bool) → d.work ≡ Transfer write → is_positioning (if ended then transfer_ended d else d).work ≡ false
 ended_or_not true d write is = refl
 ended_or_not false d write is = ap is_positioning is
 
-pub step_work : {E : Type 0} (A B C : Type 0) (r : Result Moved E) (a : AdapterState) (old new : DriveState) (write : Bool) → old.work ≡ Transfer write
-    → IfOk r (λ v. new ≡ drive_stepped v a old) → OnErr r (A × B × (new ≡ old) × C) → is_positioning new.work ≡ is_positioning old.work
-step_work A B C (Ok v) a old new write is moved failed =
+pub step_work : {E : Type 0} (r : Result Moved E) (a : AdapterState) (old new : DriveState) (write : Bool) → old.work ≡ Transfer write → new ≡ drive_behind r a old
+    → is_positioning new.work ≡ is_positioning old.work
+step_work (Ok v) a old new write is moved =
     ap (λ (d : DriveState). is_positioning d.work) moved ∙ ended_or_not (stepped v a).completion (after_move v (next_block a) old) write (move_work v (next_block a) old ∙ is)
     ∙ sym (ap is_positioning is)
-step_work A B C (Err e) a old new write is moved failed = ap (λ (d : DriveState). is_positioning d.work) failed.2
+step_work (Err e) a old new write is same = ap (λ (d : DriveState). is_positioning d.work) same
 
--- the units behind a sector: that drive alone has changed
-pub units_moved : {E : Type 0} (r : Result Moved E) (adapter : AdapterState) (a u : ℕ) (units now : List UnitView) (old d inside : UnitView) (drive : DriveState)
-    → a ≡ u → units ≡ now → u < length now → old ≡ slice_index_or units a d → inside ≡ old → IfOk r (λ v. drive ≡ drive_stepped v adapter inside.drive)
-    → IfOk r (λ v. slice_set units a (record inside { drive = drive }) ≡ slice_set now u (with_drive (drive_stepped v adapter) (unit_in now u)))
-units_moved (Ok v) adapter a u units now old d inside drive at is lt own same moved =
-    alone a u units now old d (record inside { drive = drive }) (with_drive (drive_stepped v adapter)) at is lt own
-    (ap (λ (x : DriveState). record inside { drive = x }) moved ∙ ap (with_drive (drive_stepped v adapter)) same)
-units_moved (Err e) adapter a u units now old d inside drive at is lt own same moved = tt
-
--- A failure leaves the state as it was.
-pub state_kept : {E : Type 0} (r : Result Moved E) (inside now : State) (i j : ℕ) (unit d own : UnitView) (drive : DriveState) (channel e here : AdapterView) (adapter : AdapterState) (slots : List (Option Held)) (book : Book)
-    → inside ≡ now → unit ≡ slice_index_or inside.world.units i d → own ≡ unit → channel ≡ slice_index_or inside.world.adapters j e → here ≡ channel
-    → OnErr r ((slots ≡ inside.world.slots) × (adapter ≡ here.state) × (drive ≡ own.drive) × (book ≡ inside.world.book))
-    → OnErr r (record inside {
+-- the state with what was tried in its place
+pub bench_put : (inside now : State) (i j u : ℕ) (unit d own : UnitView) (drive : DriveState) (channel here : AdapterView) (adapter : AdapterState) (slots : List (Option Held)) (book : Book)
+    → inside ≡ now → i ≡ u → u < length now.world.units → unit ≡ slice_index_or inside.world.units i d → own ≡ unit
+    → j ≡ adapter_of u → adapter_of u < length now.world.adapters → channel ≡ slice_index_or inside.world.adapters j channel → here ≡ channel
+    → record inside {
       world = record inside.world {
         units = slice_set inside.world.units i (record own { drive = drive });
         adapters = slice_set inside.world.adapters j (record here { state = adapter });
         slots = slots;
         book = book;
       };
-    } ≡ now)
-state_kept (Ok v) inside now i j unit d own drive channel e here adapter slots book same at is there seen failed = tt
-state_kept (Err x) inside now i j unit d own drive channel e here adapter slots book same at is there seen failed =
-    let units : slice_set inside.world.units i (record own { drive = drive }) ≡ inside.world.units =
-    ap (λ (y : DriveState). slice_set inside.world.units i (record own { drive = y })) failed.2 ∙ ap (λ (y : UnitView). slice_set inside.world.units i y) (is ∙ at) ∙ set-get_or inside.world.units i d in
-    let adapters : slice_set inside.world.adapters j (record here { state = adapter }) ≡ inside.world.adapters =
-    ap (λ (y : AdapterState). slice_set inside.world.adapters j (record here { state = y })) failed.1 ∙ ap (λ (y : AdapterView). slice_set inside.world.adapters j y) (seen ∙ there) ∙ set-get_or inside.world.adapters j e in
-    ap (λ (us : List UnitView). record inside { world = record inside.world { units = us; adapters = slice_set inside.world.adapters j (record here { state = adapter }); slots = slots; book = book } }) units
-    ∙ ap (λ (xs : List AdapterView). record inside { world = record inside.world { adapters = xs; slots = slots; book = book } }) adapters
-    ∙ ap (λ (xs : List (Option Held)). record inside { world = record inside.world { slots = xs; book = book } }) failed.0
-    ∙ ap (λ (b : Book). record inside { world = record inside.world { book = b } }) failed.3 ∙ same
+    } ≡ record now { world = with_bench now.world u (record { adapter = adapter; drive = drive; book = book; store = slots }) }
+bench_put inside now i j u unit d own drive channel here adapter slots book same at there is own_is place lt here_is seen =
+    ap (λ (s : State). record s { world = record s.world { slots = slots; book = book } })
+    (unit_channel inside now i u unit d (record own { drive = drive }) (with_drive (λ _. drive)) j (adapter_of u) channel (record here { state = adapter }) (with_state (λ _. adapter))
+    same at there is (ap (with_drive (λ _. drive)) own_is) place lt here_is (ap (with_state (λ _. adapter)) seen))
+
+-- A try that the packs failed leaves the world as it was.
+pub bench_kept : (w : World) (u : ℕ) (bench : Bench (List (Option Held))) → bench ≡ bench_at w u → with_bench w u bench ≡ w
+bench_kept w u bench is =
+    ap (λ (b : Bench (List (Option Held))). with_bench w u b) is
+    ∙ ap (λ (us : List UnitView). record w { units = us; adapters = slice_set w.adapters (adapter_of u) (adapter_at w (adapter_of u)) }) (set-get_or w.units u no_unit)
+    ∙ ap (λ (xs : List AdapterView). record w { adapters = xs }) (same_adapter w (adapter_of u))
+
+pub bench_same : (old new : Bench (List (Option Held))) → new.adapter ≡ old.adapter → new.drive ≡ old.drive → new.book ≡ old.book → new.store ≡ old.store → new ≡ old
+bench_same old new e f g h =
+    ap (λ (a : AdapterState). record new { adapter = a }) e ∙ ap (λ (d : DriveState). record new { adapter = old.adapter; drive = d }) f
+    ∙ ap (λ (b : Book). record new { adapter = old.adapter; drive = old.drive; book = b }) g ∙ ap (λ (slots : List (Option Held)). record old { store = slots }) h
 
 -- what may come at a place may come inside
 pub may_here : (inside now : State) (slot : ℕ) (a a' : AdapterState) (d d' : DriveState) → inside ≡ now → a ≡ a' → d ≡ d' → MayStep now.world.slots slot a' d' → MayStep inside.world.slots slot a d

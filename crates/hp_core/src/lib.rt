@@ -2,7 +2,7 @@
 //!
 //! What is proved: `Core` holds units, adapters, slots, noise and waiting answers together. It has a method for each act of the
 //! machine, and views of its state. The contract of each method states the outcome of the act (`DoesAct`, `DoesSilently`,
-//! `TriesSector`): the world after the call is that of the act even if the trace fails, and the line is told last. If the packs fail,
+//! `DoesMove`): the world after the call is that of the act even if the trace fails, and the line is told last. If the packs fail,
 //! the next block of a write is left old or new, and a read changes no block. The conditions of each method are the invariant, and that
 //! the act may come. Lines are kept, up to 64 KiB, and `send` passes them on.
 #![tactic(auto)]

@@ -4,7 +4,7 @@ ghost use Rattle.pack_geometry.specs.Geometry.{IsInside};
 ghost use Rattle.main_memory.specs.Bytes.{filled, IsFill};
 ghost use Rattle.trace_replay.specs.Seek.{position_for};
 ghost use Rattle.driver_machine.specs.World.{unit_at, adapter_at, slot_at, held_in, unit_of, block_in};
-ghost use Rattle.driver_machine.specs.Events.{can_arrive, lowest};
+ghost use Rattle.driver_machine.specs.Events.{can_arrive, can_move, lowest};
 ghost use Rattle.driver_machine.specs.Sound.{Sound};
 ghost use Rattle.request_slots.specs.Requests.{asked_of};
 
@@ -52,6 +52,14 @@ impl Core {
         ensures { result ≡ (adapter_at self.now.world a).state.busy }
     {
         !self.channels[usize::from(a)].adapter.is_free()
+    }
+
+    /// Whether an adapter can move a sector.
+    pub fn moves(&self, a: u8) -> bool
+        requires { a < length self.now.world.adapters }
+        ensures { result ≡ can_move (adapter_at self.now.world a) }
+    {
+        self.is_busy(a) && !self.has_completed(a)
     }
 
     /// Whether an adapter's completion is up.

@@ -1,5 +1,5 @@
 -- Where an event begins, what is due behind its first act finds the adapter free.
-use Rattle.std.proofs.Common.{◌≡◌, ℕ, ◌<◌, sym, ap, ◌∙◌, subst}
+use Rattle.std.proofs.Common.{ℕ, ◌<◌, sym, ap, ◌∙◌, subst}
 use Rattle.hardware_table.specs.declared.Moved.{Moved}
 use Rattle.driver_machine.specs.World.{World, UnitView, AdapterView, unit_at, slot_in_hand}
 use Rattle.driver_machine.specs.Acts.{Of, Intr, Attn, effect, scene_of, after}

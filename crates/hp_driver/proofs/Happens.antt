@@ -13,7 +13,7 @@ use Rattle.driver_laws.specs.shown.QuietPasses.{IsReadOf}
 use Rattle.hp_driver.specs.Passes.{State}
 use Rattle.hp_driver.specs.Passes.{DoesSilently}
 use Rattle.hp_driver.specs.Done.{DoesActs}
-use Rattle.hp_driver.specs.Moves.{DoesMove}
+use Rattle.hp_core.specs.Done.{DoesMove}
 use Rattle.hp_driver.specs.declared.drain.Event.{Event}
 use Rattle.hp_driver.specs.declared.drain.Event.TheVariants.{Arrive, Move, Attend}
 use Rattle.hp_driver.specs.Inputs.{input_of}

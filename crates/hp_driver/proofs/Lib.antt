@@ -20,6 +20,5 @@ pub mod Going
 pub mod Parts
 pub mod Attends
 pub mod Exits
-pub mod Moving
 pub mod Submitting
 pub mod ReadBlocks

@@ -11,7 +11,7 @@ use Rattle.hp_driver.proofs.Passes.{sound_after}
 use Rattle.driver_laws.specs.shown.QuietPasses.{stop_in}
 use Rattle.driver_laws.specs.declared.answers.outcome.Stop.{Stop}
 use Rattle.hp_driver.specs.Passes.{State}
-use Rattle.hp_driver.specs.Moves.{DoesMove}
+use Rattle.hp_core.specs.Done.{DoesMove}
 use Rattle.hp_driver.specs.Subsystem.{Comes}
 use Rattle.hp_driver.specs.Calls.{Stands, Happens}
 use Rattle.hp_driver.proofs.Bytes.{event_keeps}

@@ -1,36 +1,25 @@
 -- The acts of each event, where it finds something to do; and that they may come.
 use Rattle.std.proofs.Common.{◌≡◌, ℕ, ◌<◌, Bool, true, false, List, [], ◌∷◌, length, refl, sym, ap, ◌∙◌, subst, arith}
-use Rattle.std.specs.Prelude.{Result, Ok, Err, not, ◌&&◌}
-use Rattle.hardware_table.specs.Adapter.{next_block}
+use Rattle.std.specs.Prelude.{Result, Ok, Err}
 use Rattle.driver_machine.specs.declared.Task.{Task}
-use Rattle.driver_machine.specs.declared.Task.TheVariants.{Clear, Judge, Steps, Command, GiveUp}
+use Rattle.driver_machine.specs.declared.Task.TheVariants.{Clear}
 use Rattle.driver_machine.specs.declared.Phase.{Phase}
-use Rattle.driver_machine.specs.declared.Phase.TheVariants.{Waiting, Positioning, Queued, Transferring, Due}
-use Rattle.driver_machine.specs.World.{World, UnitView, AdapterView, Held, adapter_of, drive_of, unit_on, unit_of, unit_at, adapter_at, held_in, slot_in_hand}
+use Rattle.driver_machine.specs.declared.Phase.TheVariants.{Waiting, Positioning, Due}
+use Rattle.driver_machine.specs.World.{World, UnitView, AdapterView, Held, adapter_of, unit_on, unit_of, unit_at, adapter_at, held_in, slot_in_hand}
 use Rattle.driver_machine.specs.Acts as deed
 use Rattle.driver_machine.specs.Acts.{Act, Of, Nothing, Deed, Tried}
-use Rattle.driver_machine.specs.Events.{when_by, in_hand, due_acts, begun, choose_by, choose_acts, or_nothing, arrive_acts, move_acts, attend_acts, attended, can_arrive, can_move, can_attend, data_interrupt, attention, steps_taken}
+use Rattle.driver_machine.specs.Events.{when_by, in_hand, due_acts, begun, choose_by, choose_acts, or_nothing, arrive_acts, attend_acts, attended, can_arrive, can_attend, data_interrupt, attention, steps_taken}
 use Rattle.driver_machine.specs.Due.{command_of}
-use Rattle.driver_machine.specs.Guards.{Allowed, InHand, IsBusyFor}
+use Rattle.driver_machine.specs.Guards.{Allowed}
 use Rattle.driver_machine.specs.Sound.{Sound, IsPhase, IsTask, is_waiting}
 use Rattle.driver_machine.proofs.DueFacts.{false_true}
-use Rattle.driver_laws.proofs.invariant.Deeds.{in_hand_is}
-use Rattle.driver_laws.proofs.invariant.Due.{in_hand_one}
-use Rattle.driver_laws.proofs.invariant.Calls.{IsServing, serving}
 use Rattle.driver_laws.proofs.invariant.Sound.{sound_after}
 use Rattle.hp_core.specs.Passes.{Stop}
 use Rattle.hp_core.specs.State.{State}
 use Rattle.hp_core.specs.Done.{DoesAct}
+use Rattle.hp_core.proofs.Serving.{hand_acts, hand_is, served_less, served_some, served_its, served_for}
 use Rattle.hp_driver.specs.Done.{DoesActs}
 use Rattle.hp_driver.proofs.Joined.{of_act, then_part, stopped_part}
-
--- A DEED for the request in hand, with its id
-pub hand_acts : (w : World) (line u id : ℕ) (d : Deed) → 0 < length (unit_at w u).queue → id ≡ (held_in w (slot_in_hand (unit_at w u))).id
-    → Of line u id d ∷ [] ≡ in_hand line u d w
-hand_acts w line u id d some is = ap (λ (n : ℕ). Of line u n d ∷ []) is ∙ sym (in_hand_one line u d w some)
-
-pub hand_is : (w : World) (u id : ℕ) → Sound w → u < 32 → 0 < length (unit_at w u).queue → id ≡ (held_in w (slot_in_hand (unit_at w u))).id → InHand w u id
-hand_is w u id sound less some is = subst (λ (n : ℕ). InHand w u n) (sym is) (in_hand_is w u sound less some)
 
 -- and what is due behind it
 module _ {O : Type 0} (tells : O → Bool) (taken : O → List ℕ) (faults : O → ℕ) (line u id : ℕ) (d : Deed) where
@@ -71,58 +60,18 @@ is_busy w a sound less up = by (adapter_at w a).state.busy (sound.each_adapter a
     by true rest = refl
     by false rest = absurd (false_true (sym (rest refl) ∙ up))
 
--- the unit for which it transfers
 module _ (w : World) (a u : ℕ) (sound : Sound w) (busy : (adapter_at w a).state.busy ≡ true) (is : u ≡ unit_of w a) where
-  serves : IsServing w a
-  serves = serving w a sound busy
-
-  pub served_less : u < 32
-  served_less = subst (λ (x : ℕ). x < 32) (sym is) serves.unit
-
-  pub served_some : 0 < length (unit_at w u).queue
-  served_some = subst (λ (x : ℕ). 0 < length (unit_at w x).queue) (sym is) serves.some
-
-  pub served_its : adapter_of u ≡ a
-  served_its = ap adapter_of is ∙ serves.its
-
-  pub served_for : (done : Bool) → (adapter_at w a).state.completion ≡ done → IsBusyFor (adapter_at w (adapter_of u)).state (drive_of u) done
-  served_for done completion =
-      subst (λ (b : ℕ). IsBusyFor (adapter_at w b).state (drive_of u) done) (sym served_its)
-      (record { busy = busy; drive = serves.drive ∙ ap drive_of (sym is); completion = completion })
-
   pub interrupt_may : (line id : ℕ) → (adapter_at w a).state.completion ≡ true → id ≡ (held_in w (slot_in_hand (unit_at w u))).id
       → Allowed w (Of line u id (deed.Intr (adapter_at w (adapter_of u)).state.moved (adapter_at w (adapter_of u)).state.verdict))
-  interrupt_may line id up named = (hand_is w u id sound served_less served_some named, (served_for true up, refl, refl))
+  interrupt_may line id up named = (hand_is w u id sound (served_less w a u sound busy is) (served_some w a u sound busy is) named, (served_for w a u sound busy is true up, refl, refl))
 
   -- ATTEND: the data interrupt
   pub interrupts : (line : ℕ) → (adapter_at w a).state.completion ≡ true
       → begun line u (deed.Intr (adapter_at w (adapter_of u)).state.moved (adapter_at w (adapter_of u)).state.verdict) w ≡ data_interrupt line a w
   interrupts line up =
-      ap (λ (b : ℕ). begun line u (deed.Intr (adapter_at w b).state.moved (adapter_at w b).state.verdict) w) served_its
+      ap (λ (b : ℕ). begun line u (deed.Intr (adapter_at w b).state.moved (adapter_at w b).state.verdict) w) (served_its w a u sound busy is)
       ∙ ap (λ (x : ℕ). begun line x (deed.Intr (adapter_at w a).state.moved (adapter_at w a).state.verdict) w) is
       ∙ sym (ap (λ (b : Bool). when_by b (begun line (unit_of w a) (deed.Intr (adapter_at w a).state.moved (adapter_at w a).state.verdict)) w) up)
-
-  -- MOVE
-  pub moves : (line id : ℕ) (tried : Tried) → can_move (adapter_at w a) ≡ true → id ≡ (held_in w (slot_in_hand (unit_at w u))).id
-      → Of line u id (deed.Sector (next_block (adapter_at w (adapter_of u)).state) tried) ∷ [] ≡ move_acts line a tried w
-  moves line id tried can named =
-      hand_acts w line u id (deed.Sector (next_block (adapter_at w (adapter_of u)).state) tried) served_some named
-      ∙ ap (λ (b : ℕ). in_hand line u (deed.Sector (next_block (adapter_at w b).state) tried) w) served_its
-      ∙ ap (λ (x : ℕ). in_hand line x (deed.Sector (next_block (adapter_at w a).state) tried) w) is
-      ∙ sym (ap (λ (b : Bool). or_nothing b line (in_hand line (unit_of w a) (deed.Sector (next_block (adapter_at w a).state) tried)) w) can)
-
-pub can_move_is : (w : World) (a : ℕ) → can_move (adapter_at w a) ≡ true → ((adapter_at w a).state.busy ≡ true) × ((adapter_at w a).state.completion ≡ false)
-can_move_is w a can = both (adapter_at w a).state.busy (adapter_at w a).state.completion can
-  where
-    both : (a b : Bool) → a && not b ≡ true → (a ≡ true) × (b ≡ false)
-    both true true e = absurd (false_true e)
-    both true false e = (refl, refl)
-    both false true e = absurd (false_true e)
-    both false false e = absurd (false_true e)
-
-pub no_move : (w : World) (line a : ℕ) (tried : Tried) → can_move (adapter_at w a) ≡ false → Nothing line ∷ [] ≡ move_acts line a tried w
-no_move w line a tried can =
-    sym (ap (λ (b : Bool). or_nothing b line (in_hand line (unit_of w a) (deed.Sector (next_block (adapter_at w a).state) tried)) w) can)
 
 -- AN ATTENTION is up only where a positioning has ended.
 task_down : (task : Task) (v : UnitView) (h : Held) → IsTask v h task → v.drive.attention ≡ false

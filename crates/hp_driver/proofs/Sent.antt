@@ -1,9 +1,8 @@
 -- A call that told its lines where nothing was kept, and then what is kept is sent: what the trace took.
-use Rattle.std.proofs.Common.{◌≡◌, ℕ, Bool, IsTrue, List, [], ◌++◌, drop, take, take-append-drop, sym, ap, ◌∙◌}
+use Rattle.std.proofs.Common.{◌≡◌, ℕ, List, [], ◌++◌, take, sym, ap, ◌∙◌}
 use Rattle.std.proofs.lemmas.List.{append_assoc, append-nil}
 use Rattle.outside_traits.specs.Puts.{TakesFront}
 use Rattle.driver_laws.specs.shown.QuietPasses.{IsFront}
-use Rattle.hp_driver.specs.Subsystem.{State}
 
 -- the trace took `x` and nothing was kept; it took `y` and `mid` is kept behind the call, whose text is `t`; and then it took `z`.
 told_is : (x y kept mid t : List ℕ) → kept ≡ [] → y ++ mid ≡ (x ++ kept) ++ t → y ++ mid ≡ x ++ t

@@ -1,11 +1,14 @@
 -- What the parts of a call come to, over the core.
-use Rattle.std.specs.Prelude.{◌≡◌, ℕ, ◌+◌, ◌-◌, ◌*◌, ◌<◌, Bool, false, if◌then◌else◌, IsTrue, min, List, length, Result, IfErr, OnOk}
+use Rattle.std.specs.Prelude.{◌≡◌, ℕ, ◌+◌, ◌-◌, ◌*◌, ◌<◌, ◌≤◌, Bool, false, if◌then◌else◌, IsTrue, min, List, [], length, None, Result, IfErr, OnOk}
+use Rattle.pack_geometry.specs.Geometry.{limit_of}
 use Rattle.pack_geometry.specs.Pack.{Pack}
+use Rattle.main_memory.specs.Frames.{frames_needed}
 use Rattle.outside_traits.specs.Causes.{HasCause}
 use Rattle.trace_replay.specs.requests.Requests as told
-use Rattle.trace_replay.specs.requests.Requests.{IsRequest}
+use Rattle.trace_replay.specs.requests.Requests.{IsRequest, first_block}
 use Rattle.trace_replay.specs.Script.{Input}
-use Rattle.driver_machine.specs.World.{World}
+use Rattle.driver_machine.specs.World.{World, unit_at}
+use Rattle.driver_machine.specs.Events.{refusal_of}
 use Rattle.driver_machine.specs.Guards.{IsSetUp, IsFresh}
 use Rattle.driver_machine.specs.Sound.{Sound, AtWork}
 use Rattle.driver_laws.specs.declared.answers.outcome.Stop.{Stop}
@@ -63,6 +66,13 @@ pub record MayAsk (w : World) (r : Request) (bytes : List ℕ) : Type 0 where
   pub most : ℕ
   pub slots : length w.slots ≡ min most 16384
   pub room : in_use w.slots < most
+
+-- IT JOINS from this block of its pack on: it is not refused.
+pub record IsAdmitted (w : World) (r : Request) (block : ℕ) : Type 0 where
+  pub joins : refusal_of (asked r []) w ≡ None
+  pub first : block ≡ first_block (unit_at w r.unit).drive.kind (asked r [])
+  pub inside : block + r.count ≤ limit_of (unit_at w r.unit).drive.kind
+  pub room : w.frames + frames_needed r.count r.offset r.last ≤ 16384
 
 -- AN EVENT
 pub record Happens {O Q : Type 0} (holds : Q → Bool) (held : Q → ℕ → Pack) (packs_faults : Q → ℕ) (tells : O → Bool) (taken : O → List ℕ) (faults : O → ℕ) (packs packs' : Q) (trace trace' : O) (old new : State) (result : Result (Unit {0}) Stop) (line : ℕ) (input : Input) : Type 0 where

@@ -7,7 +7,6 @@ pub mod Free
 pub mod Hand
 pub mod Before
 pub mod Commands
-pub mod Moves
 pub mod Submissions
 pub mod Inputs
 pub use Rattle.hp_core.specs.Setups

@@ -17,7 +17,7 @@ use Rattle.driver_machine.specs.Events.{refusal_of, submit_acts, event_acts}
 use Rattle.driver_machine.specs.Guards.{IsSetUp, IsHeldFor, MayChange}
 use Rattle.driver_machine.specs.Sound.{Sound, AtWork}
 use Rattle.driver_machine.specs.Runs.{MaySubmit, MayCome}
-pub use Rattle.driver_machine.specs.Writes.{is_move, writes_by}
+pub use Rattle.driver_machine.specs.Writes.{is_move, writes_by, writes_next}
 use Rattle.driver_laws.specs.declared.answers.outcome.Stop.{Stop}
 use Rattle.driver_laws.specs.declared.answers.outcome.Stop.TheVariants.{Store, Sink}
 use Rattle.driver_laws.specs.shown.QuietPasses.{Site, Outcome, StopsBefore}

@@ -1,37 +1,26 @@
 // A submission, over the core.
-ghost use Rattle.std.specs.Prelude.{◌≡◌, ◌<◌, ◌≤◌, ◌+◌, [], length, None, Some, IfOk, IfErr};
-ghost use Rattle.main_memory.specs.Frames.{frames_needed};
-ghost use Rattle.pack_geometry.specs.Geometry.{limit_of};
-ghost use Rattle.trace_replay.specs.requests.Requests.{first_block};
-ghost use Rattle.driver_machine.specs.World.{unit_at};
+ghost use Rattle.std.specs.Prelude.{◌≡◌, ◌<◌, ◌≤◌, [], length, Some, IfOk, IfErr};
+ghost use Rattle.main_memory.specs.Blocks.{IsShape};
 ghost use Rattle.driver_machine.specs.Events.{refusal_of};
 ghost use Rattle.hp_driver.specs.Subsystem.{asked};
-ghost use Rattle.hp_driver.specs.Calls.{Stands, MayAsk, asked_at, Asks};
+ghost use Rattle.hp_driver.specs.Calls.{Stands, MayAsk, IsAdmitted, asked_at, Asks};
 
 use crate::request::frames_for;
 use crate::submission;
 use driver_laws::answers::outcome::Stop;
 use driver_machine::{AnswerKind, Cause};
 use hp_core::{Asked, Core};
+use main_memory::FRAMES;
 use outside_traits::traits::Sink;
 use partitions::{Admission, admit};
 use trace_replay::requests::Request;
 
-/// How many frames there are.
-const FRAMES: u32 = 16384;
-
 /// The first block of a request on its pack, or how it is refused: outside its partition, at its very end, or for want of frames.
 fn admitted(core: &Core, request: Request) -> Result<u32, AnswerKind>
     requires unit { request.unit < length core.now.world.units }
-    requires some { 1 ≤ request.count }
-    requires few { request.count ≤ 127 }
-    requires offset { request.offset < 512 }
-    requires last { request.last ≤ 512 }
+    requires shape { IsShape request.count request.offset request.last }
     requires used { core.now.world.frames ≤ 16384 }
-    ensures joins { IfOk result (λ first. refusal_of (asked request []) core.now.world ≡ None) }
-    ensures first { IfOk result (λ first. first ≡ first_block (unit_at core.now.world request.unit).drive.kind (asked request [])) }
-    ensures inside { IfOk result (λ first. first + request.count ≤ limit_of (unit_at core.now.world request.unit).drive.kind) }
-    ensures room { IfOk result (λ first. core.now.world.frames + frames_needed request.count request.offset request.last ≤ 16384) }
+    ensures joins { IfOk result (IsAdmitted core.now.world request) }
     ensures refused { IfErr result (λ kind. refusal_of (asked request []) core.now.world ≡ Some kind) }
 {
     match admit(
@@ -85,10 +74,7 @@ fn join<T: Sink>(
     requires stands { Stands core.old }
     requires none_waits { core.old.world.answers ≡ [] }
     requires may { MayAsk core.old.world request bytes.now }
-    requires joins { refusal_of (asked request []) core.old.world ≡ None }
-    requires first { first ≡ first_block (unit_at core.old.world request.unit).drive.kind (asked request []) }
-    requires inside { first + request.count ≤ limit_of (unit_at core.old.world request.unit).drive.kind }
-    requires room { core.old.world.frames + frames_needed request.count request.offset request.last ≤ 16384 }
+    requires admitted { IsAdmitted core.old.world request first }
     ensures { Asks T.tells T.taken T.faults trace.old trace.new core.old core.new result line (asked request bytes.now) }
 {
     let asked = asked_from(request, first);

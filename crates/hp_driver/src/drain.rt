@@ -6,7 +6,7 @@ ghost use Rattle.driver_machine.specs.Events.{lowest};
 ghost use Rattle.driver_machine.specs.Sound.{Sound};
 ghost use Rattle.hp_driver.specs.Inputs.{input_of};
 
-use crate::events::{interrupts, moves};
+use crate::events::interrupts;
 use fire_code::Noise;
 use hardware_table::{FaultKind, NoiseSpan};
 use hp_core::Core;
@@ -62,7 +62,7 @@ fn next_move(core: &Core) -> Option<u8>
     ensures { result ≡ lowest events.can_move core.now.world.adapters 0 }
 {
     for a in 0..4u8 {
-        if moves(core, a) {
+        if core.moves(a) {
             return Some(a);
         }
     }

@@ -1,17 +1,17 @@
 // What each event does.
-ghost use Rattle.std.specs.Prelude.{◌≡◌, ◌<◌, ◌&&◌};
+ghost use Rattle.std.specs.Prelude.{◌≡◌, ◌<◌};
 ghost use Rattle.driver_machine.specs.World.{adapter_at};
 ghost use Rattle.driver_machine.specs.Events as events;
 ghost use Rattle.driver_machine.specs.Events.{each, drives};
 ghost use Rattle.driver_machine.specs.Sound.{Sound};
 ghost use Rattle.hp_driver.specs.Done.{DoesActs};
-ghost use Rattle.hp_driver.specs.Moves.{DoesMove, writes_next};
+ghost use Rattle.driver_machine.specs.Writes.{writes_next};
 
 use crate::hand::{asked_in_hand, id_in_hand};
 use crate::turns::{due, start_adapter};
 use driver_machine::Phase;
 use hp_core::{Core, Stop};
-use outside_traits::traits::{Packs, Sink};
+use outside_traits::traits::Sink;
 
 /// Ends the positioning of a unit's drive, if the drive is positioning. Stops if the trace fails.
 pub fn arrive<T: Sink>(core: &mut Core, line: u64, u: u8, trace: &mut T) -> Result<(), Stop>
@@ -28,22 +28,13 @@ pub fn arrive<T: Sink>(core: &mut Core, line: u64, u: u8, trace: &mut T) -> Resu
     core.arrive(line, u, asked.id, trace)
 }
 
-/// Whether an adapter can move a sector.
-pub(crate) fn moves(core: &Core, a: u8) -> bool
-    requires sound { Sound core.now.world }
-    requires adapter { a < 4 }
-    ensures { result ≡ events.can_move (adapter_at core.now.world a) }
-{
-    core.is_busy(a) && !core.has_completed(a)
-}
-
 /// Whether the next sector that an adapter moves may be written.
 pub fn writes(core: &Core, a: u8) -> bool
     requires sound { Sound core.now.world }
     requires adapter { a < 4 }
     ensures { result ≡ writes_next core.now.world a }
 {
-    moves(core, a) && core.writes(a)
+    core.moves(a) && core.writes(a)
 }
 
 /// Whether an interrupt of an adapter can be delivered.
@@ -53,25 +44,6 @@ pub(crate) fn interrupts(core: &Core, a: u8) -> bool
     ensures { result ≡ events.can_attend (adapter_at core.now.world a) }
 {
     core.has_completed(a) || core.has_attention(a)
-}
-
-/// Moves one sector of an adapter's transfer, if a transfer is under way. Stops if the packs or the trace fail.
-pub fn move_sector<P: Packs, T: Sink>(
-    core: &mut Core,
-    line: u64,
-    a: u8,
-    packs: &mut P,
-    trace: &mut T,
-) -> Result<(), Stop>
-    requires sound { Sound core.old.world }
-    requires adapter { a < 4 }
-    ensures { DoesMove P.tells P.held P.faults T.tells T.taken T.faults packs.old packs.new trace.old trace.new core.old core.new result line a }
-{
-    if !moves(core, a) {
-        return core.nothing(line, trace);
-    }
-    let u = core.transferring(a);
-    core.sector(line, u, packs, trace)
 }
 
 /// Takes the data interrupt of an adapter, if its completion is up, and does what is then due.

@@ -4,7 +4,7 @@ ghost use Rattle.hp_driver.specs.Subsystem.{IsThere};
 ghost use Rattle.hp_driver.specs.Calls.{Stands, Happens};
 
 use crate::drain::Event;
-use crate::events::{arrive, attend, move_sector};
+use crate::events::{arrive, attend};
 use driver_laws::answers::outcome::Stop;
 use hp_core::Core;
 use outside_traits::traits::{Packs, Sink};
@@ -23,7 +23,7 @@ pub(crate) fn happen<P: Packs, T: Sink>(
 {
     match event {
         Event::Arrive { unit } => arrive(core, line, unit, trace),
-        Event::Move { adapter } => move_sector(core, line, adapter, packs, trace),
+        Event::Move { adapter } => core.move_sector(line, adapter, packs, trace),
         Event::Attend { adapter } => attend(core, line, adapter, trace),
         Event::Turn { unit, sector } => {
             core.turn(unit, sector);

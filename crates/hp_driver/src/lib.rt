@@ -11,9 +11,9 @@
 //! the driver and its packs stand for, whatever calls came before it (`KeepsMaps`, `KeepsMapsIn`, `HoldsMaps`). Only `new` allocates
 //! memory.
 //!
-//! What each event does is code over the acts of `hp_core`: `arrive`, `move_sector`, `attend`, the parts of a submission, what is due
-//! at a unit, and the start of an adapter. Each of them performs the acts of the machine's own function (`DoesActs`, `DoesMove`:
-//! `arrive_acts`, `move_acts`, `attend_acts`, `due_acts`, `adapter_start`): all of them with their text, or the first ones, up to a
+//! What each event does is code over the acts of `hp_core`, which moves a sector by itself (`DoesMove`): `arrive`, `attend`, the parts of
+//! a submission, what is due at a unit, and the start of an adapter. Each of them performs the acts of the machine's own function
+//! (`DoesActs`: `arrive_acts`, `attend_acts`, `due_acts`, `adapter_start`): all of them with their text, or the first ones, up to a
 //! failure. An event that writes nothing leaves the packs alone, even if they fail, and `writes` tells beforehand which event may
 //! write. `next_event` is that of the machine: the lowest unit that can arrive, otherwise the lowest adapter that can move, otherwise
 //! the lowest adapter that can attend.

@@ -1,15 +1,13 @@
 // How many frames a request needs.
-ghost use Rattle.std.specs.Prelude.{◌≡◌, ◌<◌, ◌≤◌};
+ghost use Rattle.std.specs.Prelude.{◌≡◌, ◌≤◌};
+ghost use Rattle.main_memory.specs.Blocks.{IsShape};
 ghost use Rattle.main_memory.specs.Frames.{frames_needed};
 
 use trace_replay::requests::Request;
 
 /// How many frames the buffer of a request needs.
 pub(crate) fn frames_for(request: Request) -> u32
-    requires some { 1 ≤ request.count }
-    requires few { request.count ≤ 127 }
-    requires offset { request.offset < 512 }
-    requires last { request.last ≤ 512 }
+    requires { IsShape request.count request.offset request.last }
     ensures needed { result ≡ frames_needed request.count request.offset request.last }
     ensures few { result ≤ 128 }
 {

@@ -20,9 +20,8 @@ ghost use Rattle.hp_driver.specs.Passes.{HasCauses};
 ghost use Rattle.hp_driver.specs.Passes.{setups_of};
 ghost use Rattle.driver_laws.specs.rules.Commands.{CommandsAreBounded};
 ghost use Rattle.hp_driver.specs.Inputs.{input_of};
-ghost use Rattle.hp_driver.specs.Moves.{writes_next};
 ghost use Rattle.hp_driver.specs.Bytes.{HoldsMaps, KeepsMaps, KeepsMapsIn};
-ghost use Rattle.hp_driver.specs.Subsystem.{asked, IsAsked, Submits, IsThere, is_move, Comes, LeavesFewer, IsOldest, Reads, sink_in};
+ghost use Rattle.hp_driver.specs.Subsystem.{asked, IsAsked, Submits, IsThere, is_move, writes_next, Comes, LeavesFewer, IsOldest, Reads, sink_in};
 
 use crate::drain::{Event, next_event};
 use crate::events::writes;

@@ -1,79 +1,43 @@
 -- What a command comes to, from what its calls answer.
-use Rattle.std.proofs.Common.{◌≡◌, ◌⊎◌, inl, inr, ℕ, ◌++◌, List, Bool, IsTrue, Result, Ok, Err, OnOk, OnErr, Option, Some, refl, subst, sym, arith, ◌∙◌}
+use Rattle.std.proofs.Common.{◌≡◌, ◌⊎◌, inl, inr, ℕ, ◌<◌, ◌≤◌, ◌==◌, ◌++◌, List, Bool, IsTrue, Result, Ok, Err, OnOk, OnErr, Option, Some, refl, ap, subst, sym, arith, ◌∙◌}
+use Rattle.std.specs.Prelude.{if◌then◌else◌}
 use Rattle.outside_traits.specs.Causes.{HasCause}
 use Rattle.outside_traits.specs.Puts.{TakesFront}
+use Rattle.run_view.specs.Plays.{plays_of}
+use Rattle.run_view.specs.Runs.{run_of}
+use Rattle.run_view.specs.Views.{events_of}
+use Rattle.script_reader.specs.Stored.{Stored, lines_in}
+use Rattle.run_view.specs.Legal.{ReadsLegal}
+use Rattle.trace_reader.specs.declared.line.TraceLine.{TraceLine}
+use Rattle.trace_reader.specs.Grammar as traces
+use Rattle.trace_reader.specs.RoundTrip.{lines_told}
 use Rattle.hpview_run.specs.declared.load.ViewFault.{ViewFault}
 use Rattle.hpview_run.specs.declared.load.ViewFault.TheVariants as faults
 use Rattle.hpview_run.specs.declared.status.Status.{Status}
-use Rattle.hpview_run.specs.declared.status.Status.TheVariants.{Done, Usage, Refused, SourceFailed, SinkFailed, OutOfMemory}
+use Rattle.hpview_run.specs.declared.status.Status.TheVariants.{Done, Usage, Refused, SourceFailed, SinkFailed, OutOfMemory, NoEvent}
 use Rattle.hpview_run.specs.declared.words.Command.{Command}
-use Rattle.hpview_run.specs.Drawing.{HasDrawn, HasStopped, TellsFault, TellsRefusal, Told}
-use Rattle.hpview_run.specs.Inputs.{AreRight, AreFaulty, NoScriptFault, NoTraceFault}
+use Rattle.hpview_run.specs.Drawing.{Draws, HasDrawn, HasStopped, TellsFault, TellsNone, TellsRefusal, Told}
+use Rattle.hpview_run.specs.Inputs.{AreRight, AreFaulty, HaveNone, IsTrace, NoScriptFault, NoTraceFault, OneTrace}
 use Rattle.hpview_run.specs.Loading.{Refuses}
-use Rattle.script_lines.specs.Words.{all_verbs}
-use Rattle.script_reader.specs.Stored.{lines_in}
-use Rattle.hpview_run.specs.Statuses.{status_code, status_of, IsViewStatus, IsViewCode}
-
--- statuses differ by their numbers
-number_is : (s t : Status) → status_code s ≡ status_code t → s ≡ t
-number_is Done Done is = refl
-number_is Done Usage is = absurd (omega (arith, is))
-number_is Done Refused is = absurd (omega (arith, is))
-number_is Done SourceFailed is = absurd (omega (arith, is))
-number_is Done SinkFailed is = absurd (omega (arith, is))
-number_is Done OutOfMemory is = absurd (omega (arith, is))
-number_is Usage Done is = absurd (omega (arith, is))
-number_is Usage Usage is = refl
-number_is Usage Refused is = absurd (omega (arith, is))
-number_is Usage SourceFailed is = absurd (omega (arith, is))
-number_is Usage SinkFailed is = absurd (omega (arith, is))
-number_is Usage OutOfMemory is = absurd (omega (arith, is))
-number_is Refused Done is = absurd (omega (arith, is))
-number_is Refused Usage is = absurd (omega (arith, is))
-number_is Refused Refused is = refl
-number_is Refused SourceFailed is = absurd (omega (arith, is))
-number_is Refused SinkFailed is = absurd (omega (arith, is))
-number_is Refused OutOfMemory is = absurd (omega (arith, is))
-number_is SourceFailed Done is = absurd (omega (arith, is))
-number_is SourceFailed Usage is = absurd (omega (arith, is))
-number_is SourceFailed Refused is = absurd (omega (arith, is))
-number_is SourceFailed SourceFailed is = refl
-number_is SourceFailed SinkFailed is = absurd (omega (arith, is))
-number_is SourceFailed OutOfMemory is = absurd (omega (arith, is))
-number_is SinkFailed Done is = absurd (omega (arith, is))
-number_is SinkFailed Usage is = absurd (omega (arith, is))
-number_is SinkFailed Refused is = absurd (omega (arith, is))
-number_is SinkFailed SourceFailed is = absurd (omega (arith, is))
-number_is SinkFailed SinkFailed is = refl
-number_is SinkFailed OutOfMemory is = absurd (omega (arith, is))
-number_is OutOfMemory Done is = absurd (omega (arith, is))
-number_is OutOfMemory Usage is = absurd (omega (arith, is))
-number_is OutOfMemory Refused is = absurd (omega (arith, is))
-number_is OutOfMemory SourceFailed is = absurd (omega (arith, is))
-number_is OutOfMemory SinkFailed is = absurd (omega (arith, is))
-number_is OutOfMemory OutOfMemory is = refl
+use Rattle.hpview_run.specs.Statuses.{status_code, status_of}
 
 -- THE STATUS of a number
+abbrev status_at : ℕ → Status
+status_at code =
+    if code == 0 then Done else if code == 2 then Usage else if code == 3 then Refused else if code == 4 then SourceFailed
+    else if code == 5 then SinkFailed else if code == 9 then OutOfMemory else NoEvent
+
+own : (s : Status) → status_at (status_code s) ≡ s
+own Done = refl
+own Usage = refl
+own Refused = refl
+own SourceFailed = refl
+own SinkFailed = refl
+own OutOfMemory = refl
+own NoEvent = refl
+
 pub decoded : (status other : Status) (code : ℕ) → code ≡ status_code status → code ≡ status_code other → status ≡ other
-decoded status other code is same = number_is status other (sym is ∙ same)
-
-no_usage : (s : Status) → IsViewStatus s → s ≡ Usage → ⊥
-no_usage s is e = subst IsViewStatus e is
-
--- a command that ran is not one of no words
-pub is_no_usage : (status : Status) (code : ℕ) → code ≡ status_code status → IsViewStatus status → code ≡ status_code Usage → ⊥
-is_no_usage status code is view same = no_usage status view (decoded status Usage code is same)
-
-view_code : (status : Status) → IsViewStatus status → IsViewCode (status_code status)
-view_code Done is = inl refl
-view_code Usage is = absurd is
-view_code Refused is = inr (inr (inl refl))
-view_code SourceFailed is = inr (inr (inr (inl refl)))
-view_code SinkFailed is = inr (inr (inr (inr (inl refl))))
-view_code OutOfMemory is = inr (inr (inr (inr (inr refl))))
-
-pub coded : (status : Status) (code : ℕ) → code ≡ status_code status → IsViewStatus status → IsViewCode code
-coded status code is view = subst IsViewCode (sym is) (view_code status view)
+decoded status other code is same = sym (own status) ∙ ap status_at (sym is ∙ same) ∙ own other
 
 pub is_silent : (status : Status) (code : ℕ) → code ≡ status_code status → (code ≡ status_code SourceFailed) ⊎ (code ≡ status_code OutOfMemory)
     → (status ≡ SourceFailed) ⊎ (status ≡ OutOfMemory)
@@ -95,86 +59,96 @@ told_of result taken after bytes line text faults faults_after tells same is all
     (subst (λ (x : List ℕ). Told taken after x faults faults_after) same (written result taken after bytes faults faults_after tells all front cause t))
 
 -- WHAT A PICTURE COMES TO
-pub drawn_status : (status : Status) → (status ≡ Done) ⊎ (status ≡ SinkFailed) → IsViewStatus status
-drawn_status status (inl e) = subst IsViewStatus (sym e) tt
-drawn_status status (inr e) = subst IsViewStatus (sym e) tt
+pub drawn_no_usage : (status : Status) → (status ≡ Done) ⊎ (status ≡ SinkFailed) → status ≡ Usage → ⊥
+drawn_no_usage status (inl e) is = cc
+drawn_no_usage status (inr e) is = cc
 
--- and no other status
-pub drawn_other : (status other : Status) → (status ≡ Done) ⊎ (status ≡ SinkFailed) → status ≡ other → (Done ≡ other → ⊥) → (SinkFailed ≡ other → ⊥) → ⊥
-drawn_other status other (inl e) is not_done not_failed = not_done (sym e ∙ is)
-drawn_other status other (inr e) is not_done not_failed = not_failed (sym e ∙ is)
+pub drawn_some : (status : Status) → (status ≡ Done) ⊎ (status ≡ SinkFailed) → status ≡ NoEvent → ⊥
+drawn_some status (inl e) is = cc
+drawn_some status (inr e) is = cc
 
 -- WHAT A FAULT COMES TO
-pub fault_status : (status : Status) (fault : ViewFault) → status ≡ status_of fault → IsViewStatus status
-fault_status status faults.Memory e = subst IsViewStatus (sym e) tt
-fault_status status other e = subst IsViewStatus (sym e) tt
+pub no_usage : (fault : ViewFault) → status_of fault ≡ Usage → ⊥
+no_usage faults.Memory is = cc
+no_usage other is = cc
 
-fault_no_done : (fault : ViewFault) → status_of fault ≡ Done → ⊥
-fault_no_done faults.Memory is = cc
-fault_no_done other is = cc
+pub no_done : (fault : ViewFault) → status_of fault ≡ Done → ⊥
+no_done faults.Memory is = cc
+no_done other is = cc
 
-pub no_done : (status : Status) (fault : ViewFault) → status ≡ status_of fault → status ≡ Done → ⊥
-no_done status fault e is = fault_no_done fault (sym e ∙ is)
+pub no_sink : (fault : ViewFault) → status_of fault ≡ SinkFailed → ⊥
+no_sink faults.Memory is = cc
+no_sink other is = cc
 
-fault_no_sink : (fault : ViewFault) → status_of fault ≡ SinkFailed → ⊥
-fault_no_sink faults.Memory is = cc
-fault_no_sink other is = cc
+pub failed_by : (fault : ViewFault) → status_of fault ≡ SourceFailed → fault ≡ faults.Failed
+failed_by faults.Failed is = refl
+failed_by other is = absurd cc
 
-pub no_sink : (status : Status) (fault : ViewFault) → status ≡ status_of fault → status ≡ SinkFailed → ⊥
-no_sink status fault e is = fault_no_sink fault (sym e ∙ is)
-
-fault_failed : (fault : ViewFault) → status_of fault ≡ SourceFailed → fault ≡ faults.Failed
-fault_failed faults.Failed is = refl
-fault_failed other is = absurd cc
-
-pub failed_by : (status : Status) (fault : ViewFault) → status ≡ status_of fault → status ≡ SourceFailed → fault ≡ faults.Failed
-failed_by status fault e is = fault_failed fault (sym e ∙ is)
-
-fault_memory : (fault : ViewFault) → status_of fault ≡ OutOfMemory → fault ≡ faults.Memory
-fault_memory faults.Memory is = refl
-fault_memory other is = absurd cc
+memory_by : (fault : ViewFault) → status_of fault ≡ OutOfMemory → fault ≡ faults.Memory
+memory_by faults.Memory is = refl
+memory_by other is = absurd cc
 
 pub silent_by : (status : Status) (fault : ViewFault) → status ≡ status_of fault → (status ≡ SourceFailed) ⊎ (status ≡ OutOfMemory)
     → (fault ≡ faults.Memory) ⊎ (fault ≡ faults.Failed)
-silent_by status fault e (inl is) = inr (fault_failed fault (sym e ∙ is))
-silent_by status fault e (inr is) = inl (fault_memory fault (sym e ∙ is))
+silent_by status fault e (inl is) = inr (failed_by fault (sym e ∙ is))
+silent_by status fault e (inr is) = inl (memory_by fault (sym e ∙ is))
 
-told_by_fault : (fault : ViewFault) (tells : Bool) (text : List ℕ) (trace_tells : Bool) (trace : List ℕ) (out_tells : Bool) (taken after : List ℕ) (before behind : ℕ)
-    → Refuses fault tells text trace_tells trace → status_of fault ≡ Refused → (IsTrue out_tells → TellsFault fault taken after before behind)
+pub refusal_told : (command : Command) (fault : ViewFault) (tells : Bool) (text : List ℕ) (trace_tells : Bool) (trace : List ℕ) (out_tells : Bool) (taken after : List ℕ) (before behind : ℕ)
+    → (IsTrue tells → Refuses command trace_tells fault text trace) → status_of fault ≡ Refused → (IsTrue out_tells → TellsFault fault taken after before behind)
     → TellsRefusal tells text trace_tells trace out_tells taken after before behind
-told_by_fault (faults.Script line kind) tells text trace_tells trace out_tells taken after before behind refuses is told =
-    inl (record { line = line; kind = kind; first = refuses.of_script; told = told })
-told_by_fault (faults.Trace line kind) tells text trace_tells trace out_tells taken after before behind refuses is told =
-    inr (record { line = line; kind = kind; first = refuses.of_trace; told = told })
-told_by_fault other tells text trace_tells trace out_tells taken after before behind refuses is told = absurd cc
+refusal_told command (faults.Script line kind) tells text trace_tells trace out_tells taken after before behind refuses is told =
+    inl (record { line = line; kind = kind; first = refuses; told = told })
+refusal_told command (faults.Trace line kind) tells text trace_tells trace out_tells taken after before behind refuses is told =
+    inr (record { line = line; kind = kind; first = refuses; told = told })
+refusal_told command other tells text trace_tells trace out_tells taken after before behind refuses is told = absurd cc
 
-pub refusal_told : (status : Status) (fault : ViewFault) (tells : Bool) (text : List ℕ) (trace_tells : Bool) (trace : List ℕ) (out_tells : Bool) (taken after : List ℕ) (before behind : ℕ)
-    → status ≡ status_of fault → Refuses fault tells text trace_tells trace → status ≡ Refused → (IsTrue out_tells → TellsFault fault taken after before behind)
-    → TellsRefusal tells text trace_tells trace out_tells taken after before behind
-refusal_told status fault tells text trace_tells trace out_tells taken after before behind e refuses is told =
-    told_by_fault fault tells text trace_tells trace out_tells taken after before behind refuses (sym e ∙ is) told
+pub none_told : (command : Command) (fault : ViewFault) (tells : Bool) (text : List ℕ) (trace_tells : Bool) (trace : List ℕ) (out_tells : Bool) (taken after : List ℕ) (before behind : ℕ)
+    → (IsTrue tells → Refuses command trace_tells fault text trace) → status_of fault ≡ NoEvent → (IsTrue out_tells → TellsFault fault taken after before behind)
+    → TellsNone command tells text trace_tells trace out_tells taken after before behind
+none_told command (faults.Window events) tells text trace_tells trace out_tells taken after before behind refuses is told =
+    record { events = events; none = refuses; told = told }
+none_told command other tells text trace_tells trace out_tells taken after before behind refuses is told = absurd cc
 
--- WHAT IS RIGHT is not refused, and what is faulty is not drawn
+-- WHAT IS RIGHT is not refused, and what is faulty or shows no event is not drawn
+trace_spelled : (stored : Stored) (trace : List ℕ) → ReadsLegal → IsTrace stored trace → (told : List TraceLine) × traces.Spells stored trace told
+trace_spelled stored trace reads (inl spelled) = spelled
+trace_spelled stored trace reads (inr legal) = (lines_told legal.moments, reads stored trace legal)
+
 pub right_stays : (tells : Bool) (text : List ℕ) (trace_tells : Bool) (trace : List ℕ) (out_tells : Bool) (taken after : List ℕ) (before behind : ℕ)
-    → NoScriptFault → NoTraceFault → IsTrue tells → IsTrue trace_tells → AreRight text trace
+    → NoScriptFault → NoTraceFault → ReadsLegal → IsTrue tells → IsTrue trace_tells → AreRight text trace
     → TellsRefusal tells text trace_tells trace out_tells taken after before behind → ⊥
-right_stays tells text trace_tells trace out_tells taken after before behind no_script no_trace t u right (inl refused) =
+right_stays tells text trace_tells trace out_tells taken after before behind no_script no_trace reads t u right (inl refused) =
     no_script text right.lines right.count right.script refused.line refused.kind (refused.first t)
-right_stays tells text trace_tells trace out_tells taken after before behind no_script no_trace t u right (inr refused) =
+right_stays tells text trace_tells trace out_tells taken after before behind no_script no_trace reads t u right (inr refused) =
     let beside = refused.first t u in
-    let spelled = right.beside beside.stored beside.loads in
+    let spelled = trace_spelled beside.stored trace reads (right.beside beside.stored beside.loads) in
     no_trace beside.stored trace spelled.0 spelled.1 refused.line refused.kind beside.refused
 
-pub faulty_goes : (command : Command) (tells : Bool) (text : List ℕ) (trace_tells : Bool) (trace : List ℕ) (out_tells : Bool) (taken after : List ℕ)
-    → NoScriptFault → NoTraceFault → IsTrue tells → IsTrue trace_tells → AreFaulty text trace
-    → HasDrawn command tells text trace_tells trace out_tells taken after → ⊥
-faulty_goes command tells text trace_tells trace out_tells taken after no_script no_trace t u (inl fault) drawn =
-    let draws = drawn.draws t u in
+faulty_goes : (command : Command) (text trace picture : List ℕ) → NoScriptFault → NoTraceFault → AreFaulty text trace → Draws command text trace picture → ⊥
+faulty_goes command text trace picture no_script no_trace (inl fault) draws =
     no_script text (lines_in draws.stored) draws.stored.count draws.loads.spells fault.0 fault.1 fault.2
-faulty_goes command tells text trace_tells trace out_tells taken after no_script no_trace t u (inr faults_of) drawn =
-    let draws = drawn.draws t u in
+faulty_goes command text trace picture no_script no_trace (inr faults_of) draws =
     let fault = faults_of draws.stored draws.loads in
     no_trace draws.stored trace draws.views.lines draws.views.spells fault.0 fault.1 fault.2
+
+none_goes : (command : Command) (text trace picture : List ℕ) → OneTrace → HaveNone command text trace → Draws command text trace picture → ⊥
+none_goes command text trace picture one none draws =
+    let told = none draws.stored draws.loads in
+    let same : told.0 ≡ draws.views.lines = one draws.stored trace told.0 draws.views.lines told.1 draws.views.spells in
+    let few : events_of (run_of (plays_of draws.stored) draws.views.lines) < command.from =
+    subst (λ (lines : List TraceLine). events_of (run_of (plays_of draws.stored) lines) < command.from) same told.2 in
+    fewer (events_of (run_of (plays_of draws.stored) draws.views.lines)) draws.view.events command.from draws.views.events draws.some few
+  where
+    fewer : (n m from : ℕ) → m ≡ n → from ≤ m → n < from → ⊥
+    fewer n m from e some few = omega (arith, e, some, few)
+
+pub nothing_drawn : (command : Command) (tells : Bool) (text : List ℕ) (trace_tells : Bool) (trace : List ℕ) (out_tells : Bool) (taken after : List ℕ)
+    → NoScriptFault → NoTraceFault → OneTrace → IsTrue tells → IsTrue trace_tells → AreFaulty text trace ⊎ HaveNone command text trace
+    → HasDrawn command tells text trace_tells trace out_tells taken after → ⊥
+nothing_drawn command tells text trace_tells trace out_tells taken after no_script no_trace one t u (inl faulty) drawn =
+    faulty_goes command text trace drawn.picture no_script no_trace faulty (drawn.draws t u)
+nothing_drawn command tells text trace_tells trace out_tells taken after no_script no_trace one t u (inr none) drawn =
+    none_goes command text trace drawn.picture one none (drawn.draws t u)
 
 -- OF THE COMMAND that the words name
 pub one_command : (named other : Option Command) (mine command : Command) → named ≡ other → named ≡ Some mine → other ≡ Some command → mine ≡ command
@@ -192,3 +166,8 @@ pub stopped_for : (mine command : Command) (tells : Bool) (text : List ℕ) (tra
     → mine ≡ command → HasStopped mine tells text trace_tells trace out_tells taken after → HasStopped command tells text trace_tells trace out_tells taken after
 stopped_for mine command tells text trace_tells trace out_tells taken after same stopped =
     subst (λ (x : Command). HasStopped x tells text trace_tells trace out_tells taken after) same stopped
+
+pub none_for : (mine command : Command) (tells : Bool) (text : List ℕ) (trace_tells : Bool) (trace : List ℕ) (out_tells : Bool) (taken after : List ℕ) (before behind : ℕ)
+    → mine ≡ command → TellsNone mine tells text trace_tells trace out_tells taken after before behind → TellsNone command tells text trace_tells trace out_tells taken after before behind
+none_for mine command tells text trace_tells trace out_tells taken after before behind same none =
+    subst (λ (x : Command). TellsNone x tells text trace_tells trace out_tells taken after before behind) same none

@@ -1,5 +1,5 @@
 -- What was read of a source, and what its bytes spell.
-use Rattle.std.proofs.Common.{◌≡◌, ◌⊎◌, inl, inr, ℕ, ◌<◌, ◌≤◌, List, [], ◌++◌, length, Result, Ok, Err, IfErr, sym, ap, ◌∙◌, subst, append-nil, arith, length-append}
+use Rattle.std.proofs.Common.{◌≡◌, ◌⊎◌, inl, inr, ℕ, ◌<◌, ◌≤◌, List, [], ◌++◌, length, Bool, IsTrue, Result, Ok, Err, IfOk, OnOk, sym, ap, ◌∙◌, subst, append-nil, arith, length-append}
 use Rattle.script_lines.specs.declared.kinds.ScriptKind.{ScriptKind}
 use Rattle.script_reader.specs.Grammar as scripts
 use Rattle.script_reader.specs.Stored.{Stored}
@@ -10,14 +10,14 @@ use Rattle.run_view.specs.declared.view.View.{View}
 use Rattle.run_view.specs.Views.{Views}
 use Rattle.script_reader.specs.declared.fault.ReadFault.{ReadFault}
 use Rattle.script_reader.specs.declared.fault.ReadFault.TheVariants as read
-use Rattle.script_reader.specs.Reading.{Refuses}
+use Rattle.script_reader.specs.Reading as reading
 use Rattle.trace_reader.specs.declared.fault.TraceFault.{TraceFault}
 use Rattle.trace_reader.specs.declared.fault.TraceFault.TheVariants as told
 use Rattle.hpview_run.specs.declared.load.ViewFault.{ViewFault}
 use Rattle.hpview_run.specs.declared.load.ViewFault.TheVariants as faults
 use Rattle.hpview_run.specs.declared.words.Command.{Command}
 use Rattle.hpview_run.specs.Drawing.{Draws}
-use Rattle.hpview_run.specs.Loading.{IsRead, Loads, from_read, from_trace, RefusesScript, RefusesTrace}
+use Rattle.hpview_run.specs.Loading.{IsOfView, IsRead, Loads, Refuses, ShowsNone, from_read, from_trace}
 
 whole_by : (n : ℕ) (source bytes rest : List ℕ) → source ≡ bytes ++ rest → (rest ≡ []) ⊎ (n < length bytes) → length bytes ≤ n → source ≡ bytes
 whole_by n source bytes rest front (inl none) short = front ∙ ap (λ (r : List ℕ). bytes ++ r) none ∙ append-nil bytes
@@ -47,33 +47,21 @@ view_of stored source bytes first last view r v =
     subst (λ (s : List ℕ). Views stored s first last view) (sym (whole 268435456 source bytes r v.spells.short)) v
 
 -- WHATEVER A READER REFUSES
-pub read_refuses : (source text : List ℕ) (fault : ReadFault) (made : ViewFault) → made ≡ from_read fault → IsRead 16777216 source text → Refuses all_verbs fault text → RefusesScript made source
-read_refuses source text fault made e r refused = subst (λ (f : ViewFault). RefusesScript f source) (sym e) (by_fault fault refused)
+pub read_refuses : (command : Command) (tells : Bool) (source text trace : List ℕ) (fault : ReadFault) (made : ViewFault) → made ≡ from_read fault → IsRead 16777216 source text → reading.Refuses all_verbs fault text
+    → Refuses command tells made source trace
+read_refuses command tells source text trace fault made e r refused = subst (λ (f : ViewFault). Refuses command tells f source trace) (sym e) (by_fault fault refused)
   where
-    by_fault : (fault : ReadFault) → Refuses all_verbs fault text → RefusesScript (from_read fault) source
+    by_fault : (fault : ReadFault) → reading.Refuses all_verbs fault text → Refuses command tells (from_read fault) source trace
     by_fault read.Memory refused = tt
     by_fault (read.Refused line kind) refused = script_refused source text line kind r refused
 
-pub read_is_no_trace : (fault : ReadFault) (made : ViewFault) → made ≡ from_read fault → (text trace : List ℕ) → RefusesTrace made text trace
-read_is_no_trace fault made e text trace = subst (λ (f : ViewFault). RefusesTrace f text trace) (sym e) (by_fault fault)
+pub trace_refuses : (command : Command) (tells : Bool) (stored : Stored) (text bytes : List ℕ) (fault : TraceFault) (made : ViewFault) → made ≡ from_trace fault → Loads text stored
+    → traces.Refuses stored bytes fault → Refuses command tells made text bytes
+trace_refuses command tells stored text bytes fault made e loads refused = subst (λ (f : ViewFault). Refuses command tells f text bytes) (sym e) (by_fault fault refused)
   where
-    by_fault : (fault : ReadFault) → RefusesTrace (from_read fault) text trace
-    by_fault read.Memory = tt
-    by_fault (read.Refused line kind) = tt
-
-pub trace_refuses : (stored : Stored) (text bytes : List ℕ) (fault : TraceFault) (made : ViewFault) → made ≡ from_trace fault → Loads text stored → traces.Refuses stored bytes fault → RefusesTrace made text bytes
-trace_refuses stored text bytes fault made e loads refused = subst (λ (f : ViewFault). RefusesTrace f text bytes) (sym e) (by_fault fault refused)
-  where
-    by_fault : (fault : TraceFault) → traces.Refuses stored bytes fault → RefusesTrace (from_trace fault) text bytes
+    by_fault : (fault : TraceFault) → traces.Refuses stored bytes fault → Refuses command tells (from_trace fault) text bytes
     by_fault told.Memory refused = tt
-    by_fault (told.Refused line kind) refused = record { stored = stored; loads = loads; refused = refused }
-
-pub trace_is_no_script : (fault : TraceFault) (made : ViewFault) → made ≡ from_trace fault → (text : List ℕ) → RefusesScript made text
-trace_is_no_script fault made e text = subst (λ (f : ViewFault). RefusesScript f text) (sym e) (by_fault fault)
-  where
-    by_fault : (fault : TraceFault) → RefusesScript (from_trace fault) text
-    by_fault told.Memory = tt
-    by_fault (told.Refused line kind) = tt
+    by_fault (told.Refused line kind) refused = λ t. record { stored = stored; loads = loads; refused = refused }
 
 pub trace_is_inside : (fault : TraceFault) (made : ViewFault) → made ≡ from_trace fault → made ≡ faults.Failed → ⊥
 trace_is_inside told.Memory made e failed = cc
@@ -86,34 +74,46 @@ draws_of command text trace bytes picture r d = record {
   loads = d.loads;
   view = d.view;
   views = view_of d.stored trace bytes _ _ d.view r d.views;
+  some = d.some;
   drawn = d.drawn;
 }
 
-pub refuses_of : (fault : ViewFault) (text trace bytes : List ℕ) → IsRead 268435456 trace bytes → RefusesTrace fault text bytes → RefusesTrace fault text trace
-refuses_of (faults.Trace line kind) text trace bytes r refused = record {
-  stored = refused.stored;
-  loads = refused.loads;
-  refused = trace_refused refused.stored trace bytes line kind r refused.refused;
+pub refuses_of : (command : Command) (tells : Bool) (fault : ViewFault) (text trace bytes : List ℕ) → (IsTrue tells → IsRead 268435456 trace bytes) → Refuses command tells fault text bytes
+    → Refuses command tells fault text trace
+refuses_of command tells (faults.Trace line kind) text trace bytes r refused = λ t. let beside = refused t in record {
+  stored = beside.stored;
+  loads = beside.loads;
+  refused = trace_refused beside.stored trace bytes line kind (r t) beside.refused;
 }
-refuses_of other text trace bytes r refused = tt
+refuses_of command tells (faults.Window events) text trace bytes r refused = λ t.
+    subst (λ (s : List ℕ). ShowsNone command events text s) (sym (whole 268435456 trace bytes (r t) (refused t).spells.short)) (refused t)
+refuses_of command tells (faults.Script line kind) text trace bytes r refused = refused
+refuses_of command tells other text trace bytes r refused = tt
 
 -- what is neither of the script nor of the trace refuses nothing of them
-pub refuses_none : (fault : ViewFault) (text trace : List ℕ) → (fault ≡ faults.Memory) ⊎ (fault ≡ faults.Failed) → RefusesTrace fault text trace
-refuses_none fault text trace (inl e) = subst (λ (f : ViewFault). RefusesTrace f text trace) (sym e) tt
-refuses_none fault text trace (inr e) = subst (λ (f : ViewFault). RefusesTrace f text trace) (sym e) tt
+pub refuses_none : (command : Command) (tells : Bool) (fault : ViewFault) (text trace : List ℕ) → (fault ≡ faults.Memory) ⊎ (fault ≡ faults.Failed) → Refuses command tells fault text trace
+refuses_none command tells fault text trace (inl e) = subst (λ (f : ViewFault). Refuses command tells f text trace) (sym e) tt
+refuses_none command tells fault text trace (inr e) = subst (λ (f : ViewFault). Refuses command tells f text trace) (sym e) tt
 
-pub script_none : (fault : ViewFault) (text : List ℕ) → (fault ≡ faults.Memory) ⊎ (fault ≡ faults.Failed) → RefusesScript fault text
-script_none fault text (inl e) = subst (λ (f : ViewFault). RefusesScript f text) (sym e) tt
-script_none fault text (inr e) = subst (λ (f : ViewFault). RefusesScript f text) (sym e) tt
+-- WHAT IS REFUSED OF A VIEW is refused of the run, and no source has failed
+pub view_refuses : (command : Command) (tells : Bool) (stored : Stored) (text trace : List ℕ) (first last : ℕ) (view : View) (fault : ViewFault) → Loads text stored → Views stored trace first last view
+    → IsOfView command view.events fault → Refuses command tells fault text trace
+view_refuses command tells stored text trace first last view (faults.Window events) loads v is = λ t. record {
+  stored = stored;
+  loads = loads;
+  lines = v.lines;
+  spells = v.spells;
+  events_are = is.0 ∙ v.events;
+  fewer = subst (λ (n : ℕ). n < command.from) (sym is.0) is.1;
+}
+view_refuses command tells stored text trace first last view faults.Memory loads v is = tt
+view_refuses command tells stored text trace first last view other loads v is = absurd is
 
--- there was no memory, and the source did not fail
-pub memory_inside : (fault : ViewFault) → fault ≡ faults.Memory → fault ≡ faults.Failed → ⊥
-memory_inside fault e failed = no_failed (sym e ∙ failed)
-  where
-    no_failed : faults.Memory ≡ faults.Failed → ⊥
-    no_failed is = cc
+pub view_inside : (command : Command) (events : ℕ) (fault : ViewFault) → IsOfView command events fault → fault ≡ faults.Failed → ⊥
+view_inside command events faults.Failed is e = is
+view_inside command events other is e = cc
 
--- two facts of one error
-pub both_err : {T E : Type 0} (P Q : E → Type 0) (result : Result T E) → IfErr result P → IfErr result Q → IfErr result (λ fault. P fault × Q fault)
-both_err P Q (Ok value) p q = tt
-both_err P Q (Err fault) p q = (p, q)
+-- two facts of what is drawn
+pub both_ok : {T E : Type 0} (P : T → Type 0) (Q : Type 0) (result : Result T E) → IfOk result P → OnOk result Q → IfOk result (λ value. P value × Q)
+both_ok P Q (Ok value) p q = (p, q)
+both_ok P Q (Err fault) p q = tt

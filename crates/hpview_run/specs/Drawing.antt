@@ -1,5 +1,5 @@
 -- WHAT IS DRAWN, and what is told of it.
-use Rattle.std.specs.Prelude.{◌≡◌, ◌⊎◌, ℕ, ◌-◌, Bool, IsTrue, List, ◌++◌}
+use Rattle.std.specs.Prelude.{◌≡◌, ◌⊎◌, ℕ, ◌≤◌, ◌-◌, Bool, IsTrue, List, ◌++◌}
 use Rattle.outside_traits.specs.Causes.{Rose}
 use Rattle.outside_traits.specs.Puts.{TakesFront}
 use Rattle.picture_chart.specs.Pages.{IsChartOf}
@@ -24,8 +24,8 @@ use Rattle.hpview_run.specs.declared.load.ViewFault.TheVariants as faults
 use Rattle.hpview_run.specs.declared.words.Command.{Command}
 use Rattle.hpview_run.specs.declared.words.Form.{Form}
 use Rattle.hpview_run.specs.declared.words.Form.TheVariants.{Svg, Chart, Requests, Summary, Events}
-use Rattle.hpview_run.specs.Loading.{Loads, RefusesBeside}
-use Rattle.hpview_run.specs.Words.{trace_refusal}
+use Rattle.hpview_run.specs.Loading.{Loads, RefusesBeside, ShowsNone}
+use Rattle.hpview_run.specs.Words.{trace_refusal, window_refusal}
 
 -- a text is told from the plan of a sheet
 pub record IsTold (Tells : Plan → List ℕ → Type 0) (sheet : Sheet) (text : List ℕ) : Type 0 where
@@ -58,13 +58,14 @@ pub record IsDrawn (form : Form) (caption : List ℕ) (view : View) (text : List
   pub notes : sheet.notes.now ≡ view.notes.items
   pub picture : IsDrawnAs form sheet text
 
--- THE PICTURE is of what is shown of the run that script and trace tell of: of the events that the command names, under the
--- script's own caption
+-- THE PICTURE is of what is shown of the run that script and trace tell of: of the events that the command names, of which the run
+-- has the first, under the script's own caption
 pub record Draws (command : Command) (text trace picture : List ℕ) : Type 0 where
   pub stored : Stored
   pub loads : Loads text stored
   pub view : View
   pub views : Views stored trace (command.from - 1) command.to view
+  pub some : command.from ≤ view.events
   pub drawn : IsDrawn command.form (caption_of text) view picture
 
 -- A text was taken whole; or the sink failed, and took a front of it.
@@ -75,6 +76,7 @@ Told taken taken' text faults faults' = (taken' ≡ taken ++ text) ⊎ (Rose fau
 abbrev pub TellsFault : ViewFault → List ℕ → List ℕ → ℕ → ℕ → Type 0
 TellsFault (faults.Script line kind) taken taken' before after = Told taken taken' (refusal_text line kind) before after
 TellsFault (faults.Trace line kind) taken taken' before after = Told taken taken' (trace_refusal line kind) before after
+TellsFault (faults.Window events) taken taken' before after = Told taken taken' (window_refusal events) before after
 TellsFault fault taken taken' before after = Unit {0}
 
 -- IT IS DONE: where the sources tell, what they gave is drawn; where the sink tells, it took the picture, and nothing else.
@@ -105,3 +107,9 @@ pub record TraceRefused (tells : Bool) (text : List ℕ) (trace_tells : Bool) (t
 abbrev pub TellsRefusal : Bool → List ℕ → Bool → List ℕ → Bool → List ℕ → List ℕ → ℕ → ℕ → Type 0
 TellsRefusal tells text trace_tells trace out_tells taken taken' faults faults' =
     ScriptRefused tells text out_tells taken taken' faults faults' ⊎ TraceRefused tells text trace_tells trace out_tells taken taken' faults faults'
+
+-- NO EVENT IS SHOWN: the run has none of those that the command names, and it is told how many the run has
+pub record TellsNone (command : Command) (tells : Bool) (text : List ℕ) (trace_tells : Bool) (trace : List ℕ) (out_tells : Bool) (taken taken' : List ℕ) (faults faults' : ℕ) : Type 0 where
+  pub events : ℕ
+  pub none : IsTrue tells → IsTrue trace_tells → ShowsNone command events text trace
+  pub told : IsTrue out_tells → Told taken taken' (window_refusal events) faults faults'

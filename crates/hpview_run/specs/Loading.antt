@@ -11,7 +11,12 @@ use Rattle.script_lines.specs.Words.{all_verbs}
 use Rattle.trace_reader.specs.declared.fault.TraceFault.{TraceFault}
 use Rattle.trace_reader.specs.declared.fault.TraceFault.TheVariants as traces
 use Rattle.trace_reader.specs.declared.fault.TraceKind.{TraceKind}
+use Rattle.trace_reader.specs.declared.line.TraceLine.{TraceLine}
 use Rattle.trace_reader.specs.Grammar as grammar
+use Rattle.run_view.specs.Plays.{plays_of}
+use Rattle.run_view.specs.Runs.{run_of}
+use Rattle.run_view.specs.Views.{events_of}
+use Rattle.hpview_run.specs.declared.words.Command.{Command}
 use Rattle.hpview_run.specs.declared.load.ViewFault.{ViewFault}
 use Rattle.hpview_run.specs.declared.load.ViewFault.TheVariants as faults
 
@@ -38,22 +43,30 @@ pub record Loads (bytes : List ℕ) (stored : Stored) : Type 0 where
   pub text : stored.text ≡ bytes
   pub spells : Spells all_verbs bytes (lines_in stored) stored.count
 
--- A REFUSAL of a script says its first fault
-abbrev pub RefusesScript : ViewFault → List ℕ → Type 0
-RefusesScript (faults.Script line kind) text = scripts.IsRefused all_verbs text line kind
-RefusesScript fault text = Unit {0}
-
--- and one of a trace its first fault beside the script, which the bytes of its source spell
+-- THE FIRST FAULT of a trace, beside the script that other bytes spell
 pub record RefusesBeside (line : ℕ) (kind : TraceKind) (text trace : List ℕ) : Type 0 where
   pub stored : Stored
   pub loads : Loads text stored
   pub refused : grammar.IsRefused stored trace line kind
 
-abbrev pub RefusesTrace : ViewFault → List ℕ → List ℕ → Type 0
-RefusesTrace (faults.Trace line kind) text trace = RefusesBeside line kind text trace
-RefusesTrace fault text trace = Unit {0}
+-- THE WINDOW IS EMPTY: the run has so many events, and the first that the command names is behind them
+pub record ShowsNone (command : Command) (events : ℕ) (text trace : List ℕ) : Type 0 where
+  pub stored : Stored
+  pub loads : Loads text stored
+  pub lines : List TraceLine
+  pub spells : grammar.Spells stored trace lines
+  pub events_are : events ≡ events_of (run_of (plays_of stored) lines)
+  pub fewer : events < command.from
 
--- what is refused of a script and of the trace beside it, where their sources tell
-pub record Refuses (fault : ViewFault) (tells : Bool) (text : List ℕ) (trace_tells : Bool) (trace : List ℕ) : Type 0 where
-  pub of_script : IsTrue tells → RefusesScript fault text
-  pub of_trace : IsTrue tells → IsTrue trace_tells → RefusesTrace fault text trace
+-- what is refused of a view: events that it does not have
+abbrev pub IsOfView : Command → ℕ → ViewFault → Type 0
+IsOfView command events (faults.Window other) = (other ≡ events) × (events < command.from)
+IsOfView command events faults.Memory = Unit {0}
+IsOfView command events fault = ⊥
+
+-- A REFUSAL says the first fault of the script; or, where the source of the trace tells, that of the trace, or that the window is empty
+abbrev pub Refuses : Command → Bool → ViewFault → List ℕ → List ℕ → Type 0
+Refuses command tells (faults.Script line kind) text trace = scripts.IsRefused all_verbs text line kind
+Refuses command tells (faults.Trace line kind) text trace = IsTrue tells → RefusesBeside line kind text trace
+Refuses command tells (faults.Window events) text trace = IsTrue tells → ShowsNone command events text trace
+Refuses command tells fault text trace = Unit {0}

@@ -49,7 +49,7 @@ span_of form (Some from) None = None
 
 abbrev pub command_by : Option Form → List (List ℕ) → Option Command
 command_by None words = None
-command_by (Some form) [] = Some (record { form = form; from = 1; to = 2 ^ 32 - 1 })
+command_by (Some form) [] = Some (record { form = form; from = 0; to = 2 ^ 32 - 1 })
 command_by (Some form) (from ∷ to ∷ []) = span_of form (event_named from) (event_named to)
 command_by (Some form) words = None
 
@@ -57,7 +57,7 @@ abbrev pub command_named : List (List ℕ) → Option Command
 command_named [] = None
 command_named (word ∷ words) = command_by (form_named word) words
 
--- THE COMMAND that the words name: all events, or those from one to another
+-- THE COMMAND that the words name: the whole run, or its events from one to another
 abbrev pub command_of : List (String Global) → Option Command
 command_of words = command_named (map string_bytes words)
 
@@ -77,3 +77,10 @@ trace_refused = codes "refused trace line "
 -- `refused trace line L KIND`
 abbrev pub trace_refusal : ℕ → TraceKind → List ℕ
 trace_refusal line kind = trace_refused ++ decimal line ++ codes " " ++ trace_word kind ++ 10 ∷ []
+
+unfoldable pub window_refused : List ℕ
+window_refused = codes "refused window "
+
+-- `refused window E`: of a run with so many events
+abbrev pub window_refusal : ℕ → List ℕ
+window_refusal events = window_refused ++ decimal events ++ 10 ∷ []

@@ -1,7 +1,7 @@
 // Draws a run.
-ghost use Rattle.std.specs.Prelude.{◌≡◌, ◌-◌, ◌≢◌, ℕ, List, IfOk, IfErr};
+ghost use Rattle.std.specs.Prelude.{◌≡◌, ◌≤◌, ◌-◌, ◌≢◌, ℕ, Bool, List, IfOk, IfErr, OnOk};
 ghost use Rattle.hpview_run.specs.Drawing.{Draws, IsDrawn, IsDrawnAs};
-ghost use Rattle.hpview_run.specs.Loading.{Loads, RefusesScript, RefusesTrace};
+ghost use Rattle.hpview_run.specs.Loading.{IsOfView, Loads, Refuses};
 ghost use Rattle.run_view.specs.Captions.{caption_of as caption_in};
 
 use crate::load::{Loaded, ViewFault};
@@ -68,6 +68,25 @@ fn draw(alloc: Global, form: Form, text: &[u8], view: &View<'_>) -> Result<Vec<u
     }
 }
 
+/// Draws the events that a command names of what a view shows of a run. They are refused if the run has none of them.
+fn draw_shown(
+    alloc: Global,
+    command: Command,
+    text: &[u8],
+    view: &View<'_>,
+) -> Result<Vec<u8>, ViewFault>
+    ensures ok { IfOk result (λ picture. IsDrawn command.form (caption_in text.now) view.now picture.items) }
+    ensures some { OnOk result (command.from ≤ view.now.events) }
+    ensures err { IfErr result (λ fault. IsOfView command view.now.events fault) }
+{
+    if view.events < command.from {
+        return Err(ViewFault::Window {
+            events: view.events,
+        });
+    }
+    draw(alloc, command.form, text, view)
+}
+
 /// Draws the run of a script and of the bytes of its trace.
 pub(crate) fn draw_run(
     alloc: Global,
@@ -77,15 +96,14 @@ pub(crate) fn draw_run(
 ) -> Result<Vec<u8>, ViewFault>
     requires { Loads loaded.now.text.items loaded.now.script }
     ensures ok { IfOk result (λ picture. Draws command loaded.now.text.items bytes.now picture.items) }
-    ensures trace_refused { IfErr result (λ fault. RefusesTrace fault loaded.now.text.items bytes.now) }
-    ensures script { IfErr result (λ fault. (text : List ℕ) → RefusesScript fault text) }
+    ensures refused { IfErr result (λ fault. (tells : Bool) → Refuses command tells fault loaded.now.text.items bytes.now) }
     ensures inside { IfErr result (λ fault. fault ≢ ViewFault.Failed) }
 {
     script_law();
     let text = loaded.text.as_slice();
     let first = command.from.saturating_sub(1);
     match view_run(alloc, &loaded.script, text, bytes, first, command.to) {
-        Ok(view) => draw(alloc, command.form, text, &view),
+        Ok(view) => draw_shown(alloc, command, text, &view),
         Err(fault) => Err(ViewFault::from(fault)),
     }
 }

@@ -20,6 +20,9 @@ pub(crate) enum ViewFault {
     /// The trace is refused: its first faulty line, and the fault of that line.
     #[error("trace line {line} is refused")]
     Trace { line: u64, kind: TraceKind },
+    /// The run has none of the events that are to be shown: how many events it has.
+    #[error("the run has {events} events")]
+    Window { events: u64 },
 }
 
 /// A script, and its text.

@@ -5,11 +5,11 @@ ghost use Rattle.outside_traits.specs.Puts.{TakesFront};
 ghost use Rattle.hpview_run.specs.declared.status.Status.TheVariants.{Done, Usage, SinkFailed};
 ghost use Rattle.hpview_run.specs.Drawing.{Told, TellsFault};
 ghost use Rattle.hpview_run.specs.Statuses.{status_of};
-ghost use Rattle.hpview_run.specs.Words.{trace_refusal, usage_text};
+ghost use Rattle.hpview_run.specs.Words.{trace_refusal, usage_text, window_refusal};
 
 use crate::load::ViewFault;
 use crate::status::Status;
-use crate::text::{trace_refusal, usage};
+use crate::text::{trace_refusal, usage, window_refusal};
 use mass_text::LineBuf;
 use outside_traits::traits::Sink;
 use outside_traits::whole::write_all;
@@ -44,7 +44,7 @@ pub(crate) fn put_usage<O: Sink>(out: &mut O) -> Status
     Status::Usage
 }
 
-/// Prints what is wrong with the script or the trace. Prints nothing if the fault is another one.
+/// Prints what is wrong with the script, the trace or the window. Prints nothing if the fault is another one.
 pub(crate) fn put_fault<O: Sink>(fault: ViewFault, out: &mut O) -> Status
     ensures status { result ≡ status_of fault }
     ensures told { IsTrue (O.tells out.new) → TellsFault fault (O.taken out.old) (O.taken out.new) (O.faults out.old) (O.faults out.new) }
@@ -60,6 +60,10 @@ pub(crate) fn put_fault<O: Sink>(fault: ViewFault, out: &mut O) -> Status
         ViewFault::Trace { line, kind } => {
             put_line(&trace_refusal(line, kind), out);
             Status::Refused
+        }
+        ViewFault::Window { events } => {
+            put_line(&window_refusal(events), out);
+            Status::NoEvent
         }
     }
 }

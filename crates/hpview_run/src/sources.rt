@@ -1,7 +1,8 @@
 // Reads the script and the trace from outside.
-ghost use Rattle.std.specs.Prelude.{◌≡◌, ◌⊎◌, ℕ, ◌≤◌, IsTrue, List, IfOk, IfErr, IsErrOf};
+ghost use Rattle.std.specs.Prelude.{◌≡◌, ◌⊎◌, ℕ, ◌≤◌, Bool, IsTrue, List, IfOk, IfErr, IsErrOf};
 ghost use Rattle.outside_traits.specs.Causes.{Rose};
-ghost use Rattle.hpview_run.specs.Loading.{IsRead, Loads, RefusesScript, RefusesTrace};
+ghost use Rattle.hpview_run.specs.declared.words.Command.{Command};
+ghost use Rattle.hpview_run.specs.Loading.{IsRead, Loads, Refuses};
 
 use crate::load::{Loaded, ViewFault};
 use outside_traits::traits::Source;
@@ -20,8 +21,7 @@ pub(crate) fn load_script<S: Source>(alloc: Global, source: &mut S) -> Result<Lo
     ensures never_again { IsTrue (S.tells source.new) → IsTrue (S.tells source.old) }
     ensures loads { IfOk result (λ loaded. Loads loaded.text.items loaded.script) }
     ensures read { IfOk result (λ loaded. IsTrue (S.tells source.new) → S.left source.old ≡ loaded.text.items) }
-    ensures refused { IfErr result (λ fault. IsTrue (S.tells source.new) → RefusesScript fault (S.left source.old)) }
-    ensures no_trace { IfErr result (λ fault. (script trace : List ℕ) → RefusesTrace fault script trace) }
+    ensures refused { IfErr result (λ fault. (command : Command) (tells : Bool) (trace : List ℕ) → IsTrue (S.tells source.new) → Refuses command tells fault (S.left source.old) trace) }
     ensures later { S.faults source.old ≤ S.faults source.new }
     ensures failed { IsErrOf result ViewFault.Failed → Rose (S.faults source.old) (S.faults source.new) }
 {

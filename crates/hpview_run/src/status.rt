@@ -16,6 +16,8 @@ pub enum Status {
     SinkFailed,
     /// There was no memory.
     OutOfMemory,
+    /// The run has none of the events that the words name.
+    NoEvent,
 }
 
 impl Status {
@@ -30,6 +32,7 @@ impl Status {
             Status::SourceFailed => 4,
             Status::SinkFailed => 5,
             Status::OutOfMemory => 9,
+            Status::NoEvent => 10,
         }
     }
 }

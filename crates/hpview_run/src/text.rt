@@ -1,5 +1,5 @@
 ghost use Rattle.std.specs.Prelude.{◌≡◌, ◌≤◌, ◌+◌, ◌++◌, length};
-ghost use Rattle.hpview_run.specs.Words.{trace_refusal, usage_text, trace_word, trace_refused};
+ghost use Rattle.hpview_run.specs.Words.{trace_refusal, usage_text, trace_word, trace_refused, window_refusal, window_refused};
 
 use mass_text::{LineBuf, Radix, numeral_law};
 use trace_reader::TraceKind;
@@ -40,6 +40,28 @@ pub(crate) fn trace_refusal(line: u64, kind: TraceKind) -> LineBuf
     text.put_number(line, Radix::Decimal);
     text.put(" ");
     put_trace_kind(&mut text, kind);
+    text.put("\n");
+    text
+}
+
+/// The words with which the refusal of a window begins.
+#[tactic(auto, unfolding(crate::specs::Words::window_refused))]
+fn window_refused() -> LineBuf
+    ensures text { result ≡ window_refused }
+    ensures room { length result ≤ 20 }
+{
+    let mut text = LineBuf::new();
+    text.put("refused window ");
+    text
+}
+
+/// The text of the refusal of a window that holds no event of a run with so many events: `refused window E`.
+pub(crate) fn window_refusal(events: u64) -> LineBuf
+    ensures { result ≡ window_refusal events }
+{
+    numeral_law(Radix::Decimal);
+    let mut text = window_refused();
+    text.put_number(events, Radix::Decimal);
     text.put("\n");
     text
 }

@@ -19,7 +19,8 @@ pub enum Form {
     Events,
 }
 
-/// What the words of the command line ask for: a form, and the events `from` to `to`, counted from 1.
+/// What the words of the command line ask for: a form, and the events `from` to `to`, counted from 1. If the words name no events,
+/// `from` is 0, and the whole run is shown.
 #[derive(Clone, Copy, PartialEq, Eq)]
 pub struct Command {
     pub form: Form,
@@ -103,7 +104,7 @@ pub(crate) fn command_of(words: &[String]) -> Option<Command>
             let form = form_in(form.as_str())?;
             Some(Command {
                 form,
-                from: 1,
+                from: 0,
                 to: LAST,
             })
         }

@@ -1,6 +1,6 @@
 pub mod AttentionLaws
-pub mod FailLaws
 pub mod MapLaws
 pub mod RoomLaws
 pub mod WindowLaws
 pub mod WorkLaws
+pub use Rattle.drive_model.proofs.FailLaws

@@ -10,6 +10,8 @@ use Rattle.hardware_table.specs.Drive.{DriveState}
 use Rattle.hardware_table.specs.Events.{transfer_ended}
 use Rattle.hardware_table.specs.Moves.{after_move}
 use Rattle.hardware_table.specs.Adapter.{AdapterState, next_block, stepped, drive_stepped}
+use Rattle.hardware_table.specs.Noise.{Book}
+use Rattle.drive_model.specs.Move.{scene_at}
 
 -- what was lent stays lent
 pub lent_after : (was_read : Bool) (loan other : Loan) (k : ℕ) (block : List ℕ) (memory memory' : Memory)
@@ -27,6 +29,10 @@ pub shown : (loan : Loan) (k : ℕ) (bytes : List ℕ) (window : Window) → (me
     → window_bytes window ≡ bytes_in (span_of loan k) bytes
 shown loan k bytes window same on =
     ap (λ (span : Span). bytes_in span (memory_of window).bytes) on ∙ ap (λ (b : List ℕ). bytes_in (span_of loan k) b) same
+
+pub shown_scene : (book : Book) (loan : Loan) (k : ℕ) (bytes : List ℕ) (window : Window) → (memory_of window).bytes ≡ bytes → IsOn loan k window
+    → scene_at book window ≡ record { book = book; window = bytes_in (span_of loan k) bytes }
+shown_scene book loan k bytes window same on = ap (λ (shown : List ℕ). record { book = book; window = shown }) (shown loan k bytes window same on)
 
 -- no byte changes but those of the block
 pub memory_after : (was_read : Bool) (loan : Loan) (k : ℕ) (memory memory' : Memory) (old new : Window) → memory_of old ≡ memory → IsOn loan k old → memory_of new ≡ memory'

@@ -1,11 +1,11 @@
 -- A sector's move leaves the drive's transfer under way.
 use Rattle.std.proofs.Common.{◌≡◌, ℕ, Bool, true, refl, ap, ◌∙◌}
 use Rattle.pack_geometry.specs.declared.DriveKind.{DriveKind}
-use Rattle.pack_geometry.specs.declared.DriveKind.TheVariants.{Rp06, Rm03, Rm05}
+use Rattle.pack_geometry.specs.declared.DriveKind.TheVariants.{Rp06}
 use Rattle.hardware_table.specs.declared.FaultKind.{FaultKind}
-use Rattle.hardware_table.specs.declared.FaultKind.TheVariants.{Seek, Opi, Dte, Hcrc, Late}
+use Rattle.hardware_table.specs.declared.FaultKind.TheVariants.{Seek}
 use Rattle.hardware_table.specs.declared.Moved.{Moved}
-use Rattle.hardware_table.specs.declared.Moved.TheVariants.{Clean, Burst, Hard, Marked, Faulted, Offline}
+use Rattle.hardware_table.specs.declared.Moved.TheVariants.{Marked, Faulted}
 use Rattle.hardware_table.specs.declared.Work.TheVariants.{Transfer}
 use Rattle.hardware_table.specs.Drive.{DriveState, is_transferring}
 use Rattle.hardware_table.specs.Moves.{after_move, with_fault_bits, with_mark_bits}

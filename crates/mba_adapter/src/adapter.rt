@@ -1,7 +1,7 @@
 // An adapter: what it holds, and its acts.
-ghost use Rattle.std.specs.Prelude.{◌≡◌, ◌≤◌, ◌<◌, ◌+◌, ◌==◌, ℕ, true, false, if◌then◌else◌, slice_index};
+ghost use Rattle.std.specs.Prelude.{◌≡◌, ◌≤◌, ◌<◌, ◌+◌, ◌^◌, ◌==◌, ℕ, true, false, if◌then◌else◌, slice_index};
 ghost use Rattle.std.specs.Int.{bit_at};
-ghost use Rattle.hardware_table.specs.Adapter.{new_adapter, bytes_between, registers_used, loaded, IsLoaded, IsAdapter, started, completed, attention_raised, attention_lowered};
+ghost use Rattle.hardware_table.specs.Adapter.{new_adapter, next_block, bytes_between, registers_used, loaded, IsLoaded, IsAdapter, started, completed, attention_raised, attention_lowered};
 ghost use Rattle.mba_adapter.specs.Loaded.{loaded_buffer};
 
 mod steps;
@@ -111,11 +111,12 @@ impl Adapter {
         self.write
     }
 
-    /// How many sectors moved clean in the transfer that was started last. 0 before the first transfer.
-    pub fn moved(&self) -> u32
-        ensures { result ≡ self.now.moved }
+    /// The block of the pack that the next sector of the transfer is.
+    pub fn next_block(&self) -> u32
+        requires { next_block self.now < 2 ^ 32 }
+        ensures { result ≡ next_block self.now }
     {
-        self.moved
+        self.block + self.moved
     }
 
     /// The drives whose attention was raised and has not been cleared: bit k stands for drive k.

@@ -54,8 +54,8 @@ static ENDS: [End; 19] = [
         line: "tsv 6 9",
         script: b"unit 0 rp06\nread 1 0 c 0 1\n",
         trace: b"cmd 2 0 1 search 0 19\narrive 3 0 1\nattn 3 0 1\ncmd 3 0 1 rcom 0 1\nsector 3 0 1 0 clean\nintr 3 0 1\nend 3 0 1\n",
-        status: 0,
-        text: b"id\tunit\top\tcylinder\tline\tanswer\tqueued\tway\tready\ttransfer\n",
+        status: 10,
+        text: b"refused window 5\n",
     },
     End {
         line: "summary",

@@ -134,45 +134,17 @@ module _ (m : Memory) (slots : List (Option Slot)) (p : ℕ) (loan : Loan) (k : 
       if read then with_held p (with_block_in k (block_in (held_at (as_seen m' slots) p) k) (held_at (as_seen m slots) p)) (as_seen m slots)
       else as_seen m slots
 
-  sound_of : (read : Bool) → m' ≡ after read → IsMemory m'
+  pub sound_of : (read : Bool) → m' ≡ after read → IsMemory m'
   sound_of true reads = sound_written m slots p loan k kept at m' (bytes_in (span_of loan k) m'.bytes) (whole_read m slots p loan k kept at m' reads) reads
   sound_of false same = subst IsMemory (sym same) kept.sound
 
-  pub sound_step : {V E : Type 0} (r : Result V E) (read : V → Bool) → IfOk r (λ v. m' ≡ after (read v)) → OnErr r (m' ≡ m) → IsMemory m'
-  sound_step (Ok v) read moved failed = sound_of (read v) moved
-  sound_step (Err e) read moved failed = sound_of false failed
-
-  free_of : (read : Bool) → m' ≡ after read → m'.free ≡ m.free
+  pub free_of : (read : Bool) → m' ≡ after read → m'.free ≡ m.free
   free_of true is = ap (λ (x : Memory). x.free) is
   free_of false is = ap (λ (x : Memory). x.free) is
 
-  pub free_step : {V E : Type 0} (r : Result V E) (read : V → Bool) → IfOk r (λ v. m' ≡ after (read v)) → OnErr r (m' ≡ m) → m'.free ≡ m.free
-  free_step (Ok v) read moved failed = free_of (read v) moved
-  free_step (Err e) read moved failed = ap (λ (x : Memory). x.free) failed
-
-  shown_of : (read : Bool) → m' ≡ after read → IsMemory m' → m'.free ≡ m.free → as_seen m' slots ≡ shown read
+  pub shown_of : (read : Bool) → m' ≡ after read → IsMemory m' → m'.free ≡ m.free → as_seen m' slots ≡ shown read
   shown_of true reads sound free =
       seen_written m slots p loan k kept at m' (bytes_in (span_of loan k) m'.bytes) (whole_read m slots p loan k kept at m' reads) reads
       ∙ ap (λ (block : List ℕ). with_held p (with_block_in k block (held_at (as_seen m slots) p)) (as_seen m slots))
       (moved_block m' slots p loan k (kept-same_frames m m' slots kept free sound) at)
   shown_of false same sound free = ap (λ (memory : Memory). as_seen memory slots) same
-
-  pub shown_step : {V E : Type 0} (r : Result V E) (read : V → Bool) → IsMemory m' → m'.free ≡ m.free → IfOk r (λ v. m' ≡ after (read v)) → IfOk r (λ v. as_seen m' slots ≡ shown (read v))
-  shown_step (Ok v) read sound free moved = shown_of (read v) moved sound free
-  shown_step (Err e) read sound free moved = moved
-
--- what a step moved, said of the block of a slot
-pub moves_as : {E : Type 0} (r : Result Moved E) (unit block : ℕ) (drive : DriveState) (told : Bool) (book book_after : Book) (held held_after : ℕ → Pack)
-    {size size_seen : ℕ} {old old_block new new_block : List ℕ} → size ≡ size_seen → old ≡ old_block → new ≡ new_block
-    → IfOk r (λ v. MovesSector unit block drive size told (record { book = book; held = held; window = old }) (record { book = book_after; held = held_after; window = new }) v)
-    → IfOk r (λ v. MovesSector unit block drive size_seen told (record { book = book; held = held; window = old_block }) (record { book = book_after; held = held_after; window = new_block }) v)
-moves_as r unit block drive told book book_after held held_after {size} {size_seen} {old} {old_block} {new} {new_block} same before after moves =
-    subst (λ (n : ℕ). IfOk r (λ v. MovesSector unit block drive n told (record { book = book; held = held; window = old_block }) (record { book = book_after; held = held_after; window = new_block }) v)) same
-    (subst (λ (b : List ℕ). IfOk r (λ v. MovesSector unit block drive size told (record { book = book; held = held; window = b }) (record { book = book_after; held = held_after; window = new_block }) v)) before
-    (subst (λ (b : List ℕ). IfOk r (λ v. MovesSector unit block drive size told (record { book = book; held = held; window = old }) (record { book = book_after; held = held_after; window = b }) v)) after moves))
-
--- a failure leaves the slots as they were
-pub unchanged_step : {T E : Type 0} (A B D : Type 0) (a a' : A) (b b' : B) (d d' : D) (m m' : Memory) (slots : List (Option Slot)) {seen : List (Option Held)} (result : Result T E)
-    → as_seen m slots ≡ seen → OnErr result ((a' ≡ a) × (b' ≡ b) × (m' ≡ m) × (d' ≡ d)) → OnErr result ((as_seen m' slots ≡ seen) × (a' ≡ a) × (b' ≡ b) × (d' ≡ d))
-unchanged_step A B D a a' b b' d d' m m' slots (Ok v) view same = tt
-unchanged_step A B D a a' b b' d d' m m' slots (Err e) view same = (ap (λ (memory : Memory). as_seen memory slots) same.2 ∙ view, same.0, same.1, same.3)

@@ -6,7 +6,7 @@ use Rattle.script_reader.specs.Lines.{pieces_of, onto_first, without_cr}
 use Rattle.script_lines.specs.Words.{all_verbs}
 use Rattle.std.specs.Prelude.{Box}
 use Rattle.std.specs.Box.{box_value}
-use Rattle.std.specs.List.{All}
+use Rattle.std.proofs.lemmas.List.Elements.{All-cons, All-nil}
 use Rattle.script_lines.specs.declared.statement.Span.{Span}
 use Rattle.script_lines.specs.declared.statement.Statement.{Statement}
 use Rattle.script_lines.specs.declared.statement.Statement.TheVariants as says
@@ -34,17 +34,10 @@ unit_in text known (says.Lock u) r = below u r.1.0
 unit_in text known (says.Unlock u) r = below u r.1.0
 unit_in text known other r = tt
 
-pub all_cons : {X : Type 0} (P : X → Type 0) (x : X) (xs : List X) → P x → All P xs → All P (x ∷ xs)
-all_cons P x xs p ps zero d h = p
-all_cons P x xs p ps (suc k) d h = ps k d (omega (arith, h))
-
-pub all_none : {X : Type 0} (P : X → Type 0) → All P []
-all_none P k d h = absurd (omega (arith, h))
-
 pub well_units : (text : List ℕ) (known : Known) (lines : List Kept) → AreWell known (map (λ line. line.statement) (map (seen text) lines)) → HaveUnits lines
-well_units text known [] w = all_none HasUnitAt
+well_units text known [] w = All-nil HasUnitAt
 well_units text known (line ∷ lines) w =
-    all_cons HasUnitAt line lines (unit_in text known line.statement w.0.in_range)
+    All-cons HasUnitAt line lines (unit_in text known line.statement w.0.in_range)
     (well_units text (formed.learned known (renamed (digits_at text) box_value line.statement)) lines w.1)
 
 -- A TEXT has no more lines than bytes

@@ -15,6 +15,7 @@ pub mod OwnLines
 pub mod Running
 pub mod Named
 pub mod Shown
+pub mod Standing
 pub mod Starting
 pub mod Telling
 pub mod Turning

@@ -5,5 +5,6 @@ pub mod Events
 pub mod Notes
 pub mod Watched
 pub mod Answers
+pub mod Legal
 pub mod Views
 pub mod Captions

@@ -1,5 +1,5 @@
 -- THE SCRIPT AS IT IS PLAYED.
-use Rattle.std.specs.Prelude.{ℕ, ◌<◌, ◌+◌, ◌-◌, ◌==◌, if◌then◌else◌, true, false, List, [], ◌∷◌, ◌++◌, Option, Some, None, slice_index_or, codes}
+use Rattle.std.specs.Prelude.{ℕ, ◌<◌, ◌+◌, ◌-◌, ◌==◌, if◌then◌else◌, true, false, List, [], ◌∷◌, ◌++◌, Option, Some, None, IfSome, slice_index_or, codes}
 use Rattle.std.specs.List.{All, flat_map}
 use Rattle.drive_pictures.specs.declared.drives.Change.TheVariants as change
 use Rattle.drive_pictures.specs.declared.moments.Moment.TheVariants.{Played}
@@ -47,20 +47,7 @@ names_of says.Drain = None
 
 -- the drive is one of 32
 abbrev pub HasUnit : {D N : Type 0} → Statement D N → Type 0
-HasUnit (says.Unit u kind) = u < 32
-HasUnit (says.Read request) = request.unit < 32
-HasUnit (says.Write request content) = request.unit < 32
-HasUnit (says.Arrive u) = u < 32
-HasUnit (says.Turn u sector) = u < 32
-HasUnit (says.Move a) = Unit {0}
-HasUnit (says.Attend a) = Unit {0}
-HasUnit (says.Noise u block span n) = u < 32
-HasUnit (says.Fault u what times) = u < 32
-HasUnit (says.Offline u) = u < 32
-HasUnit (says.Online u) = u < 32
-HasUnit (says.Lock u) = u < 32
-HasUnit (says.Unlock u) = u < 32
-HasUnit says.Drain = Unit {0}
+HasUnit statement = IfSome (names_of statement) (λ u. u < 32)
 
 abbrev pub HasUnitAt : Kept → Type 0
 HasUnitAt line = HasUnit line.statement

@@ -39,12 +39,13 @@ abbrev pub played_text : List Said → ℕ → List ℕ
 played_text [] line = []
 played_text (play ∷ plays) line = if line_of play.moment == line then play.text else played_text plays line
 
--- IT SHOWS THE RUN of a script and of the lines that the bytes of its trace spell: of its own events those from one up to another;
+-- IT SHOWS THE RUN of a script and of the lines that the bytes of its trace spell: how many events it has, and of them those from one up to another;
 -- what is known behind its last line, and so the answers, where the run is legal; the lines that name a drive; and the texts of the
 -- lines at which columns begin.
 pub record Views (script : Stored) (trace : List ℕ) (first last : ℕ) (view : View) : Type 0 where
   pub lines : List TraceLine
   pub spells : Spells script trace lines
+  pub events : view.events ≡ events_of (run_of (plays_of script) lines)
   pub window : view.window ≡ window_of (events_of (run_of (plays_of script) lines)) first last
   pub run : view.run ≡ run_from (known_before script view.window) (map (λ said. said.moment) (run_of (plays_of script) lines))
   pub answers : HasAnswers script trace view.run.requests

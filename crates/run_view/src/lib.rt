@@ -4,7 +4,7 @@
 //! What is proved: `view_run`: the run is `run_from` over exactly the moments of the script and of the trace, the window is of the
 //! run's own events, the notes are the lines that name a drive, each in the column of its event, and the texts are those of the
 //! columns' lines; or a refusal names the first fault of the trace. If the trace is that of a legal run, each request that the run
-//! answers has its answer (`HasAnswers`). `caption_of`: what stands after `#` on the script's first line, without the blanks around it.
+//! answers has its answer (`HasAnswers`). The trace of a legal run is not refused (`legal_law`). `caption_of`: what stands after `#` on the script's first line, without the blanks around it.
 //!
 //! The lines of a run, one after another: those of its script as they are played, each before the lines of its trace, each with
 //! its text and the drive that it names.
@@ -24,5 +24,5 @@ mod watching;
 pub use caption::caption_of;
 pub use plays::{first_text, plays_of, script_law};
 pub use seen::{Seen, Watcher};
-pub use view::{View, view_run};
+pub use view::{View, legal_law, view_run};
 pub use watching::watch_run;

@@ -1,5 +1,6 @@
 // What a picture shows of a run.
 ghost use Rattle.std.specs.Prelude.{◌≡◌, ◌<◌, ◌^◌, ◌-◌, length, slice_index_or, map, fold, IfOk, IfErr};
+ghost use Rattle.run_view.specs.Legal.{ReadsLegal};
 ghost use Rattle.run_view.specs.Plays.{HasUnitAt, HaveUnits};
 ghost use Rattle.run_view.specs.Views.{declared_line, played_text, Views};
 ghost use Rattle.run_view.specs.Saids.{said_of};
@@ -13,13 +14,15 @@ use picture_sheet::Note;
 use run_picture::{Column, Run, Window};
 use script_reader::{Script, Statement, Stored};
 use std::alloc::{AllocError, Global};
-use trace_reader::{TraceFault, grammar_law};
+use trace_reader::{TraceFault, grammar_law, round_trip_law};
 
 /// What a picture shows of a run.
 #[derive(Drop)]
 pub struct View<'a> {
     /// The run, after its last line.
     pub run: Run,
+    /// How many events the run has.
+    pub events: u64,
     /// The events that are shown.
     pub window: Window,
     /// For each column, the text of the script's line at which the column begins; empty if that line is not played.
@@ -87,6 +90,13 @@ fn declare_all(script: &Script, watch: &mut Watch<'_>)
     }
 }
 
+/// The law of legal runs: the text of a legal run of a script is read as what the run tells, and so it is never refused.
+pub fn legal_law()
+    ensures { ReadsLegal }
+{
+    round_trip_law();
+}
+
 /// What a picture shows of the run of a script, whose text is given, and of its trace: the events from `first` up to `last`,
 /// counted from 0. The trace is refused exactly if its bytes spell no trace of the script; the refusal has the first fault.
 /// `Memory` says only that there was no memory. The call takes time in proportion to the script and the trace.
@@ -108,7 +118,8 @@ pub fn view_run<'a>(
     let plays = plays_of(alloc, script, text)?;
     let mut counter = Counter::new();
     watch_run(alloc, script, plays.as_slice(), trace, &mut counter)?;
-    let window = Window::new(counter.events(), first, last);
+    let events = counter.events();
+    let window = Window::new(events, first, last);
     let mut watch = Watch::new(alloc, window);
     declare_all(script, &mut watch);
     watch_run(alloc, script, plays.as_slice(), trace, &mut watch)?;
@@ -116,6 +127,7 @@ pub fn view_run<'a>(
     let texts = texts_of(alloc, plays.as_slice(), run.columns())?;
     Ok(View {
         run,
+        events,
         window,
         texts,
         notes,

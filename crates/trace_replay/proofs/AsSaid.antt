@@ -1,6 +1,6 @@
 -- What is said of a drive's condition alone changes it.
 use Rattle.std.proofs.Common.{◌≡◌, inl, inr, ℕ, ◌==◌, Bool, true, false, List, [], ◌∷◌, refl, sym, ap, ◌∙◌}
-use Rattle.std.specs.Prelude.{if◌then◌else◌}
+use Rattle.std.specs.Prelude.{if◌then◌else◌, unwrap_or}
 use Rattle.std.proofs.lemmas.Bool.Decides.{eqb_tells}
 use Rattle.pack_geometry.specs.declared.DriveKind.{DriveKind}
 use Rattle.pack_geometry.specs.declared.DriveKind.TheVariants.{Rp06, Rm03, Rm05}
@@ -12,7 +12,7 @@ use Rattle.hardware_table.specs.declared.Moved.{Moved}
 use Rattle.hardware_table.specs.declared.Moved.TheVariants as verdict
 use Rattle.hardware_table.specs.declared.Work.{Work}
 use Rattle.hardware_table.specs.declared.Work.TheVariants as work
-use Rattle.hardware_table.specs.Drive.{DriveState}
+use Rattle.hardware_table.specs.Drive.{DriveState, with_register, new_drive}
 use Rattle.hardware_table.specs.Adapter.{AdapterState, drive_stepped, stepped, next_block}
 use Rattle.hardware_table.specs.Events.{arrived_from, transfer_ended, turned, fault_armed, online_set, locked_set}
 use Rattle.hardware_table.specs.Functions.{performed, refusals, effect, refused}
@@ -21,19 +21,14 @@ use Rattle.trace_replay.specs.requests.Requests.{Request}
 use Rattle.trace_replay.specs.Script.{Input, Submit, ArriveAt, MoveAt, AttendTo, Drain, Turn, Noise, Arm, SetOnline, SetLocked}
 use Rattle.trace_replay.specs.Moments.{Deed, Search, Seek, Recal, Offset, Centre, Clear, Pack, Transfer, Arrive, Sector, Moment, Played, Told, Idle}
 use Rattle.hardware_table.specs.declared.Register.TheVariants as register
-use Rattle.hardware_table.specs.Drive.{with_register}
 use Rattle.pack_geometry.specs.Geometry.{place_at}
 use Rattle.trace_replay.specs.Drives.{drive_after, drive_played, addressed, search_place, offset_written}
 use Rattle.pack_geometry.specs.declared.Place.{Place}
 use Rattle.trace_replay.specs.Service.{in_hand, target_of}
-use Rattle.trace_replay.specs.Events.{Wish, Refusal}
+use Rattle.trace_replay.specs.Events.{Wish, Refusal, Event}
 use Rattle.trace_replay.specs.Replay.{Replay, new_replay, next_wish, at_unit, after_moment, after_moments, unit_after, told_after, replay_told, Submission, Refused, Joined, submission, submitted, replay_played}
 use Rattle.trace_replay.proofs.Unchanged.{drained_keeps}
-use Rattle.trace_replay.specs.Events.{Event}
 use Rattle.trace_replay.specs.Conditions.{online_said, locked_said, online_behind, locked_behind, IsAsSaid}
-use Rattle.trace_replay.proofs.Unchanged.{drained_keeps}
-use Rattle.hardware_table.specs.Drive.{new_drive}
-use Rattle.std.specs.Prelude.{unwrap_or}
 
 -- ---- online
 online_of_either : (b : Bool) (x y : DriveState) (c : Bool) → x.online ≡ c → y.online ≡ c → (if b then x else y).online ≡ c

@@ -15,8 +15,7 @@ use Rattle.trace_replay.specs.Schedule.{offset_after, recalibrates_after}
 use Rattle.trace_replay.specs.declared.retry_offsets.Step.TheVariants as retry
 use Rattle.trace_replay.specs.requests.Requests.{Request, Answer, ReadOk, WriteOk, Failed, Cause, Offline, Locked, Unforwarded, Fault}
 use Rattle.trace_replay.specs.Moments.{Deed, Search, Seek, Recal, Offset, Centre, Clear, Pack, Transfer, Arrive, Sector, Intr, Try, Attn, End}
-use Rattle.trace_replay.specs.Conversation.{Positioning, SearchFor, Recalibrate, SeekTo, OffsetBy, Segment, OwnBlocks, Replacement, Hand, is_write, start_of, length_of, transfer_of, command_of, needs_unlocked, guarded, due, entry_of}
-use Rattle.trace_replay.specs.Conversation.{Stage, Waiting, Steps, UnderWay, AtOnce, Moving, Saying, Ending, saying, retried, failed, forwarded, marked, continued, ok_answer, interrupted_by, stage_after, is_under_way, is_clean, last_of, sector_may, intr_may, progress_tried, progress_interrupted}
+use Rattle.trace_replay.specs.Conversation.{Positioning, SearchFor, Recalibrate, SeekTo, OffsetBy, Segment, OwnBlocks, Replacement, Hand, is_write, start_of, length_of, transfer_of, command_of, needs_unlocked, guarded, due, entry_of, Stage, Waiting, Steps, UnderWay, AtOnce, Moving, Saying, Ending, saying, retried, failed, forwarded, marked, continued, ok_answer, interrupted_by, stage_after, is_under_way, is_clean, last_of, sector_may, intr_may, progress_tried, progress_interrupted}
 use Rattle.trace_replay.specs.History.{moved_by, done_in, Tried, Untried, TriedAt, last_tried, marks_in, last_try, fails, AreFailures}
 
 -- a sector of this block was met marked

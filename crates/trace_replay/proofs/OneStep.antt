@@ -11,8 +11,7 @@ use Rattle.hardware_table.specs.Drive.{DriveState, is_writing}
 use Rattle.hardware_table.specs.Adapter.{AdapterState}
 use Rattle.hardware_table.specs.Moves.{stop_of, IsVerdict, IsVerdictBy, IsReadVerdict}
 use Rattle.trace_replay.specs.requests.Requests.{Rejection}
-use Rattle.trace_replay.specs.Moments.{Deed, Search, Arrive, Sector, Intr, Attn}
-use Rattle.trace_replay.specs.Moments.{Played, Told, Idle}
+use Rattle.trace_replay.specs.Moments.{Deed, Search, Arrive, Sector, Intr, Attn, Played, Told, Idle}
 use Rattle.trace_replay.specs.Adapters.{AdapterMay}
 use Rattle.trace_replay.specs.Packs.{Surface, VerdictMay, flips_at}
 use Rattle.trace_replay.specs.Conversation.{Hand, Stage, TalkMay, due}

@@ -1,11 +1,9 @@
 -- For one script and packs there is at most one legal trace.
 use Rattle.std.proofs.Common.{◌≡◌, ℕ, List, [], ◌∷◌, Option, None, Some, drop, refl, sym, ap, ◌∙◌, subst, arith}
-use Rattle.trace_replay.specs.Moments.{Moment, Played, Told, Idle}
-use Rattle.trace_replay.specs.Moments.{played}
+use Rattle.trace_replay.specs.Moments.{Moment, Played, Told, Idle, played, answers_in}
 use Rattle.trace_replay.specs.Replay.{Replay, MayCome, after_moment, after_moments, Follows, IsOver, AreLeft}
 use Rattle.pack_geometry.specs.declared.DriveKind.{DriveKind}
 use Rattle.trace_replay.specs.Script.{Numbered, drives_of}
-use Rattle.trace_replay.specs.Moments.{answers_in}
 use Rattle.trace_replay.specs.Text.{trace_text}
 use Rattle.trace_replay.specs.Runs.{start_of, OneRun, OneText, OnePacks, AreSameAt}
 use Rattle.trace_replay.specs.Single.{AgreeOnInput, OneTrace}

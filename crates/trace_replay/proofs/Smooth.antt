@@ -21,17 +21,14 @@ use Rattle.trace_replay.specs.Packs.{Surface}
 use Rattle.trace_replay.specs.Service.{cylinder_of, first_waiting, head_of, in_hand, request_or_none, service_after, target_of}
 use Rattle.trace_replay.specs.Events.{Wish, Refusal}
 use Rattle.trace_replay.specs.Replay.{Replay, UnitSeen, new_replay, next_wish, hand_of, at_unit, LineMay, ToldMay, Follows, after_moment, after_moments, unit_after, bytes_of, told_after, replay_told, Submission, Refused, Joined, submission, submitted, stage_joined, unit_joined, replay_played}
-use Rattle.trace_replay.specs.Causes.{AskSome}
-use Rattle.trace_replay.proofs.Histories.{Fits, AreSaid, guard_holds, or_zero}
+use Rattle.trace_replay.specs.Causes.{AskSome, IsOk}
+use Rattle.trace_replay.proofs.Histories.{Fits, AreSaid, guard_holds, or_zero, said_onto, MoveFits, Open, interrupted}
 use Rattle.trace_replay.proofs.Unchanged.{drained_keeps}
 use Rattle.trace_replay.specs.Bounds.{transfer_by, transfers_in, search_by, searches_in, IsCleanLine, AreClean, OneTransfer}
-use Rattle.trace_replay.proofs.Histories.{AreSaid, said_onto, Fits, MoveFits, Open, guard_holds, interrupted}
 use Rattle.trace_replay.proofs.Kept.{UnitFits, UnitTold, HandOver, AllFit, told_all, played_all, after_kind, played_kind, end_kept, head_stays, refused_is, moments_all, no, starts}
 use Rattle.trace_replay.proofs.Following.{follow_on}
-use Rattle.trace_replay.proofs.Unchanged.{drained_keeps}
 use Rattle.pack_geometry.specs.Geometry.{sectors_of}
 use Rattle.trace_replay.specs.Seek.{sector_before}
-use Rattle.trace_replay.specs.Causes.{IsOk, AskSome}
 
 -- a segment of the request's own blocks
 abbrev pub IsOwn : Segment → Type 0

@@ -1,6 +1,6 @@
 -- A request ends unforwarded only where its first block not done has no home.
 use Rattle.std.proofs.Common.{◌≡◌, ◌⊎◌, inl, inr, ℕ, ◌==◌, Bool, true, false, List, [], ◌∷◌, Option, None, Some, refl, sym, ap, ◌∙◌, subst, arith, ◌+◌, nat_lt}
-use Rattle.std.specs.Prelude.{if◌then◌else◌}
+use Rattle.std.specs.Prelude.{if◌then◌else◌, option_map, unwrap_or}
 use Rattle.std.proofs.lemmas.Option.{same_Some, none-some}
 use Rattle.std.proofs.lemmas.Bool.Decides.{eqb_tells}
 use Rattle.pack_geometry.specs.declared.DriveKind.{DriveKind}
@@ -10,42 +10,28 @@ use Rattle.drive_registers.specs.declared.Function.TheVariants as function
 use Rattle.hardware_table.specs.declared.FaultKind.{FaultKind}
 use Rattle.hardware_table.specs.declared.Moved.{Moved}
 use Rattle.hardware_table.specs.declared.Moved.TheVariants as verdict
-use Rattle.hardware_table.specs.Drive.{DriveState}
+use Rattle.hardware_table.specs.Drive.{DriveState, is_writing, new_drive}
 use Rattle.hardware_table.specs.Functions.{performed}
-use Rattle.trace_replay.specs.requests.Requests.{Request, Failed, Unforwarded, Rejection, rejection_answer}
+use Rattle.trace_replay.specs.requests.Requests.{Request, Failed, Unforwarded, Rejection, rejection_answer, first_block}
 use Rattle.trace_replay.specs.Script.{Input, Submit, ArriveAt, MoveAt, AttendTo, Drain}
 use Rattle.trace_replay.specs.Moments.{Deed, Search, Seek, Recal, Offset, Centre, Clear, Pack, Transfer, Arrive, Sector, Intr, Try, Attn, End, Moment, Played, Told, Idle}
 use Rattle.trace_replay.specs.Service.{in_hand, target_of}
 use Rattle.trace_replay.specs.Conversation.{Hand, OwnBlocks, entry_of, start_of}
-use Rattle.trace_replay.specs.Events.{Wish, Refusal}
+use Rattle.trace_replay.specs.Events.{Wish, Refusal, Event}
 use Rattle.trace_replay.specs.Replay.{Replay, new_replay, next_wish, hand_of, at_unit, LineMay, ToldMay, Follows, after_moment, after_moments, unit_after, told_after, replay_told, Submission, Refused, Joined, submission, submitted, replay_played}
 use Rattle.trace_replay.specs.History.{is_refusal, with_deed, lines_after, lines_behind, marks_in}
 use Rattle.trace_replay.proofs.Histories.{IsListed, EndsFailed, WasMarked}
-use Rattle.trace_replay.proofs.Unchanged.{drained_keeps}
+use Rattle.trace_replay.proofs.Unchanged.{drained_keeps, surface_marks}
 use Rattle.trace_replay.proofs.Following.{follow_on}
-use Rattle.trace_replay.proofs.Kept.{moments_all, starts, refused_is}
-use Rattle.std.specs.Prelude.{option_map, unwrap_or}
-use Rattle.std.proofs.lemmas.Bool.Decides.{eqb_tells}
-use Rattle.pack_geometry.specs.declared.DriveKind.TheVariants.{Rp06}
+use Rattle.trace_replay.proofs.Kept.{moments_all, starts, refused_is, after_kind, played_kind, performed_kind}
 use Rattle.pack_geometry.specs.Geometry.{limit_of}
 use Rattle.pack_geometry.specs.Pack as model
 use Rattle.pack_geometry.specs.Homes.{home_of, replacement_home}
 use Rattle.drive_registers.specs.declared.Function.TheVariants as function
-use Rattle.hardware_table.specs.declared.FaultKind.{FaultKind}
-use Rattle.hardware_table.specs.Drive.{is_writing, new_drive}
-use Rattle.hardware_table.specs.Functions.{performed}
 use Rattle.hardware_table.specs.Moves.{stop_of, first_armed, IsVerdict, IsVerdictBy, IsReadVerdict}
 use Rattle.trace_replay.specs.Drives.{attached}
-use Rattle.trace_replay.specs.Script.{Input, Submit, ArriveAt, MoveAt, AttendTo, Drain}
 use Rattle.trace_replay.specs.Packs.{VerdictMay, flips_at, surface_of}
-use Rattle.trace_replay.specs.Service.{in_hand, target_of}
-use Rattle.trace_replay.specs.Replay.{at_unit, replay_told, told_after, unit_after, LineMay, submission, submitted, Submission, Refused, Joined, replay_played}
-use Rattle.trace_replay.specs.requests.Requests.{first_block, rejection_answer}
-use Rattle.trace_replay.specs.History.{with_deed, lines_after}
 use Rattle.trace_replay.specs.Causes.{AreUnusable}
-use Rattle.trace_replay.specs.Events.{Event}
-use Rattle.trace_replay.proofs.Unchanged.{drained_keeps, surface_marks}
-use Rattle.trace_replay.proofs.Kept.{after_kind, played_kind, performed_kind}
 use Rattle.trace_replay.proofs.Explained.{told_ends}
 
 -- ---- a verdict mark is of a marked sector

@@ -16,8 +16,7 @@ use Rattle.trace_replay.specs.Seek.{distance, is_near, sector_before}
 use Rattle.trace_replay.specs.Schedule.{step_after}
 use Rattle.trace_replay.specs.declared.retry_offsets.Step.{Step}
 use Rattle.trace_replay.specs.declared.retry_offsets.Step.TheVariants as retry
-use Rattle.trace_replay.specs.requests.Requests.{Request, first_block, Offline, Locked, Unforwarded, Fault}
-use Rattle.trace_replay.specs.requests.Requests.{Answer, ReadOk, WriteOk, Failed}
+use Rattle.trace_replay.specs.requests.Requests.{Request, first_block, Offline, Locked, Unforwarded, Fault, Answer, ReadOk, WriteOk, Failed}
 use Rattle.trace_replay.specs.Moments.{Deed, Search, Seek, Recal, Offset, Centre, Clear, Pack, Transfer, Arrive, Sector, Intr, Try, Attn, End}
 use Rattle.trace_replay.specs.Packs.{repaired_from}
 use Rattle.trace_replay.specs.Service.{target_of}

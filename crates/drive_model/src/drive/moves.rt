@@ -1,14 +1,14 @@
 // The move of one sector between the pack and the memory.
-ghost use Rattle.std.specs.Prelude.{◌≡◌, ◌<◌, ◌+◌, ◌%◌, ℕ, List, true, MatchBool, IfOk, IsOk, OnErr, Some, IsSome, bit_or};
+ghost use Rattle.std.specs.Prelude.{◌≡◌, ◌<◌, ◌+◌, ◌%◌, ℕ, List, true, MatchBool, Some, bit_or};
 ghost use Rattle.pack_geometry.specs.Geometry.{block_count, sectors_of, place_at, track_and_sector};
 ghost use Rattle.hardware_table.specs.Events.{look_ahead};
 ghost use Rattle.hardware_table.specs.Drive.{is_transferring, is_writing};
 ghost use Rattle.main_memory.specs.Windows.{memory_name, window_len, window_bytes, Writes};
 ghost use Rattle.hardware_table.specs.Functions.{refused};
 ghost use Rattle.hardware_table.specs.Noise.{strikes, book_struck};
-ghost use Rattle.hardware_table.specs.Moves.{stop_of, IsReadVerdict, was_read, IsReadAs, passed, fault_used, with_fault_bits, with_mark_bits, after_move};
+ghost use Rattle.hardware_table.specs.Moves.{stop_of, IsReadVerdict, IsReadAs, passed, fault_used, with_fault_bits, with_mark_bits, after_move};
 ghost use Rattle.hardware_table.specs.declared.Moved.TheVariants.{Burst, Hard};
-ghost use Rattle.drive_model.specs.Move.{MovesSector, FailsAtPacks};
+ghost use Rattle.drive_model.specs.Move.{TriesSector, scene_at, drive_after, has_read};
 ghost use Rattle.fire_code.specs.Remainder.{remainder};
 ghost use Rattle.fire_code.specs.Verdict.{Judges};
 
@@ -231,24 +231,13 @@ impl Drive {
         requires transfer { is_transferring self.old.work ≡ true }
         requires block { block < block_count self.old.kind }
 
-        // The verdict, the registers that it leaves, and the bytes that moved.
-        ensures moves { IfOk result (λ v. MovesSector unit block self.old (window_len window.old) (P.tells packs.new)
-            (record { book = book.old; held = P.held packs.old; window = window_bytes window.old })
-            (record { book = book.new; held = P.held packs.new; window = window_bytes window.new }) v) }
-        ensures drive { IfOk result (λ v. self.new ≡ after_move v block self.old) }
+        ensures tries { TriesSector P.tells P.held P.faults packs.old packs.new unit block self.old (window_len window.old)
+            (scene_at book.old window.old) (scene_at book.new window.new) result }
+        ensures drive { self.new ≡ drive_after result block self.old }
 
         // Nothing is written to memory except the window of a read.
-        ensures window { IfOk result (λ v. MatchBool (was_read self.old v)
-            (Writes window.old window.new (window_bytes window.new)) (window.new ≡ window.old)) }
+        ensures window { MatchBool (has_read self.old result) (Writes window.old window.new (window_bytes window.new)) (window.new ≡ window.old) }
         ensures same_memory { memory_name window.new ≡ memory_name window.old }
-
-        // A drive that is stopped asks the packs for nothing.
-        ensures stopped { IsSome (stop_of self.old) → IsOk result × (packs.new ≡ packs.old) }
-
-        // A failure.
-        ensures unchanged { OnErr result ((self.new ≡ self.old) × (book.new ≡ book.old) × (window.new ≡ window.old)) }
-        ensures failure { FailsAtPacks P.tells P.held P.faults packs.old packs.new unit block self.old
-            (record { book = book.old; held = P.held packs.old; window = window_bytes window.old }) result }
     {
         if let Some(verdict) = self.stop() {
             self.take(verdict, block);

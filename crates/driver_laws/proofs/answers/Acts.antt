@@ -1,5 +1,5 @@
 -- Each act adds to the counts what it brings.
-use Rattle.std.proofs.Common.{◌≡◌, ℕ, ◌+◌, ◌*◌, ◌≤◌, [], ◌∷◌, refl, arith, ◌∙◌}
+use Rattle.std.proofs.Common.{◌≡◌, ℕ, ◌+◌, ◌*◌, ◌≤◌, [], ◌∷◌, refl, arith, ◌∙◌, rules}
 use Rattle.std.specs.Prelude.{slice_set}
 use Rattle.hardware_table.specs.Events.{turned, fault_armed, online_set, locked_set}
 use Rattle.trace_replay.specs.Script as script
@@ -99,14 +99,7 @@ within_more r n f requests noises faults w more_requests more_noises more_faults
 
 added : (r n f requests noises faults : ℕ) (w now : World) → IsWithin r n f w → Adds requests noises faults w now
     → IsWithin (r + requests) (n + noises) (f + faults) now
-added r n f requests noises faults w now within adds = record {
-  requests = omega (arith, within.requests, adds.requests);
-  noises = omega (arith, within.noises, adds.noises);
-  faults = λ u kind. by _ _ (within.faults u kind) ((adds.faults u).times kind);
-}
-  where
-    by : (old new : ℕ) → old ≤ 1000 * f → new ≤ old + 1000 * faults → new ≤ 1000 * (f + faults)
-    by old new few more = omega (arith, few, more)
+added r n f requests noises faults w now within adds = first_of (search rules, grind arith)
 
 pub acts_add : ActsAdd
 acts_add requests noises faults w act allowed within =
@@ -142,9 +135,7 @@ changed_capacity (script.SetLocked u on) w = refl
 changed_capacity input w = refl
 
 act_capacity : (w : World) (act : Act) → (after w act).book.capacity ≡ w.book.capacity
-act_capacity w (Of line u id d) = (deed_arms_none line u (slot_in_hand (unit_at w u)) d (scene_of w u)).capacity
-act_capacity w (Change input) = changed_capacity input w
-act_capacity w other = refl
+act_capacity w act = first_of (search rules, grind arith)
 
 pub capacity_stays : CapacityStays
 capacity_stays w [] = refl

@@ -1,5 +1,5 @@
 -- The faults that are armed at a drive: no deed arms one, and a line of the script arms one for at most 1,000 times.
-use Rattle.std.proofs.Common.{◌≡◌, ℕ, ◌+◌, ◌-◌, ◌≤◌, Bool, true, false, refl, sym, ap, subst, arith}
+use Rattle.std.proofs.Common.{◌≡◌, ℕ, ◌+◌, ◌-◌, ◌≤◌, Bool, true, false, refl, sym, ap, subst, arith, rules}
 use Rattle.std.specs.Prelude.{if◌then◌else◌, ◌==◌}
 use Rattle.pack_geometry.specs.declared.DriveKind.{DriveKind}
 use Rattle.pack_geometry.specs.declared.DriveKind.TheVariants.{Rp06}
@@ -32,10 +32,7 @@ pub record IsArmedBy (more : ℕ) (old new : Armed) : Type 0 where
   pub times : (kind : FaultKind) → times_armed kind new ≤ times_armed kind old + more
 
 pub no_more : (old new : Armed) → new ≡ old → IsArmedBy 0 old new
-no_more old new is = record { times = λ kind. least (times_armed kind new) (times_armed kind old) (ap (times_armed kind) is) }
-  where
-    least : (n m : ℕ) → n ≡ m → n ≤ m + 0
-    least n m e = omega (arith, e)
+no_more old new is = first_of (search rules, grind arith)
 
 -- one fault is put to at most so many times more, and no other
 put_few : (kind other : FaultKind) (n more : ℕ) (a : Armed) → n ≤ times_armed kind a + more
@@ -67,9 +64,7 @@ either P true x y holds fails = holds
 either P false x y holds fails = fails
 
 performed_armed : (f : Function) (d : DriveState) → (performed f d).armed ≡ d.armed
-performed_armed f d =
-    either (λ (e : DriveState). e.armed ≡ d.armed) (refusals f d == 0) (effect f (record d { cs1 = function_code f }))
-    (refused (refusals f d) (record d { cs1 = function_code f })) (effect_armed f (record d { cs1 = function_code f })) refl
+performed_armed f d = first_of (search rules, grind arith)
 
 arrived_armed : (w : Work) (d : DriveState) → (arrived_from w d).armed ≡ d.armed
 arrived_armed work.Ready d = refl
@@ -85,14 +80,10 @@ fault_bits_armed other d = refl
 
 -- a fault that strikes is used
 faulted_armed : (kind : FaultKind) (d : DriveState) → IsArmedBy 0 d.armed (with_fault_bits kind (fault_used kind d)).armed
-faulted_armed kind d =
-    subst (IsArmedBy 0 d.armed) (sym (fault_bits_armed kind (fault_used kind d)))
-    (put_armed kind (times_armed kind d.armed - 1) 0 d.armed (omega arith))
+faulted_armed kind d = first_of (search rules, grind arith)
 
 moved_armed : (v : Moved) (block : ℕ) (d : DriveState) → IsArmedBy 0 d.armed (after_move v block d).armed
-moved_armed verdict.Marked block d = no_more _ _ (marked_armed d.kind d)
-moved_armed (verdict.Faulted kind) block d = faulted_armed kind d
-moved_armed other block d = no_more _ _ refl
+moved_armed v block d = first_of (search rules, grind arith)
 
 stepped_armed : (v : Moved) (a : AdapterState) (d : DriveState) → IsArmedBy 0 d.armed (drive_stepped v a d).armed
 stepped_armed v a d =
@@ -100,9 +91,7 @@ stepped_armed v a d =
     (after_move v (next_block a) d) (moved_armed v (next_block a) d) (moved_armed v (next_block a) d)
 
 stepping_armed : (s : RetryStep) (d : DriveState) → (stepping s d).armed ≡ d.armed
-stepping_armed step.Recalibrate d = performed_armed function.Recal d
-stepping_armed (step.Seek cylinder) d = performed_armed function.Seek (with_register register.Dc cylinder d)
-stepping_armed (step.Offset code) d = performed_armed function.Offset (offset_written (offset_code code) d)
+stepping_armed s d = first_of (search rules, grind arith)
 
 pub online_armed : (on : Bool) (d : DriveState) → (online_set on d).armed ≡ d.armed
 online_armed true d = refl
@@ -115,11 +104,7 @@ pub record ArmsNone (old new : Scene) : Type 0 where
   pub capacity : new.book.capacity ≡ old.book.capacity
 
 drive_only : (s new : Scene) → new.unit.drive.armed ≡ s.unit.drive.armed → new.book ≡ s.book → ArmsNone s new
-drive_only s new armed book = record {
-  faults = no_more s.unit.drive.armed new.unit.drive.armed armed;
-  noises = ap (λ (b : Book). b.armed) book;
-  capacity = ap (λ (b : Book). b.capacity) book;
-}
+drive_only s new armed book = first_of (search rules, grind arith)
 
 pub deed_arms_none : (line u p : ℕ) (d : Deed) (s : Scene) → ArmsNone s (deed.effect line u p d s)
 deed_arms_none line u p deed.Arrive s = drive_only s _ (arrived_armed s.unit.drive.work s.unit.drive) refl

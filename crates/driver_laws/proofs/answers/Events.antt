@@ -1,5 +1,5 @@
 -- The acts of an event ask for nothing and change no condition, but for the one act of an input that does.
-use Rattle.std.proofs.Common.{◌≡◌, ℕ, zero, suc, ◌+◌, Bool, true, false, List, [], ◌∷◌, ◌++◌, length, Option, Some, None, refl, arith}
+use Rattle.std.proofs.Common.{◌≡◌, ℕ, zero, suc, ◌+◌, Bool, true, false, List, [], ◌∷◌, ◌++◌, length, Option, Some, None, refl, arith, rules}
 use Rattle.hardware_table.specs.Adapter.{next_block}
 use Rattle.disksort.specs.declared.Waiter.{Waiter}
 use Rattle.trace_replay.specs.requests.Requests.{Request}
@@ -31,10 +31,7 @@ none : BringNothing []
 none = record { requests = refl; noises = refl; faults = refl }
 
 one_more : (act : Act) (acts : List Act) → BringsNothing act → BringNothing acts → BringNothing (act ∷ acts)
-one_more (Submit line p h) acts is rest = absurd is
-one_more (Change input) acts is rest = absurd is
-one_more other acts is rest =
-    record { requests = omega (arith, rest.requests); noises = omega (arith, rest.noises); faults = omega (arith, rest.faults) }
+one_more act acts h0 h1 = first_of (search rules, grind arith)
 
 -- each act of a list brings nothing
 abbrev AreBare : List Act → Type 0
@@ -129,10 +126,7 @@ arrive_bare : (line u : ℕ) (w : World) → AreBare (arrive_acts line u w)
 arrive_bare line u w = or_nothing_bare (can_arrive (unit_at w u)) line (in_hand line u deed.Arrive) w (in_hand_bare line u deed.Arrive)
 
 move_bare : (line a : ℕ) (tried : Tried) (w : World) → AreBare (move_acts line a tried w)
-move_bare line a tried w =
-    or_nothing_bare (can_move (adapter_at w a)) line
-    (in_hand line (unit_of w a) (deed.Sector (next_block (adapter_at w a).state) tried)) w
-    (in_hand_bare line (unit_of w a) (deed.Sector (next_block (adapter_at w a).state) tried))
+move_bare line a tried w = first_of (search rules, grind arith)
 
 attend_bare : (line a : ℕ) (w : World) → AreBare (attend_acts line a w)
 attend_bare line a w = or_nothing_bare (can_attend (adapter_at w a)) line (attended line a) w (attended_bare line a)

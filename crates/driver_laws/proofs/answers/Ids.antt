@@ -1,5 +1,5 @@
 -- Each request that stands in a slot has an id that was asked for.
-use Rattle.std.proofs.Common.{◌≡◌, inl, inr, ℕ, zero, suc, ◌<◌, ◌≤◌, List, [], ◌∷◌, length, length-set, replicate, get_or-set_same, get_or-set_other, Option, Some, None, refl, sym, ap, ◌∙◌, subst}
+use Rattle.std.proofs.Common.{◌≡◌, inl, inr, ℕ, zero, suc, ◌<◌, ◌≤◌, List, [], ◌∷◌, length, length-set, replicate, get_or-set_same, get_or-set_other, Option, Some, None, refl, sym, ap, ◌∙◌, subst, arith, rules}
 use Rattle.std.specs.Prelude.{Contains, slice_index_or, slice_set, unwrap_or}
 use Rattle.std.specs.Option.{option_map_or}
 use Rattle.std.proofs.lemmas.Bool.{cases_eq, cases_lt}
@@ -15,8 +15,8 @@ use Rattle.driver_machine.specs.Guards.{InHand, Allowed, MayChange}
 use Rattle.driver_machine.proofs.Frame.{effect_same}
 use Rattle.driver_machine.specs.Runs.{Run, Works}
 use Rattle.driver_laws.proofs.invariant.Calls.{submit_works, event_works}
-use Rattle.driver_laws.proofs.invariant.Passes.{Contains-first, Contains-later}
-use Rattle.driver_laws.proofs.invariant.Passes.{slot_there}
+use Rattle.driver_laws.proofs.invariant.SlotsLists.{Contains-first, Contains-later}
+use Rattle.driver_laws.proofs.invariant.Hand.{slot_there}
 use Rattle.driver_laws.proofs.invariant.Sound.{sound_after}
 use Rattle.driver_laws.specs.answers.Ids.{AreOf, ids_with, StartsOfNone, ActsAdd, RunsAdd, EventsAddNone, SubmissionsAdd, TakingAddsNone, NoOthers, OthersAreFresh}
 use Rattle.driver_laws.proofs.answers.Parts.{AreAll, Holds, all_submitted, all_of_event}
@@ -24,13 +24,7 @@ use Rattle.driver_laws.proofs.answers.Parts.{AreAll, Holds, all_submitted, all_o
 -- A SLOT that was set has what was put there; and one that was freed, nothing.
 set_has : (slots : List (Option Held)) (p q : ℕ) (new g : Held) → p < length slots → slice_index_or (slice_set slots p (Some new)) q None ≡ Some g
     → (ids : List ℕ) → Contains ids new.id → ((f : Held) → slice_index_or slots q None ≡ Some f → Contains ids f.id) → Contains ids g.id
-set_has slots p q new g less e ids here there = elim (cases_eq q p) [
-  | inl same ↦
-      let is : new ≡ g = same_Some new g (sym (get_or-set_same slots p (Some new) None less)
-      ∙ subst (λ (r : ℕ). slice_index_or (slice_set slots p (Some new)) r None ≡ Some g) same e) in
-      subst (λ (h : Held). Contains ids h.id) is here
-  | inr other ↦ there g (sym (get_or-set_other slots p q (Some new) None other) ∙ e)
-]
+set_has slots p q new g less e ids here there = first_of (search rules, grind arith)
 
 none_there : (slots : List (Option Held)) (p : ℕ) → slice_index_or (slice_set slots p None) p None ≡ None
 none_there slots p = elim (cases_lt p (length slots)) [

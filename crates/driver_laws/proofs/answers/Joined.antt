@@ -1,5 +1,5 @@
 -- Lists of acts, and outcomes, one behind the other.
-use Rattle.std.proofs.Common.{◌≡◌, ℕ, List, [], ◌∷◌, ◌++◌, Option, None, Some, refl, sym, ap, subst, ◌∙◌}
+use Rattle.std.proofs.Common.{◌≡◌, ℕ, List, [], ◌∷◌, ◌++◌, Option, None, Some, refl, sym, ap, subst, ◌∙◌, arith, rules}
 use Rattle.std.proofs.lemmas.List.{append_assoc, append-nil}
 use Rattle.pack_geometry.specs.Pack.{Pack}
 use Rattle.trace_replay.specs.Moments.{Moment}
@@ -117,8 +117,4 @@ stopped_before told first next old new Sink is = record {
 stopped_before told first next old new Store is = is
 
 pub nothing_done : (told : Told) (s : Site) → Does told [] s s
-nothing_done told s = record {
-  does = record { run = tt; world = refl; reads = λ tells. tt; packs = λ tells. refl };
-  text = λ tells. sym (append-nil s.text);
-  sent = λ tells. front_same s.sent;
-}
+nothing_done told s = first_of (search rules, grind arith)

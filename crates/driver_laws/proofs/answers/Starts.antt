@@ -1,5 +1,5 @@
 -- At the start no slot has a request, and nothing is armed.
-use Rattle.std.proofs.Common.{◌≡◌, ℕ, zero, suc, ◌*◌, ◌≤◌, List, [], ◌∷◌, set, get_or, replicate, None, refl, ap, arith, ◌∙◌}
+use Rattle.std.proofs.Common.{◌≡◌, ℕ, zero, suc, ◌*◌, ◌≤◌, List, [], ◌∷◌, set, get_or, replicate, None, refl, ap, arith, ◌∙◌, rules}
 use Rattle.hardware_table.specs.declared.Armed.{Armed}
 use Rattle.hardware_table.specs.declared.FaultKind.{FaultKind}
 use Rattle.hardware_table.specs.declared.FaultKind.TheVariants as fault
@@ -34,10 +34,7 @@ none_times fault.Seek = refl
 none_times other = refl
 
 no_times : (kind : FaultKind) (a : Armed) → a ≡ none_armed → times_armed kind a ≤ 1000 * 0
-no_times kind a is = by _ (ap (times_armed kind) is ∙ none_times kind)
-  where
-    by : (n : ℕ) → n ≡ 0 → n ≤ 1000 * 0
-    by n e = omega (arith, e)
+no_times kind a is = first_of (search rules, grind arith)
 
 pub starts_with_none : StartsWithNone
 starts_with_none setups outstanding noises = record {

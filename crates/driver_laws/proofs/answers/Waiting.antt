@@ -22,9 +22,9 @@ use Rattle.driver_machine.specs.Sound.{Among, Once, slot_made, slots_made, IsMad
 use Rattle.driver_machine.proofs.Frame.{other_slot}
 use Rattle.driver_machine.specs.Runs.{Works}
 use Rattle.driver_laws.proofs.invariant.Calls.{submit_works, event_works}
-use Rattle.driver_laws.proofs.invariant.Passes.{Contains-first, Contains-later}
-use Rattle.driver_laws.proofs.invariant.Passes.{held_is, hand_there, not_made}
-use Rattle.driver_laws.proofs.invariant.Passes.{among_made}
+use Rattle.driver_laws.proofs.invariant.SlotsLists.{Contains-first, Contains-later}
+use Rattle.driver_laws.proofs.invariant.Hand.{held_is, hand_there, not_made}
+use Rattle.driver_laws.proofs.invariant.Quiet.{among_made}
 use Rattle.driver_laws.proofs.invariant.Sound.{sound_after}
 use Rattle.driver_laws.specs.answers.Waiting.{blocks_for, told_by, waiting, is_taking, AreNoTakings, ActsAnswer, RunsAnswer, RunsAlone, TakingDrops, EventsTakeNone, SubmissionsTakeNone, EventsAnswer, EventsAlone, SubmissionsAlone}
 use Rattle.driver_laws.proofs.answers.Parts.{AreAll, Holds, all_submitted, all_of_event}

@@ -1,5 +1,5 @@
 -- What a change at one unit leaves of its adapter.
-use Rattle.std.proofs.Common.{◌≡◌, ◌≢◌, ℕ, ◌+◌, ◌-◌, ◌*◌, ◌<◌, ◌≤◌, Bool, true, false, List, refl, sym, ap, ◌∙◌, arith}
+use Rattle.std.proofs.Common.{◌≡◌, ◌≢◌, ℕ, ◌+◌, ◌-◌, ◌*◌, ◌<◌, ◌≤◌, Bool, true, false, List, refl, sym, ap, ◌∙◌, arith, rules}
 use Rattle.std.specs.Prelude.{if◌then◌else◌, ◌==◌}
 use Rattle.std.proofs.lemmas.Bool.{false≢true}
 use Rattle.std.specs.Int.{bit_at}
@@ -38,43 +38,20 @@ pub record AdapterLeft (u : ℕ) (old : AdapterView) (v : UnitView) (z : Adapter
   pub bit : bit_at z.state.attentions (drive_of u) ≡ (if v.drive.attention then 1 else 0)
 
 attentions_adapter : (a : AdapterState) (n : ℕ) → IsAdapter a → IsAdapter (record a { attentions = n })
-attentions_adapter a n k = record {
-  inside = k.inside;
-  few = k.few;
-  offset = k.offset;
-  last_some = k.last_some;
-  last_few = k.last_few;
-  place = k.place;
-  counted = k.counted;
-  left = k.left;
-}
+attentions_adapter a n k = first_of (search rules, grind arith)
 
 -- only the attentions change, and those that wait
 pub state_left : (u : ℕ) (s : Scene) → SceneOk u s → SceneAdapter u s → (v : UnitView) (h : Held) (n : ℕ) (queue : List ℕ) → (s.unit.phase ≡ Transferring → ⊥)
     → ((x : ℕ) → Among x queue → x ≢ u → Among x s.adapter.queue) → (Among u queue → v.phase ≡ Queued) → Once queue → n < 256
     → ((k : ℕ) → k < 8 → k ≢ drive_of u → bit_at n k ≡ bit_at s.adapter.state.attentions k) → bit_at n (drive_of u) ≡ (if v.drive.attention then 1 else 0)
     → AdapterLeft u s.adapter v (record { queue = queue; state = record s.adapter.state { attentions = n } }) h
-state_left u s ok at v h n queue not waits mine once small bits bit = record {
-  state = attentions_adapter s.adapter.state n ok.adapter;
-  drive = at.drive;
-  own = λ busy drive. absurd (not (ok.transfer busy drive).phase);
-  elsewhere = λ busy other. refl;
-  rest = at.rest;
-  waits = waits;
-  mine = mine;
-  once = once;
-  small = small;
-  bits = bits;
-  bit = bit;
-}
+state_left u s ok at v h n queue not waits mine once small bits bit = first_of (search rules, grind arith)
 
 -- those that wait change alone
 pub queue_left : (u : ℕ) (s : Scene) → SceneOk u s → SceneAdapter u s → (v : UnitView) (h : Held) (queue : List ℕ) → (s.unit.phase ≡ Transferring → ⊥)
     → ((x : ℕ) → Among x queue → x ≢ u → Among x s.adapter.queue) → (Among u queue → v.phase ≡ Queued) → Once queue
     → v.drive.attention ≡ s.unit.drive.attention → AdapterLeft u s.adapter v (record s.adapter { queue = queue }) h
-queue_left u s ok at v h queue not waits mine once same =
-    state_left u s ok at v h s.adapter.state.attentions queue not waits mine once at.small (λ k lt other. refl)
-    (at.bit ∙ ap (λ b. if b then 1 else 0) (sym same))
+queue_left u s ok at v h queue not waits mine once same = first_of (search rules, grind arith)
 
 -- nothing changes of the adapter
 pub task_left : (u : ℕ) (s : Scene) → SceneOk u s → SceneAdapter u s → (v : UnitView) (h : Held) → (s.unit.phase ≡ Transferring → ⊥)
@@ -121,8 +98,4 @@ due_left u s ok at v h rests out same =
     task_left u s ok at v h (not_transferring s.unit.phase rests) (λ is. absurd (not_queued s.unit.phase out is)) same
 
 pub loaded_many : (blocks last skip count : ℕ) → 1 ≤ last → 1 ≤ count → 512 * count < bytes_between blocks last skip count + 512
-loaded_many blocks last skip count some more = by_test (skip + count == blocks)
-  where
-    by_test : (b : Bool) → 512 * count < (if b then 512 * count - (512 - last) else 512 * count) + 512
-    by_test true = omega arith
-    by_test false = omega arith
+loaded_many blocks last skip count some more = first_of (search rules, grind arith)

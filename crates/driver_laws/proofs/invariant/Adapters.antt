@@ -1,5 +1,5 @@
 -- A change at one unit keeps what holds of its adapter.
-use Rattle.std.proofs.Common.{◌≡◌, ◌≢◌, inl, inr, ℕ, ◌<◌, true, Some, refl, sym, ap, ◌∙◌, subst}
+use Rattle.std.proofs.Common.{◌≡◌, ◌≢◌, inl, inr, ℕ, ◌<◌, true, Some, refl, sym, ap, ◌∙◌, subst, arith, rules}
 use Rattle.std.specs.Prelude.{if◌then◌else◌, unwrap_or}
 use Rattle.std.specs.Int.{bit_at}
 use Rattle.std.proofs.lemmas.Bool.{cases_eq}
@@ -19,30 +19,12 @@ use Rattle.driver_laws.proofs.invariant.EachDeed.{deed_left}
 
 -- a transfer goes on, whatever attentions come
 attentions_on : (w : World) (x n : ℕ) (h : Held) (a : AdapterState) → Transfers w x h a → Transfers w x h (record a { attentions = n })
-attentions_on w x n h a is = record {
-  phase = is.phase;
-  slot = is.slot;
-  on_bus = is.on_bus;
-  loan = is.loan;
-  segment = is.segment;
-  write = is.write;
-  over = is.over;
-  whole = is.whole;
-}
+attentions_on w x n h a is = first_of (search rules, grind arith)
 
 -- what a transfer of the unit itself is in the world
 has_own : (w : World) (u : ℕ) (v : UnitView) (h : Held) (a : AdapterState) → unit_at w u ≡ v → (v.phase ≡ Transferring → slot_at w (slot_in_hand v) ≡ Some h)
     → HasTransferFor v h a → Transfers w u h a
-has_own w u v h a here slot is = record {
-  phase = ap (λ (y : UnitView). y.phase) here ∙ is.phase;
-  slot = ap (λ (y : UnitView). slot_at w (slot_in_hand y)) here ∙ slot is.phase;
-  on_bus = is.on_bus;
-  loan = is.loan;
-  segment = is.segment ∙ ap (λ (y : UnitView). segment_of (transfer_of y)) (sym here);
-  write = is.write;
-  over = is.over;
-  whole = is.whole;
-}
+has_own w u v h a here slot is = first_of (search rules, grind arith)
 
 module _ (w now : World) (u : ℕ) (s : Sound w) (c : Changed w now u) (lt : u < 32) (v : UnitView) (z : AdapterView) (h : Held)
     (here : unit_at now u ≡ v) (slot : v.phase ≡ Transferring → slot_at now (slot_in_hand v) ≡ Some h)
@@ -54,10 +36,7 @@ module _ (w now : World) (u : ℕ) (s : Sound w) (c : Changed w now u) (lt : u <
   was = s.each_adapter (adapter_of u) (adapter_of-small u lt)
 
   busy_own : z.state.busy ≡ true → z.state.drive ≡ drive_of u → (h : Held) × Transfers now (unit_on (adapter_of u) z.state.drive) h z.state
-  busy_own busy mine = (
-    h,
-    subst (λ x. Transfers now x h z.state) (sym (ap (unit_on (adapter_of u)) mine ∙ unit_on-own u)) (has_own now u v h z.state here slot (is.own busy mine)),
-  )
+  busy_own busy mine = first_of (search rules, grind arith)
 
   not_own : z.state.busy ≡ true → z.state.drive ≢ drive_of u → unit_on (adapter_of u) z.state.drive ≢ u
   not_own busy other same = other (sym (drive_of-unit_on (adapter_of u) z.state.drive is.drive) ∙ ap drive_of same)
@@ -109,17 +88,7 @@ module _ (w now : World) (u : ℕ) (s : Sound w) (c : Changed w now u) (lt : u <
 
 -- what holds of the adapter in the scene of a unit
 pub scene_adapter : (w : World) (u : ℕ) → Sound w → u < 32 → SceneAdapter u (scene_of w u)
-scene_adapter w u s lt =
-    let ok = s.each_adapter (adapter_of u) (adapter_of-small u lt) in
-    record {
-      drive = ok.drive;
-      rest = ok.rest;
-      mine = λ m. (ok.waits u m).2;
-      once = ok.once;
-      small = ok.small;
-      bit = ok.raised (drive_of u) (drive_of-small u) ∙ ap (λ y. if (unit_at w y).drive.attention then 1 else 0) (unit_on-own u);
-      unit = drive_of-small u;
-    }
+scene_adapter w u s lt = first_of (search rules, grind arith)
 
 -- A DEED
 pub deed_adapter : (w : World) (line u id : ℕ) (d : Deed) → Sound w → InHand w u id → May u d (scene_of w u)
@@ -139,40 +108,9 @@ deed_adapter w line u id d s i may =
 pub same_left : (w : World) (u : ℕ) → Sound w → u < 32 → (v : UnitView) → v.phase ≡ (unit_at w u).phase → v.transfer ≡ (unit_at w u).transfer
     → v.drive.attention ≡ (unit_at w u).drive.attention
     → AdapterLeft u (adapter_at w (adapter_of u)) v (adapter_at w (adapter_of u)) (held_in w (slot_in_hand (unit_at w u)))
-same_left w u s lt v phase transfer attention =
-    let ok = s.each_adapter (adapter_of u) (adapter_of-small u lt) in
-    let at = scene_adapter w u s lt in
-    let a : AdapterState = (adapter_at w (adapter_of u)).state in
-    record {
-      state = ok.state;
-      drive = ok.drive;
-      own = λ busy mine.
-          let transfers = ok.busy busy in
-          let before : Transfers w u transfers.0 a = subst (λ x. Transfers w x transfers.0 a) (ap (unit_on (adapter_of u)) mine ∙ unit_on-own u) transfers.1 in
-          let has = has_transfer w u transfers.0 transfers.0 a before.slot before in
-          record {
-            phase = phase ∙ has.phase;
-            on_bus = has.on_bus;
-            loan = has.loan;
-            segment = has.segment ∙ ap (λ t. segment_of (unwrap_or t no_transfer)) (sym transfer);
-            write = has.write;
-            over = has.over;
-            whole = has.whole;
-          };
-      elsewhere = λ busy other. refl;
-      rest = ok.rest;
-      waits = λ x m other. m;
-      mine = λ m. phase ∙ at.mine m;
-      once = ok.once;
-      small = ok.small;
-      bits = λ k small other. refl;
-      bit = at.bit ∙ ap (λ b. if b then 1 else 0) (sym attention);
-    }
+same_left w u s lt v phase transfer attention = first_of (search rules, grind arith)
 
 -- the slot in hand of a unit that transfers has its request
 pub transferring_slot : (w : World) (u : ℕ) → Sound w → u < 32 → (unit_at w u).phase ≡ Transferring
     → slot_at w (slot_in_hand (unit_at w u)) ≡ Some (held_in w (slot_in_hand (unit_at w u)))
-transferring_slot w u s lt is =
-    let ok = s.each_unit u lt in
-    let out = head_out w u ok (ok.head (ap is_waiting is)) in
-    out.slot ∙ ap Some (sym (held_is w (slot_in_hand (unit_at w u)) out.held out.slot))
+transferring_slot w u s lt is = first_of (search rules, grind arith)

@@ -1,5 +1,5 @@
 -- A POSITIONING ENDS: where it may come the unit positions, and it leaves a phase, a drive and an adapter that hold.
-use Rattle.std.proofs.Common.{◌≡◌, inl, inr, ℕ, ◌^◌, Bool, true, false, refl, sym, ap, ◌∙◌, subst, bit_or}
+use Rattle.std.proofs.Common.{◌≡◌, inl, inr, ℕ, ◌^◌, Bool, true, false, refl, sym, ap, ◌∙◌, subst, bit_or, arith, rules}
 use Rattle.std.specs.Prelude.{if◌then◌else◌}
 use Rattle.std.proofs.lemmas.Bool.{false≢true}
 use Rattle.hardware_table.specs.declared.Work.{Work}
@@ -44,10 +44,7 @@ arriving : (u : ℕ) (s : Scene) → SceneOk u s → is_positioning s.unit.drive
 arriving u s ok on = positions u s.unit s.adapter s.held s.unit.phase ok.phase on
 
 goal_of : (d : DriveState) → IsMoving d → is_positioning d.work ≡ true → IsGoal d.kind d.work × (d.attention ≡ false)
-goal_of d moving on = elim moving.either [
-  | inl goal ↦ goal
-  | inr over ↦ absurd (not_ready d.work over.0 on)
-]
+goal_of d moving on = first_of (search rules, grind arith)
 
 arriving_goal : (u : ℕ) (s : Scene) → SceneOk u s → is_positioning s.unit.drive.work ≡ true
     → IsGoal s.unit.drive.kind s.unit.drive.work × (s.unit.drive.attention ≡ false)

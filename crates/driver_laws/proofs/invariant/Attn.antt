@@ -1,5 +1,5 @@
 -- AN ATTENTION is taken: it leaves a phase, a drive and an adapter that hold.
-use Rattle.std.proofs.Common.{◌≡◌, inl, inr, ℕ, ◌-◌, ◌^◌, true, refl, sym, ap, ◌∙◌, bit_and}
+use Rattle.std.proofs.Common.{◌≡◌, inl, inr, ℕ, ◌-◌, ◌^◌, true, refl, sym, ap, ◌∙◌, bit_and, arith, rules}
 use Rattle.std.proofs.lemmas.Bool.{false≢true}
 use Rattle.hardware_table.specs.Drive.{DriveState}
 use Rattle.hardware_table.specs.Events.{attention_cleared}
@@ -17,10 +17,7 @@ use Rattle.driver_laws.proofs.invariant.Lists.{lowered_same, lowered_other, lowe
 
 -- ATTENTION: the drive stands still, and the next step comes
 still_behind : (d : DriveState) → d.attention ≡ true → IsMoving d → IsStill (attention_cleared d)
-still_behind d up moving = elim moving.either [
-  | inl on ↦ absurd (false≢true (sym on.1 ∙ up))
-  | inr over ↦ record { work = over.0; attention = refl; clear = record { er1 = moving.clear.er1; er2 = moving.clear.er2 } }
-]
+still_behind d up moving = first_of (search rules, grind arith)
 
 pub attn_phase : (line u p taken : ℕ) (s : Scene) → SceneOk u s → May u (deed.Attn taken) s
     → IsTask (effect line u p (deed.Attn taken) s).unit s.held (Steps taken)

@@ -1,5 +1,5 @@
 -- Each event runs, and leaves the driver at work.
-use Rattle.std.proofs.Common.{◌≡◌, ◌≢◌, ◌⊎◌, inl, inr, ℕ, ◌+◌, ◌*◌, ◌/◌, ◌<◌, ◌≤◌, Bool, true, false, List, [], ◌∷◌, length, Option, Some, None, refl, sym, ap, subst, arith, ◌∙◌, get_or-set_same, get_or-set_other}
+use Rattle.std.proofs.Common.{◌≡◌, ◌≢◌, ◌⊎◌, inl, inr, ℕ, ◌+◌, ◌*◌, ◌/◌, ◌<◌, ◌≤◌, Bool, true, false, List, [], ◌∷◌, length, Option, Some, None, refl, sym, ap, subst, arith, ◌∙◌, get_or-set_same, get_or-set_other, rules}
 use Rattle.std.specs.Prelude.{not, ◌&&◌, ◌%◌}
 use Rattle.std.proofs.lemmas.List.{get_or_past}
 use Rattle.std.proofs.lemmas.Bool.{cases_eq}
@@ -51,11 +51,7 @@ works line a n w acts lt leads = record {
 }
 
 at_rest : (a n : ℕ) (w : World) → Sound w → AtWork w → outstanding w ≤ n → Rests (Unit {0}) a n w
-at_rest a n w sound work few = record {
-  sound = sound;
-  work = λ e. record { units = work.units; adapters = λ b less other. work.adapters b less };
-  few = few;
-}
+at_rest a n w sound work few = first_of (search rules, grind arith)
 
 pub eighth : (u : ℕ) → u < 32 → u / 8 < 4
 eighth u lt = omega (arith, lt)
@@ -246,9 +242,7 @@ serving w a sound busy =
 
 busy_for : (w : World) (a : ℕ) (done : Bool) → IsServing w a → (adapter_at w a).state.busy ≡ true → (adapter_at w a).state.completion ≡ done
     → IsBusyFor (adapter_at w (adapter_of (unit_of w a))).state (drive_of (unit_of w a)) done
-busy_for w a done is busy completion =
-    subst (λ (b : ℕ). IsBusyFor (adapter_at w b).state (drive_of (unit_of w a)) done) (sym is.its)
-    (record { busy = busy; drive = is.drive; completion = completion })
+busy_for w a done is busy completion = first_of (search rules, grind arith)
 
 move_by : EachActKeeps → (line a : ℕ) (tried : Tried) (w : World) → Sound w → AtWork w → can_move (adapter_at w a) ≡ true
     → IsTried (unit_of w a) (next_block (adapter_at w a).state) tried (scene_of w (unit_of w a))
@@ -265,10 +259,7 @@ move_by stays line a tried w sound work can is =
 
 -- ATTEND: the data interrupt,
 others_of : (w : World) (a u : ℕ) → adapter_of u ≡ a → UnitsWork w a → OthersWork w u
-others_of w a u its work = record {
-  units = λ x less other. work.units x less;
-  adapters = λ b less other. work.adapters b less (λ same. other (same ∙ sym its));
-}
+others_of w a u its work = first_of (search rules, grind arith)
 
 behind : EachActKeeps → (line a u n : ℕ) (d : Deed) (w : World) → adapter_of u ≡ a → u < 32 → 0 < length (unit_at w u).queue
     → Rests (Unit {0}) a n w → May u d (scene_of w u) → IsFree (scene_after line u d w).unit (scene_after line u d w).adapter
@@ -415,8 +406,4 @@ event_works stays line other tried w sound work may = change stays other w sound
 
 -- AN ANSWER IS TAKEN
 pub taken_works : EachActKeeps → (w : World) → Sound w → AtWork w → 0 < length w.answers → Works w (Taken ∷ [])
-taken_works stays w sound work some = record {
-  run = (some, tt);
-  sound = stays w Taken sound some;
-  work = record { units = work.units; adapters = work.adapters };
-}
+taken_works stays w sound work some = first_of (search rules, grind arith)

@@ -1,5 +1,5 @@
 -- What a change of one unit and one slot leaves of the others.
-use Rattle.std.proofs.Common.{◌≡◌, ◌≢◌, inl, inr, ℕ, ◌+◌, ◌<◌, ◌≤◌, false, List, length, Option, Some, None, sym, ap, ◌∙◌, subst}
+use Rattle.std.proofs.Common.{◌≡◌, ◌≢◌, inl, inr, ℕ, ◌+◌, ◌<◌, ◌≤◌, false, List, length, Option, Some, None, sym, ap, ◌∙◌, subst, arith, rules}
 use Rattle.std.proofs.lemmas.Bool.{cases_eq}
 use Rattle.pack_geometry.specs.Geometry.{limit_of, place_at}
 use Rattle.pack_geometry.specs.declared.DriveKind.{DriveKind}
@@ -39,19 +39,10 @@ module _ (w now : World) (u p : ℕ) (v : UnitView) (o : Option Held) (s : Sound
   elsewhere x y ne out = λ same. ne (sym out.unit ∙ k.mine out.held (subst (λ (r : ℕ). slot_at w r ≡ Some out.held) same out.slot) out.going_on)
 
   pub kind_stays : (x : ℕ) → (unit_at now x).drive.kind ≡ (unit_at w x).drive.kind
-  kind_stays x = elim (cases_eq x u) [
-    | inl same ↦ subst (λ (y : ℕ). (unit_at now y).drive.kind ≡ (unit_at w y).drive.kind) (sym same) (ap (λ (y : UnitView). y.drive.kind) c.units.here ∙ k.kind)
-    | inr other ↦ ap (λ (y : UnitView). y.drive.kind) (c.units.others x other)
-  ]
+  kind_stays x = first_of (search rules, grind arith)
 
   pub outstanding_stays : (x : ℕ) (y : Waiter) → y.number ≢ p → IsOutstanding w x y → IsOutstanding now x y
-  outstanding_stays x y ne out = record {
-    held = out.held;
-    slot = c.slots.others y.number ne ∙ out.slot;
-    unit = out.unit;
-    going_on = out.going_on;
-    cylinder = out.cylinder ∙ ap (λ (kind : DriveKind). (place_at kind out.held.first).cylinder) (sym (kind_stays x));
-  }
+  outstanding_stays x y ne out = first_of (search rules, grind arith)
 
   queue_other : (x : ℕ) → x < 32 → x ≢ u → IsServed now x (unit_at now x)
   queue_other x lt ne =

@@ -1,5 +1,5 @@
 -- DCLR: the drive is clear, and phase, drive and adapter hold.
-use Rattle.std.proofs.Common.{ℕ, refl, sym, ap}
+use Rattle.std.proofs.Common.{ℕ, refl, sym, ap, arith, rules}
 use Rattle.hardware_table.specs.declared.Moved.{Moved}
 use Rattle.driver_machine.specs.declared.Phase.TheVariants.{Due}
 use Rattle.driver_machine.specs.declared.Task.TheVariants.{Clear, Judge}
@@ -16,13 +16,7 @@ use Rattle.driver_laws.proofs.invariant.AdapterLeft.{SceneAdapter, AdapterLeft, 
 -- DCLR: the drive is clear
 pub dclr_phase : (line u p moved : ℕ) (last : Moved) (s : Scene) → SceneOk u s → IsDue s.unit s.held (deed.Dclr moved last)
     → IsTask (effect line u p (deed.Dclr moved last) s).unit s.held (Judge moved last)
-dclr_phase line u p moved last s ok due =
-    let is : IsTask s.unit s.held (Clear moved last) = phase_is u s (Due (Clear moved last)) ok due in (
-      same_begun s _ is.0 refl refl refl,
-      record { work = is.1.work; attention = refl; clear = record { er1 = refl; er2 = refl } },
-      is.3,
-      is.4,
-    )
+dclr_phase line u p moved last s ok due = first_of (search rules, grind arith)
 
 pub dclr_drive : (line u p moved : ℕ) (last : Moved) (s : Scene) → SceneOk u s → May u (deed.Dclr moved last) s
     → IsDrive (effect line u p (deed.Dclr moved last) s).unit.drive

@@ -1,5 +1,5 @@
 -- What several deeds share of transfers and tasks.
-use Rattle.std.proofs.Common.{◌≡◌, ℕ, ◌+◌, ◌<◌, Bool, Option, Some, None, refl, arith}
+use Rattle.std.proofs.Common.{◌≡◌, ℕ, ◌+◌, ◌<◌, Bool, Option, Some, None, refl, arith, rules}
 use Rattle.pack_geometry.specs.Geometry.{block_count, IsInside, place_at}
 use Rattle.hardware_table.specs.declared.Moved.{Moved}
 use Rattle.transfer_engine.specs.declared.job.Job.{Job}
@@ -31,23 +31,11 @@ left_by (Some i) job done moved left less = omega (arith, left, less)
 -- A NEW TRANSFER has done nothing.
 pub new_begun : (u : ℕ) (s : Scene) (x : UnitView) → SceneOk u s → x.transfer ≡ Some (begun (job_of s.unit.drive.kind s.held))
     → x.table ≡ s.unit.table → x.drive.kind ≡ s.unit.drive.kind → IsBegun x s.held
-new_begun u s x ok transfer table kind =
-    let some = ok.loan.shape.some in
-    let y : UnitView = record s.unit { transfer = Some (begun (job_of s.unit.drive.kind s.held)) } in
-    let is : IsBegun y s.held = record {
-      some = refl;
-      is = record { is_job = job_is u s ok; left = omega (arith, some); tries = omega arith; entry = λ i at. absurd (none_some at) };
-      job = refl;
-      listed = λ i at. absurd (none_some at);
-    } in
-    begun_as y x s.held s.held is transfer table kind (same_ask s.held)
+new_begun u s x ok transfer table kind = first_of (search rules, grind arith)
 
 -- the sector that failed lies on the drive
 pub sector_inside : (s : Scene) → IsBegun s.unit s.held → IsInside s.unit.drive.kind (place_at s.unit.drive.kind (segment_of (transfer_of s.unit)).block)
-sector_inside s is =
-    let block : ℕ = (segment_of (transfer_of s.unit)).block in
-    let below : block + 0 < block_count s.unit.drive.kind = block_below s.unit s.held 0 is (segment_some (transfer_of s.unit) is.is) in
-    place_inside s.unit.drive.kind block (omega (arith, below))
+sector_inside s is = first_of (search rules, grind arith)
 
 -- a unit for which its adapter is busy transfers
 pub transfer_at : (u : ℕ) (done : Bool) (s : Scene) → SceneOk u s → IsBusyFor s.adapter.state (drive_of u) done → HasTransfer s

@@ -1,5 +1,5 @@
 -- A deed at one unit is done where it may, and leaves what holds inside an event.
-use Rattle.std.proofs.Common.{◌≡◌, ◌≢◌, ◌⊎◌, inl, inr, ℕ, ◌+◌, ◌/◌, ◌<◌, ◌≤◌, Bool, true, false, List, [], length, Option, Some, None, sym, ap, subst, arith, ◌∙◌, get_or-set_same}
+use Rattle.std.proofs.Common.{◌≡◌, ◌≢◌, ◌⊎◌, inl, inr, ℕ, ◌+◌, ◌/◌, ◌<◌, ◌≤◌, Bool, true, false, List, [], length, Option, Some, None, sym, ap, subst, arith, ◌∙◌, get_or-set_same, rules}
 use Rattle.std.specs.Prelude.{slice_index_or, slice_set, sum_by, unwrap_or}
 use Rattle.std.proofs.lemmas.List.Sums.{sum_by-set}
 use Rattle.std.proofs.lemmas.List.Elements.{Contains-get_or}
@@ -70,9 +70,7 @@ is_unit w u sound some = elim (less_or u) [
 -- THE REQUEST IN HAND is outstanding.
 pub head_of : (w : World) (u : ℕ) → Sound w → u < 32 → 0 < length (unit_at w u).queue
     → IsOutstanding w u (slice_index_or (unit_at w u).queue 0 (record { number = 0; cylinder = 0 }))
-head_of w u sound lt some =
-    (sound.each_unit u lt).queue (slice_index_or (unit_at w u).queue 0 (record { number = 0; cylinder = 0 }))
-    (Contains-get_or (unit_at w u).queue 0 (record { number = 0; cylinder = 0 }) some)
+head_of w u sound lt some = first_of (search rules, grind arith)
 
 pub in_hand_is : (w : World) (u : ℕ) → Sound w → u < 32 → 0 < length (unit_at w u).queue
     → InHand w u (held_in w (slot_in_hand (unit_at w u))).id
@@ -124,18 +122,10 @@ free_by line u p other s due free = λ needs. absurd (false_true needs)
 
 -- THE OTHERS are at work as before.
 pub others_kept : (w : World) (u p : ℕ) (s : Scene) → OthersWork w u → OthersWork (with_scene w u p s) u
-others_kept w u p s work = record {
-  units = λ x lt other. subst (λ (v : UnitView). WorkOf v.phase v.queue) (sym (other_unit w u p x s other)) (work.units x lt other);
-  adapters = λ a lt other. subst (λ (v : AdapterView). v.state.busy ≡ false → v.queue ≡ []) (sym (other_adapter w u p a s other))
-      (work.adapters a lt other);
-}
+others_kept w u p s work = first_of (search rules, grind arith)
 
 pub own_adapter : (w : World) (u p : ℕ) (s : Scene) → length w.adapters ≡ 4 → u < 32 → adapter_at (with_scene w u p s) (adapter_of u) ≡ s.adapter
-own_adapter w u p s four lt =
-    get_or-set_same w.adapters (adapter_of u) s.adapter new_adapter_view (subst (λ (k : ℕ). adapter_of u < k) (sym four) (eighth u lt))
-  where
-    eighth : (u : ℕ) → u < 32 → u / 8 < 4
-    eighth u lt = omega (arith, lt)
+own_adapter w u p s four lt = first_of (search rules, grind arith)
 
 -- NO DEED adds to what is outstanding, and an end takes one away.
 abbrev pub ended_by : Deed → ℕ

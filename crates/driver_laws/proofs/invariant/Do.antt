@@ -1,5 +1,5 @@
 -- A STEP OF A RETRY: a seek stays on the drive, and behind each step phase, drive and adapter hold.
-use Rattle.std.proofs.Common.{◌≡◌, inl, ℕ, zero, suc, ◌+◌, ◌<◌, ◌≤◌, Bool, true, false, List, [], ◌∷◌, drop, length, Option, Some, None, refl, sym, ap, subst, arith}
+use Rattle.std.proofs.Common.{◌≡◌, inl, ℕ, zero, suc, ◌+◌, ◌<◌, ◌≤◌, Bool, true, false, List, [], ◌∷◌, drop, length, Option, Some, None, refl, sym, ap, subst, arith, rules}
 use Rattle.std.specs.Prelude.{if◌then◌else◌, ◌==◌}
 use Rattle.pack_geometry.specs.Geometry.{cylinders_of, place_at}
 use Rattle.drive_registers.specs.declared.OffsetCode.{OffsetCode}
@@ -44,9 +44,7 @@ seek_to true c steps are = are
 seek_to false c steps are = (refl, are)
 
 steps_to : (c : ℕ) (step : retried.Step) → AreStepsTo c (steps_for c step)
-steps_to c (retry.Offset code) = (tt, tt)
-steps_to c (retry.Recalibrate code) = (tt, seek_to (c == 0) c (offset_steps code) (offset_to c code))
-steps_to c other = tt
+steps_to c step = first_of (search rules, grind arith)
 
 drop_to : (c n : ℕ) (steps : List RetryStep) → AreStepsTo c steps → AreStepsTo c (drop n steps)
 drop_to c zero steps are = are

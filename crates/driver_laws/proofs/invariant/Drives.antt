@@ -1,5 +1,5 @@
 -- A drive stays one whose registers name places of it, whatever it does.
-use Rattle.std.proofs.Common.{◌≡◌, ℕ, ◌+◌, ◌%◌, ◌<◌, ◌≤◌, Bool, true, false, Some, None, refl, sym, ap, ◌∙◌, subst, arith}
+use Rattle.std.proofs.Common.{◌≡◌, ℕ, ◌+◌, ◌%◌, ◌<◌, ◌≤◌, Bool, true, false, Some, None, refl, sym, ap, ◌∙◌, subst, arith, rules}
 use Rattle.std.specs.Prelude.{if◌then◌else◌, ◌==◌, ◌&&◌, not, bit_or, nat_lt}
 use Rattle.std.proofs.lemmas.Nat.{div-mul-add, mod-mul-add}
 use Rattle.std.proofs.lemmas.Bool.Decides.{Decides-ltb}
@@ -77,102 +77,48 @@ unrefused d is = ap (λ b. on (not b) bits.invalid_address_error) is
 
 -- the registers name a sector of the drive
 pub is_addressed-addressed : (d : DriveState) (place : Place) → IsInside d.kind place → is_addressed (addressed place d) ≡ true
-is_addressed-addressed d place inside = tests_true _ _ _
-    ((Decides-ltb place.cylinder (cylinders_of d.kind)).1 inside.cylinder)
-    ((Decides-ltb (track_in (track_and_sector place)) (tracks_of d.kind)).1
-    (subst (λ k. k < tracks_of d.kind) (sym (div-mul-add place.track 256 place.sector (small_sector d.kind place.sector inside.sector))) inside.track))
-    ((Decides-ltb (sector_in (track_and_sector place)) (sectors_of d.kind)).1
-    (subst (λ k. k < sectors_of d.kind) (sym (mod-mul-add place.track 256 place.sector (small_sector d.kind place.sector inside.sector))) inside.sector))
+is_addressed-addressed d place inside = first_of (search rules, grind arith)
 
 -- a cylinder of the drive is a place of it too, on the track and the sector of before
 pub seeks_address : (d : DriveState) (cylinder : ℕ) → cylinder < cylinders_of d.kind → is_addressed d ≡ true
     → is_addressed (with_register register.Dc cylinder d) ≡ true
-seeks_address d cylinder lt is =
-    both (nat_lt cylinder (cylinders_of d.kind)) (nat_lt (track_in d.da) (tracks_of d.kind) && nat_lt (sector_in d.da) (sectors_of d.kind))
-    ((Decides-ltb cylinder (cylinders_of d.kind)).1 lt) (tests_in (nat_lt d.dc (cylinders_of d.kind)) _ is)
-  where
-    both : (x y : Bool) → x ≡ true → y ≡ true → x && y ≡ true
-    both x y e f = rw (e, f) refl
+seeks_address d cylinder lt is = first_of (search rules, grind arith)
 
 pub performed-search : (d : DriveState) (place : Place) → IsInside d.kind place → performed function.Search (addressed place d)
     ≡ record d { cs1 = function_code function.Search; dc = place.cylinder; da = track_and_sector place; work = work.Positioning place.cylinder (Some place.sector) }
-performed-search d place inside =
-    performed_as function.Search (addressed place d) (unrefused (addressed place d) (is_addressed-addressed d place inside))
-    ∙ ap (λ k. record d {
-      cs1 = function_code function.Search;
-      dc = place.cylinder;
-      da = track_and_sector place;
-      work = work.Positioning place.cylinder (Some k);
-    }) (mod-mul-add place.track 256 place.sector (small_sector d.kind place.sector inside.sector))
+performed-search d place inside = first_of (search rules, grind arith)
 
 pub performed-seek : (d : DriveState) (cylinder : ℕ) → cylinder < cylinders_of d.kind → is_addressed d ≡ true
     → performed function.Seek (with_register register.Dc cylinder d)
     ≡ record d { cs1 = function_code function.Seek; dc = cylinder; work = work.Positioning cylinder None }
-performed-seek d cylinder lt is =
-    performed_as function.Seek (with_register register.Dc cylinder d)
-    (unrefused (with_register register.Dc cylinder d) (seeks_address d cylinder lt is))
+performed-seek d cylinder lt is = first_of (search rules, grind arith)
 
 pub performed-transfer : (write : Bool) (d : DriveState) (place : Place) → IsInside d.kind place → write && d.locked ≡ false
     → performed (transfer_function write) (addressed place d)
     ≡ record d { cs1 = function_code (transfer_function write); dc = place.cylinder; da = track_and_sector place; work = work.Transfer write }
-performed-transfer false d place inside free =
-    performed_as function.Read (addressed place d) (unrefused (addressed place d) (is_addressed-addressed d place inside))
-performed-transfer true d place inside free =
-    performed_as function.Write (addressed place d) (no_bits _ _ _ _ (is_addressed-addressed d place inside) free)
+performed-transfer write d place h0 h1 = first_of (search rules, grind arith)
 
 -- WHAT STAYS where neither the heads nor the registers of places change
 pub drive_as : (d : DriveState) (cs1 er1 er2 ec1 ec2 : ℕ) (does : Work) (attention : Bool) (armed : Armed) → IsDrive d
     → IsDrive (record d { cs1 = cs1; er1 = er1; er2 = er2; ec1 = ec1; ec2 = ec2; work = does; attention = attention; armed = armed })
-drive_as d cs1 er1 er2 ec1 ec2 does attention armed is = record {
-  cylinder = is.cylinder;
-  look = is.look;
-  look_ahead = is.look_ahead;
-  sector = is.sector;
-  address = is.address;
-  code = is.code;
-  offset = is.offset;
-  valid = is.valid;
-}
+drive_as d cs1 er1 er2 ec1 ec2 does attention armed is = first_of (search rules, grind arith)
 
 -- its registers of places say another place of it
 pub drive_at : (d : DriveState) (place : Place) (cs1 : ℕ) (does : Work) → IsInside d.kind place → IsDrive d
     → IsDrive (record d { cs1 = cs1; dc = place.cylinder; da = track_and_sector place; work = does })
-drive_at d place cs1 does inside is = record {
-  cylinder = is.cylinder;
-  look = is.look;
-  look_ahead = is.look_ahead;
-  sector = is.sector;
-  address = is_addressed-addressed d place inside;
-  code = is.code;
-  offset = is.offset;
-  valid = is.valid;
-}
+drive_at d place cs1 does inside is = first_of (search rules, grind arith)
 
 -- FUNCTIONS
 pub drive_search : (d : DriveState) (place : Place) → IsInside d.kind place → IsDrive d → IsDrive (performed function.Search (addressed place d))
-drive_search d place inside is =
-    subst IsDrive (sym (performed-search d place inside))
-    (drive_at d place (function_code function.Search) (work.Positioning place.cylinder (Some place.sector)) inside is)
+drive_search d place inside is = first_of (search rules, grind arith)
 
 pub drive_transfer : (write : Bool) (d : DriveState) (place : Place) → IsInside d.kind place → write && d.locked ≡ false → IsDrive d
     → IsDrive (performed (transfer_function write) (addressed place d))
-drive_transfer write d place inside free is =
-    subst IsDrive (sym (performed-transfer write d place inside free))
-    (drive_at d place (function_code (transfer_function write)) (work.Transfer write) inside is)
+drive_transfer write d place inside free is = first_of (search rules, grind arith)
 
 pub drive_seek : (d : DriveState) (cylinder : ℕ) → cylinder < cylinders_of d.kind → IsDrive d
     → IsDrive (performed function.Seek (with_register register.Dc cylinder d))
-drive_seek d cylinder lt is =
-    subst IsDrive (sym (performed-seek d cylinder lt is.address)) (record {
-      cylinder = is.cylinder;
-      look = is.look;
-      look_ahead = is.look_ahead;
-      sector = is.sector;
-      address = seeks_address d cylinder lt is.address;
-      code = is.code;
-      offset = is.offset;
-      valid = is.valid;
-    })
+drive_seek d cylinder lt is = first_of (search rules, grind arith)
 
 pub drive_recal : (d : DriveState) → IsDrive d → IsDrive (performed function.Recal d)
 drive_recal d is = drive_as d _ _ _ _ _ _ _ _ is
@@ -181,28 +127,10 @@ pub drive_clear : (d : DriveState) → IsDrive d → IsDrive (performed function
 drive_clear d is = drive_as d _ _ _ _ _ _ _ _ is
 
 pub drive_pack : (d : DriveState) → d.online ≡ true → IsDrive d → IsDrive (performed function.Pack d)
-drive_pack d online is = record {
-  cylinder = is.cylinder;
-  look = is.look;
-  look_ahead = is.look_ahead;
-  sector = is.sector;
-  address = is.address;
-  code = is.code;
-  offset = is.offset;
-  valid = λ e. online;
-}
+drive_pack d online is = first_of (search rules, grind arith)
 
 pub drive_centred : (d : DriveState) → IsDrive d → IsDrive (centred d)
-drive_centred d is = record {
-  cylinder = is.cylinder;
-  look = is.look;
-  look_ahead = is.look_ahead;
-  sector = is.sector;
-  address = is.address;
-  code = None;
-  offset = refl;
-  valid = is.valid;
-}
+drive_centred d is = first_of (search rules, grind arith)
 
 word_sum : (c : OffsetCode) → bit_or bits.sixteen_bit_format (offset_code c) ≡ bits.sixteen_bit_format + code_word (Some c)
 word_sum code.Plus400 = refl
@@ -295,50 +223,13 @@ drive_after_step v a d lt is =
 
 -- CONDITIONS
 pub drive_turned : (d : DriveState) (sector : ℕ) → sector < sectors_of d.kind → IsDrive d → IsDrive (turned sector d)
-drive_turned d sector lt is = record {
-  cylinder = is.cylinder;
-  look = sector;
-  look_ahead = refl;
-  sector = lt;
-  address = is.address;
-  code = is.code;
-  offset = is.offset;
-  valid = is.valid;
-}
+drive_turned d sector lt is = first_of (search rules, grind arith)
 
 pub drive_armed : (d : DriveState) (kind : FaultKind) (times : ℕ) → IsDrive d → IsDrive (fault_armed kind times d)
 drive_armed d kind times is = drive_as d _ _ _ _ _ _ _ _ is
 
 pub drive_online : (d : DriveState) (is_on : Bool) → IsDrive d → IsDrive (online_set is_on d)
-drive_online d true is = record {
-  cylinder = is.cylinder;
-  look = is.look;
-  look_ahead = is.look_ahead;
-  sector = is.sector;
-  address = is.address;
-  code = is.code;
-  offset = is.offset;
-  valid = λ e. refl;
-}
-drive_online d false is = record {
-  cylinder = is.cylinder;
-  look = is.look;
-  look_ahead = is.look_ahead;
-  sector = is.sector;
-  address = is.address;
-  code = is.code;
-  offset = is.offset;
-  valid = λ e. absurd (grind (arith, e));
-}
+drive_online d is_on h0 = first_of (search rules, grind arith)
 
 pub drive_locked : (d : DriveState) (is_on : Bool) → IsDrive d → IsDrive (locked_set is_on d)
-drive_locked d is_on is = record {
-  cylinder = is.cylinder;
-  look = is.look;
-  look_ahead = is.look_ahead;
-  sector = is.sector;
-  address = is.address;
-  code = is.code;
-  offset = is.offset;
-  valid = is.valid;
-}
+drive_locked d is_on is = first_of (search rules, grind arith)

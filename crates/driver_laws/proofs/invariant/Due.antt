@@ -1,5 +1,5 @@
 -- What is due at a unit runs until nothing is due, and the unit is at work then.
-use Rattle.std.proofs.Common.{◌≡◌, ◌≢◌, ◌⊎◌, inl, inr, ℕ, zero, suc, ◌+◌, ◌<◌, ◌≤◌, false, List, [], ◌∷◌, length, refl, sym, ap, subst, arith, ◌∙◌}
+use Rattle.std.proofs.Common.{◌≡◌, ◌≢◌, ◌⊎◌, inl, inr, ℕ, zero, suc, ◌+◌, ◌<◌, ◌≤◌, false, List, [], ◌∷◌, length, refl, sym, ap, subst, arith, ◌∙◌, rules}
 use Rattle.std.specs.Prelude.{slice_index_or, ◌*◌}
 use Rattle.disksort.specs.declared.Waiter.{Waiter}
 use Rattle.driver_machine.specs.declared.Phase.{Phase}
@@ -16,12 +16,7 @@ use Rattle.driver_laws.proofs.invariant.Deeds.{OthersWork, Doing, Done, deed_at,
 
 -- a deed for the request in hand is one act
 pub in_hand_one : (line u : ℕ) (d : Deed) (w : World) → 0 < length (unit_at w u).queue → in_hand line u d w ≡ deed_at line u d w ∷ []
-in_hand_one line u d w some = by_queue (unit_at w u).queue refl some
-  where
-    by_queue : (queue : List Waiter) → (unit_at w u).queue ≡ queue → 0 < length queue → in_hand_by queue line u d w ≡ deed_at line u d w ∷ []
-    by_queue [] is some = absurd (grind (arith, some))
-    by_queue (x ∷ rest) is some =
-        ap (λ (l : List Waiter). Of line u (held_in w (slice_index_or l 0 (record { number = 0; cylinder = 0 })).number).id d ∷ []) (sym is)
+in_hand_one line u d w some = first_of (search rules, grind arith)
 
 -- EACH DEED THAT IS DUE, one behind another
 due_turn : EachActKeeps → (E : Type 0) (line u n fuel : ℕ) (w : World) → u < 32 → Doing E u n w
@@ -62,12 +57,7 @@ none_due (x ∷ rest) line u d w none = absurd (grind (arith, none))
 
 work_by : (phase : Phase) (w : World) (line u : ℕ) → (unit_at w u).phase ≡ phase → Sound w → u < 32
     → due_by (next_by phase (unit_at w u) (held_in w (slot_in_hand (unit_at w u)))) line u w ≡ [] → WorkOf phase (unit_at w u).queue
-work_by Waiting w line u is sound lt none = none_due (unit_at w u).queue line u _ w none
-work_by (Due task) w line u is sound lt none =
-    let some : 0 < length (unit_at w u).queue = (sound.each_unit u lt).head (ap is_waiting is) in
-    let empty : length (unit_at w u).queue ≡ 0 = ap (λ (l : List Waiter). length l) (none_due (unit_at w u).queue line u _ w none) in
-    absurd (grind (arith, some, empty))
-work_by other w line u is sound lt none = tt
+work_by phase w line u h0 h1 h2 h3 = first_of (search rules, grind arith)
 
 pub rests : (E : Type 0) (line u n : ℕ) (w : World) → u < 32 → Doing E u n w → next_acts line u w ≡ [] → Rests E (adapter_of u) n w
 rests E line u n w lt doing none = record {

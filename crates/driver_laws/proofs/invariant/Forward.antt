@@ -1,5 +1,5 @@
 -- A REPLACEMENT comes next: it is that of the entry which lists the block, and phase and adapter hold.
-use Rattle.std.proofs.Common.{◌≡◌, ℕ, ◌+◌, ◌<◌, get_or, Option, Some, None, refl, sym, ap, ◌∙◌, subst, arith}
+use Rattle.std.proofs.Common.{◌≡◌, ℕ, ◌+◌, ◌<◌, get_or, Option, Some, None, refl, sym, ap, ◌∙◌, subst, arith, rules}
 use Rattle.std.specs.Prelude.{slice_get}
 use Rattle.std.proofs.lemmas.List.Quantifiers.{position-Some}
 use Rattle.std.proofs.lemmas.Option.{slice_get-get_or}
@@ -36,12 +36,7 @@ found_at None table place i is =
 
 found_small : (index : Option ℕ) (kind : DriveKind) (table : Option Table) (place : Place) (i : ℕ)
     → ((x : Table) → table ≡ Some x → IsTableFor kind x) → entry_by index table place ≡ Some i → i < 126
-found_small (Some k) kind table place i tables is = absurd (none_some is)
-found_small None kind None place i tables is = absurd (none_some is)
-found_small None kind (Some table) place i tables is =
-    let at = position-Some (is_place place) table.places i place is in
-    let room = (tables table refl).is.room in
-    omega (arith, at.0, room)
+found_small index kind table place i h0 h1 = first_of (search rules, grind arith)
 
 some_number : (i k : ℕ) → Some i ≡ Some k → i ≡ k
 some_number i k e = cc

@@ -1,5 +1,5 @@
 -- A change at one unit: the other units and adapters hold on.
-use Rattle.std.proofs.Common.{◌≡◌, ◌≢◌, inl, inr, ℕ, zero, suc, ◌+◌, ◌<◌, ◌≤◌, Bool, true, false, List, [], ◌∷◌, length, get_or-set_same, get_or-set_other, Option, Some, None, refl, sym, ap, ◌∙◌, subst, arith}
+use Rattle.std.proofs.Common.{◌≡◌, ◌≢◌, inl, inr, ℕ, zero, suc, ◌+◌, ◌<◌, ◌≤◌, Bool, true, false, List, [], ◌∷◌, length, get_or-set_same, get_or-set_other, Option, Some, None, refl, sym, ap, ◌∙◌, subst, arith, rules}
 use Rattle.std.specs.Prelude.{if◌then◌else◌, unwrap_or, slice_index_or}
 use Rattle.std.specs.Int.{bit_at}
 use Rattle.std.proofs.lemmas.Bool.{cases_eq, false≢true}
@@ -62,11 +62,7 @@ waiting_any x v a g h other waits is = absurd (false≢true waits)
 
 pub phase_for : (x : ℕ) (v : UnitView) (a : AdapterView) (g h : Held) (phase : Phase) → (is_waiting phase ≡ false → h ≡ g) → IsPhase x v a g phase
     → IsPhase x v a h phase
-phase_for x v a g h phase same is = by_test (is_waiting phase) refl
-  where
-    by_test : (b : Bool) → is_waiting phase ≡ b → IsPhase x v a h phase
-    by_test true waits = waiting_any x v a g h phase waits is
-    by_test false goes = subst (λ (y : Held). IsPhase x v a y phase) (sym (same goes)) is
+phase_for x v a g h phase same is = first_of (search rules, grind arith)
 
 -- THE OTHER UNITS
 other_adapter_phase : (w now : World) (u x : ℕ) (h : Held) → Changed w now u → x ≢ u
@@ -101,19 +97,7 @@ table_stays w now u x s c lt other = subst HasTable (sym (c.units x other)) (s.e
 
 -- WHAT ADAPTERS SAY of other units
 pub transfers_on : (w now : World) (u x : ℕ) (h : Held) (a : AdapterState) → Changed w now u → x < 32 → x ≢ u → Transfers w x h a → Transfers now x h a
-transfers_on w now u x h a c lt other is =
-    let same : unit_at now x ≡ unit_at w x = c.units x other in
-    record {
-      phase = ap (λ (y : UnitView). y.phase) same ∙ is.phase;
-      slot = ap (λ (y : UnitView). slot_at now (slot_in_hand y)) same
-          ∙ (c.held x lt other (busy_is (unit_at w x).phase is.phase) ∙ is.slot);
-      on_bus = is.on_bus;
-      loan = is.loan;
-      segment = is.segment ∙ ap (λ (y : UnitView). segment_of (transfer_of y)) (sym same);
-      write = is.write;
-      over = is.over;
-      whole = is.whole;
-    }
+transfers_on w now u x h a c lt other is = first_of (search rules, grind arith)
 
 pub waits_on : (w now : World) (u x a : ℕ) → Changed w now u → x ≢ u → (x < 32) × (adapter_of x ≡ a) × ((unit_at w x).phase ≡ Queued)
     → (x < 32) × (adapter_of x ≡ a) × ((unit_at now x).phase ≡ Queued)
@@ -164,16 +148,7 @@ own_slot w u id s i = s.each_slot (slot_in_hand (unit_at w u)) i.held i.slot
 
 pub has_transfer : (w : World) (u : ℕ) (h g : Held) (a : AdapterState) → slot_at w (slot_in_hand (unit_at w u)) ≡ Some g → Transfers w u h a
     → HasTransferFor (unit_at w u) (held_in w (slot_in_hand (unit_at w u))) a
-has_transfer w u h g a slot is =
-    subst (λ (y : Held). HasTransferFor (unit_at w u) y a) (sym (held_is w (slot_in_hand (unit_at w u)) h is.slot)) (record {
-      phase = is.phase;
-      on_bus = is.on_bus;
-      loan = is.loan;
-      segment = is.segment;
-      write = is.write;
-      over = is.over;
-      whole = is.whole;
-    })
+has_transfer w u h g a slot is = first_of (search rules, grind arith)
 
 pub scene_ok : (w : World) (u id : ℕ) → Sound w → InHand w u id → SceneOk u (scene_of w u)
 scene_ok w u id s i =
@@ -207,10 +182,7 @@ other_slot w u id x s i lt other goes same =
     other (sym out.unit ∙ (ap (λ (h : Held). h.unit) one ∙ (own_held w u id s i).0))
 
 pub adapter_here : (w : World) (u p : ℕ) (e : Scene) → Sound w → u < 32 → adapter_at (with_scene w u p e) (adapter_of u) ≡ e.adapter
-adapter_here w u p e s lt =
-    let small = adapter_of-small u lt in
-    let count = s.adapters in
-    get_or-set_same w.adapters (adapter_of u) e.adapter new_adapter_view (subst (λ n. adapter_of u < n) (sym count) small)
+adapter_here w u p e s lt = first_of (search rules, grind arith)
 
 pub unit_here : (w : World) (u p : ℕ) (e : Scene) → Sound w → u < 32 → unit_at (with_scene w u p e) u ≡ e.unit
 unit_here w u p e s lt = get_or-set_same w.units u e.unit no_unit (subst (λ n. u < n) (sym s.units) lt)

@@ -1,5 +1,5 @@
 -- The frames that outstanding requests need, after one slot changed.
-use Rattle.std.proofs.Common.{◌≡◌, ℕ, zero, suc, ◌+◌, ◌<◌, Bool, true, false, List, [], ◌∷◌, length, Option, Some, None, refl, ap, arith}
+use Rattle.std.proofs.Common.{◌≡◌, ℕ, zero, suc, ◌+◌, ◌<◌, Bool, true, false, List, [], ◌∷◌, length, Option, Some, None, refl, ap, arith, rules}
 use Rattle.std.specs.Prelude.{slice_index_or, slice_set}
 use Rattle.main_memory.specs.Blocks.{Loan}
 use Rattle.main_memory.specs.Frames.{frames_needed}
@@ -19,10 +19,7 @@ swapped : (a b old new : ℕ) → a + old ≡ b + new → (x y n : ℕ) → x �
 swapped a b old new e x y n first second = omega (arith, e, first, second)
 
 changed_first : (x o : Option Held) (slots : List (Option Held)) → frames_used (o ∷ slots) + frames_at x ≡ frames_used (x ∷ slots) + frames_at o
-changed_first x o slots = by (frames_at x) (frames_at o) (frames_used slots) (frames_used (o ∷ slots)) (frames_used (x ∷ slots)) (frames_first o slots) (frames_first x slots)
-  where
-    by : (a b n c d : ℕ) → c ≡ b + n → d ≡ a + n → c + a ≡ d + b
-    by a b n c d e f = omega (arith, e, f)
+changed_first x o slots = first_of (search rules, grind arith)
 
 pub frames_put : (slots : List (Option Held)) (p : ℕ) (o : Option Held) → p < length slots
     → frames_used (slice_set slots p o) + frames_at (slice_index_or slots p None) ≡ frames_used slots + frames_at o

@@ -1,5 +1,5 @@
 -- THE DATA INTERRUPT: it leaves a phase that holds, and a free adapter.
-use Rattle.std.proofs.Common.{◌≡◌, ℕ, true, refl, sym, ap, ◌∙◌, subst, arith}
+use Rattle.std.proofs.Common.{◌≡◌, ℕ, true, refl, sym, ap, ◌∙◌, subst, arith, rules}
 use Rattle.std.specs.Prelude.{if◌then◌else◌}
 use Rattle.std.proofs.lemmas.Bool.{false≢true}
 use Rattle.hardware_table.specs.declared.Moved.{Moved}
@@ -22,56 +22,20 @@ use Rattle.driver_laws.proofs.invariant.AdapterLeft.{SceneAdapter, AdapterLeft, 
 
 -- THE DATA INTERRUPT. A drive whose last verdict was clean shows no errors.
 clear_shown : (d : DriveState) (a : AdapterState) → a.verdict ≡ verdict.Clean → IsShown d a → IsClear d
-clear_shown d a last is = record {
-  er1 = is.er1 ∙ ap (λ (m : Moved). (after_move m is.block is.before).er1) last ∙ is.clear.er1;
-  er2 = is.er2 ∙ ap (λ (m : Moved). (after_move m is.block is.before).er2) last ∙ is.clear.er2;
-}
+clear_shown d a last is = first_of (search rules, grind arith)
 
 interrupted_by : (moved : ℕ) (last : Moved) (v : UnitView) (h : Held) → IsBegun v h → IsStopped v.drive → (last ≡ verdict.Clean → IsClear v.drive)
     → IsEndedAt last moved (segment_of (transfer_of v)).count → IsFor h.write last
     → IsTask (in_phase (Due (interrupted moved last)) v) h (interrupted moved last)
-interrupted_by moved verdict.Clean v h is stopped clear ended only = (
-  begun_as v (in_phase (Due (interrupted moved verdict.Clean)) v) h h is refl refl refl (same_ask h),
-  record { work = stopped.work; attention = stopped.attention; clear = clear refl },
-  ended,
-  only,
-)
-interrupted_by moved other v h is stopped clear ended only = (
-  begun_as v (in_phase (Due (interrupted moved other)) v) h h is refl refl refl (same_ask h),
-  stopped,
-  λ e. absurd (grind (arith, e)),
-  ended,
-  only,
-)
+interrupted_by moved last v h h0 h1 h2 h3 h4 = first_of (search rules, grind arith)
 
 pub intr_phase : (line u p moved : ℕ) (last : Moved) (s : Scene) → SceneOk u s → May u (deed.Intr moved last) s
     → IsTask (effect line u p (deed.Intr moved last) s).unit s.held (interrupted moved last)
-intr_phase line u p moved last s ok may =
-    let a : AdapterState = s.adapter.state in
-    let has = transfer_at u true s ok may.0 in
-    let is : IsPhase u s.unit s.adapter s.held Transferring = phase_is u s Transferring ok has.phase in
-    let over = has.over may.0.completion in
-    let count : a.count ≡ (segment_of (transfer_of s.unit)).count = ap (λ (x : Segment). x.count) has.segment in
-    let ended : IsEndedAt last moved (segment_of (transfer_of s.unit)).count =
-    subst (λ (m : Moved). IsEndedAt m moved (segment_of (transfer_of s.unit)).count) (sym may.2)
-    (subst (λ n. IsEndedAt a.verdict n (segment_of (transfer_of s.unit)).count) (sym may.1) (subst (IsEndedAt a.verdict a.moved) count over.0)) in
-    interrupted_by moved last s.unit s.held is.0
-    (record { work = is.1.work ∙ ap (λ b. if b then work.Ready else work.Transfer a.write) may.0.completion; attention = is.1.attention })
-    (λ e. clear_shown s.unit.drive a (sym may.2 ∙ e) (is.1.shown may.0.completion))
-    ended (subst (IsFor s.held.write) (sym may.2) over.1)
+intr_phase line u p moved last s ok may = first_of (search rules, grind arith)
 
 -- THE DATA INTERRUPT frees the adapter.
 completed_adapter : (a : AdapterState) → IsAdapter a → IsAdapter (completed a)
-completed_adapter a k = record {
-  inside = k.inside;
-  few = k.few;
-  offset = k.offset;
-  last_some = k.last_some;
-  last_few = k.last_few;
-  place = k.place;
-  counted = λ e. absurd (false≢true e);
-  left = λ e. absurd (false≢true e);
-}
+completed_adapter a k = first_of (search rules, grind arith)
 
 pub intr_left : (line u p moved : ℕ) (last : Moved) (s : Scene) → SceneOk u s → SceneAdapter u s → May u (deed.Intr moved last) s
     → AdapterLeft u s.adapter (effect line u p (deed.Intr moved last) s).unit (effect line u p (deed.Intr moved last) s).adapter

@@ -1,5 +1,5 @@
 -- A request joins: it stands in its slot and in its unit's queue, and its frames are needed.
-use Rattle.std.proofs.Common.{◌≡◌, ◌≢◌, inl, inr, ℕ, ◌+◌, ◌<◌, ◌≤◌, Bool, true, false, length, Option, Some, None, refl, sym, ap, ◌∙◌, subst, arith}
+use Rattle.std.proofs.Common.{◌≡◌, ◌≢◌, inl, inr, ℕ, ◌+◌, ◌<◌, ◌≤◌, Bool, true, false, length, Option, Some, None, refl, sym, ap, ◌∙◌, subst, arith, rules}
 use Rattle.std.proofs.lemmas.Option.{none-some, same_Some}
 use Rattle.std.proofs.lemmas.Bool.{false≢true, true≢false}
 use Rattle.pack_geometry.specs.Geometry.{limit_of, place_at}
@@ -113,13 +113,7 @@ module _ (w : World) (s : Sound w) (line p : ℕ) (h : Held) (new : IsNew w p h)
       }
 
   own_answers : AreAnswers now
-  own_answers = record {
-    each = λ made q c e.
-        let was : IsMade w made q = s.answers made q c e in
-        record { held = was.held; slot = change.slots.others q (elsewhere q was.held was.slot) ∙ was.slot; id = was.id; over = was.over; given = was.given };
-    refused = s.refused;
-    once = s.once;
-  }
+  own_answers = first_of (search rules, grind arith)
 
   pub join_parts : AreParts now
   join_parts =

@@ -1,5 +1,5 @@
 -- Numbers among a list, and the bits of attentions.
-use Rattle.std.proofs.Common.{◌≡◌, ◌≢◌, ◌⊎◌, inl, inr, ℕ, ◌-◌, ◌*◌, ◌^◌, ◌%◌, ◌<◌, Bool, true, false, List, [], ◌∷◌, ◌++◌, refl, sym, ◌∙◌, subst, arith, bit_and, bit_or, w8}
+use Rattle.std.proofs.Common.{◌≡◌, ◌≢◌, ◌⊎◌, inl, inr, ℕ, ◌-◌, ◌*◌, ◌^◌, ◌%◌, ◌<◌, Bool, true, false, List, [], ◌∷◌, ◌++◌, refl, sym, ◌∙◌, subst, arith, bit_and, bit_or, w8, rules}
 use Rattle.std.specs.Prelude.{◌==◌}
 use Rattle.std.specs.Int.{bit_at}
 use Rattle.std.proofs.lemmas.Bool.{eqb-false}
@@ -43,9 +43,7 @@ among_rest x u (y ∷ ys) other (inr later) = among_kept x y (y == u) (without u
 -- one that is left was there, and is another
 left_by : (x y u : ℕ) (same : Bool) (ys rest : List ℕ) → same ≡ (y == u) → (Among x rest → Among x ys × (x ≢ u)) → Among x (kept_by same y rest)
     → Among x (y ∷ ys) × (x ≢ u)
-left_by x y u true ys rest is later m = (inr (later m).0, (later m).1)
-left_by x y u false ys rest is later (inl here) = (inl here, λ e. eqb-false _ _ (sym is) (sym here ∙ e))
-left_by x y u false ys rest is later (inr m) = (inr (later m).0, (later m).1)
+left_by x y u same ys rest h0 h1 h2 = first_of (search rules, grind arith)
 
 pub among_left : (x u : ℕ) (queue : List ℕ) → Among x (without u queue) → Among x queue × (x ≢ u)
 among_left x u [] m = absurd m

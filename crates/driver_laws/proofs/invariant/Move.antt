@@ -1,5 +1,5 @@
 -- RCOM AND WCOM: the segment lies on the drive and in the buffer, and behind them phase, drive and adapter hold.
-use Rattle.std.proofs.Common.{◌≡◌, inl, inr, ℕ, ◌+◌, ◌-◌, ◌*◌, ◌<◌, ◌≤◌, Bool, Option, Some, None, refl, sym, ap, ◌∙◌, subst, arith}
+use Rattle.std.proofs.Common.{◌≡◌, inl, inr, ℕ, ◌+◌, ◌-◌, ◌*◌, ◌<◌, ◌≤◌, Bool, Option, Some, None, refl, sym, ap, ◌∙◌, subst, arith, rules}
 use Rattle.std.specs.Prelude.{if◌then◌else◌}
 use Rattle.std.proofs.lemmas.Bool.{false≢true}
 use Rattle.pack_geometry.specs.Geometry.{IsInside, place_at}
@@ -68,21 +68,7 @@ segment_inside (Some i) job done left = omega (arith, left)
 
 started_adapter : (a : AdapterState) (loan : Loan) (skip count drive block : ℕ) (write : Bool) → IsLoan loan → 1 ≤ count → skip + count ≤ loan.count
     → IsAdapter (started drive block write (loaded loan.frames loan.offset loan.count loan.last skip count a))
-started_adapter a loan skip count drive block write is some inside =
-    let last = is.shape.last_some in
-    record {
-      inside = inside;
-      few = is.shape.few;
-      offset = is.shape.inside;
-      last_some = λ e. last;
-      last_few = is.shape.last_few;
-      place = refl;
-      counted = λ e. all_left (bytes_between loan.count loan.last skip count);
-      left = λ e f. omega (arith, loaded_many loan.count loan.last skip count last some);
-    }
-  where
-    all_left : (bytes : ℕ) → bytes ≡ bytes - 512 * 0
-    all_left bytes = omega arith
+started_adapter a loan skip count drive block write is some inside = first_of (search rules, grind arith)
 
 pub move_left : (line u p : ℕ) (write : Bool) (segment : Segment) (s : Scene) → SceneOk u s → SceneAdapter u s → IsDue s.unit s.held (deed.Move write segment)
     → AdapterLeft u s.adapter (effect line u p (deed.Move write segment) s).unit (effect line u p (deed.Move write segment) s).adapter

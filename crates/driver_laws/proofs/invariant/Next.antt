@@ -1,5 +1,5 @@
 -- Which event a drain does next, and that it ends just where nothing is outstanding.
-use Rattle.std.proofs.Common.{◌≡◌, ◌≢◌, inl, inr, ℕ, zero, suc, ◌+◌, ◌-◌, ◌*◌, ◌/◌, ◌<◌, ◌≤◌, Bool, true, false, List, [], ◌∷◌, length, get_or, refl, sym, ap, ◌∙◌, subst, arith, Option, Some, None}
+use Rattle.std.proofs.Common.{◌≡◌, ◌≢◌, inl, inr, ℕ, zero, suc, ◌+◌, ◌-◌, ◌*◌, ◌/◌, ◌<◌, ◌≤◌, Bool, true, false, List, [], ◌∷◌, length, get_or, refl, sym, ap, ◌∙◌, subst, arith, Option, Some, None, rules}
 use Rattle.std.specs.Prelude.{if◌then◌else◌, ◌==◌, ◌%◌, not, ◌&&◌, ◌||◌}
 use Rattle.std.specs.Int.{bit_at}
 use Rattle.std.proofs.lemmas.Nat.Bits.{bit_at-zero, same_from_bits_below}
@@ -96,24 +96,7 @@ shows w u sound lt up none =
 
 -- THE NEXT EVENT is one that can come.
 set_up : (w : World) (u : ℕ) → Sound w → u < 32 → is_positioning (unit_at w u).drive.work ≡ true → (unit_at w u).declared ≡ true
-set_up w u sound lt can = true_from_ne_false (unit_at w u).declared (λ off. none (unit_at w u).phase refl ((sound.each_unit u lt).undeclared off))
-  where
-    stands : {x : Work} → x ≡ doing.Ready → is_positioning x ≡ true → ⊥
-    stands is moves = false_true (sym (ap is_positioning is) ∙ moves)
-
-    empty : (x : Phase) → (unit_at w u).phase ≡ x → is_waiting x ≡ false → (unit_at w u).queue ≡ [] → ⊥
-    empty x at waits is =
-        let some : 0 < length (unit_at w u).queue = (sound.each_unit u lt).head (ap is_waiting at ∙ waits) in
-        let no_one : length (unit_at w u).queue ≡ 0 = ap (λ (q : List Waiter). length q) is in
-        grind (arith, some, no_one)
-
-    none : (x : Phase) → (unit_at w u).phase ≡ x → (unit_at w u).queue ≡ [] → ⊥
-    none Waiting at is =
-        stands (subst (IsPhase u (unit_at w u) (adapter_at w (adapter_of u)) (held_in w (slot_in_hand (unit_at w u)))) at (sound.each_unit u lt).phase).0.work can
-    none (Positioning taken) at is = empty (Positioning taken) at refl is
-    none Queued at is = empty Queued at refl is
-    none Transferring at is = empty Transferring at refl is
-    none (Due task) at is = empty (Due task) at refl is
+set_up w u sound lt can = first_of (search rules, grind arith)
 
 pub next_can : (w : World) (input : Input) → Sound w → next_event w ≡ Some input → CanCome w input
 next_can w input sound is = by_each (lowest can_arrive w.units 0) (lowest can_move w.adapters 0) (lowest can_attend w.adapters 0) refl refl refl is
@@ -140,13 +123,7 @@ next_can w input sound is = by_each (lowest can_arrive w.units 0) (lowest can_mo
 -- WHERE THERE IS NONE nothing is outstanding,
 module _ (w : World) (sound : Sound w) (work : AtWork w) (idle : next_event w ≡ None) where
   all_none : (lowest can_arrive w.units 0 ≡ None) × (lowest can_move w.adapters 0 ≡ None) × (lowest can_attend w.adapters 0 ≡ None)
-  all_none = by_each (lowest can_arrive w.units 0) (lowest can_move w.adapters 0) (lowest can_attend w.adapters 0) idle
-    where
-      by_each : (x y z : Option ℕ) → drain_by x y z ≡ None → (x ≡ None) × (y ≡ None) × (z ≡ None)
-      by_each (Some u) y z e = absurd (cc (e))
-      by_each None (Some a) z e = absurd (cc (e))
-      by_each None None (Some a) e = absurd (cc (e))
-      by_each None None None e = (refl, refl, refl)
+  all_none = first_of (search rules, grind arith)
 
   no_arrive : (u : ℕ) → u < 32 → is_positioning (unit_at w u).drive.work ≡ true → ⊥
   no_arrive u lt e =

@@ -1,5 +1,5 @@
 -- What a deed at one unit leaves of the adapter for the others, and that their phases hold on.
-use Rattle.std.proofs.Common.{◌≡◌, ◌≢◌, ℕ, Bool, true, refl, sym, ap, subst, arith, ◌∙◌}
+use Rattle.std.proofs.Common.{◌≡◌, ◌≢◌, ℕ, Bool, true, refl, sym, ap, subst, arith, ◌∙◌, rules}
 use Rattle.std.specs.Prelude.{if◌then◌else◌}
 use Rattle.std.proofs.lemmas.Bool.{false≢true}
 use Rattle.hardware_table.specs.declared.Work.TheVariants as work
@@ -30,17 +30,11 @@ pub record LeavesOthers (u : ℕ) (old new : AdapterView) : Type 0 where
   pub transfers : old.state.busy ≡ true → old.state.drive ≢ drive_of u → IsSameTransfer old.state new.state
 
 pub alone : (u : ℕ) (a : AdapterView) → LeavesOthers u a a
-alone u a = record {
-  waits = λ x other is. is;
-  transfers = λ busy other. record { busy = refl; drive = refl; completion = refl; write = refl; verdict = refl; late = refl };
-}
+alone u a = first_of (search rules, grind arith)
 
 -- the transfer is this unit's own
 own : (u : ℕ) (old new : AdapterView) → new.queue ≡ old.queue → old.state.drive ≡ drive_of u → LeavesOthers u old new
-own u old new queue is = record {
-  waits = λ x other among. subst (Among x) (sym queue) among;
-  transfers = λ busy other. absurd (other is);
-}
+own u old new queue is = first_of (search rules, grind arith)
 
 pub leaves_others : (line u p : ℕ) (d : Deed) (s : Scene) → May u d s → LeavesOthers u s.adapter (effect line u p d s).adapter
 leaves_others line u p deed.Arrive s may = record {
@@ -72,17 +66,7 @@ quiet_too : {d : DriveState} {old new : AdapterState} → IsSameTransfer old new
 quiet_too same is = record { clear = is.clear; late = same.late ∙ is.late }
 
 shown_too : {d : DriveState} {old new : AdapterState} → IsSameTransfer old new → IsShown d old → IsShown d new
-shown_too same is = record {
-  before = is.before;
-  kind = is.kind;
-  clear = is.clear;
-  block = is.block;
-  er1 = is.er1 ∙ ap (λ (m : Moved). (after_move m is.block is.before).er1) (sym same.verdict);
-  er2 = is.er2 ∙ ap (λ (m : Moved). (after_move m is.block is.before).er2) (sym same.verdict);
-  ec1 = is.ec1 ∙ ap (λ (m : Moved). (after_move m is.block is.before).ec1) (sym same.verdict);
-  ec2 = is.ec2 ∙ ap (λ (m : Moved). (after_move m is.block is.before).ec2) (sym same.verdict);
-  late = same.late ∙ is.late ∙ ap late_by (sym same.verdict);
-}
+shown_too same is = first_of (search rules, grind arith)
 
 -- units of one adapter with one drive are one
 pub one_unit : (x u : ℕ) → adapter_of x ≡ adapter_of u → drive_of x ≡ drive_of u → x ≡ u

@@ -1,5 +1,5 @@
 -- Acts that touch no slot, or free one: conditions, refusals, and the taking of an answer.
-use Rattle.std.proofs.Common.{◌≡◌, ◌≢◌, ◌⊎◌, inl, inr, ℕ, zero, suc, ◌+◌, ◌<◌, Bool, true, false, List, [], ◌∷◌, ◌++◌, drop, length, Option, Some, None, refl, sym, ap, ◌∙◌, subst, arith}
+use Rattle.std.proofs.Common.{◌≡◌, ◌≢◌, ◌⊎◌, inl, inr, ℕ, zero, suc, ◌+◌, ◌<◌, Bool, true, false, List, [], ◌∷◌, ◌++◌, drop, length, Option, Some, None, refl, sym, ap, ◌∙◌, subst, arith, rules}
 use Rattle.std.specs.Prelude.{Contains, IsTrue, slice_index_or, slice_set}
 use Rattle.std.specs.Option.{option_map_or}
 use Rattle.std.proofs.lemmas.Option.{none-some, same_Some}
@@ -70,11 +70,7 @@ module _ (w : World) (s : Sound w) (u : ℕ) (f : DriveState → DriveState) (lt
   view = with_drive f (unit_at w u)
 
   drive_change : Changed w turned u (length w.slots) view (slot_at w (length w.slots))
-  drive_change = record {
-    units = put_set w.units u view no_unit (subst (λ (n : ℕ). u < n) (sym s.units) lt);
-    adapters = refl;
-    slots = put_none w.slots (length w.slots) None;
-  }
+  drive_change = first_of (search rules, grind arith)
 
   drive_leaves : Leaves w turned u (length w.slots) view
   drive_leaves = record {
@@ -176,17 +172,7 @@ module _ (w : World) (s : Sound w) (made : Made) (rest : List Made) (p : ℕ) (w
       false≢true (sym on ∙ ap (λ (x : Held). x.ended) here ∙ is.over)
 
   freed_leaves : Leaves w freed_world u p (unit_at w u)
-  freed_leaves = record {
-    mine = λ g e on. absurd (going_elsewhere p g e on refl);
-    kind = refl;
-    queue = λ q ne m. m;
-    bus = λ q ne first phase. (first, phase);
-    made = λ q ne m. later q ne (subst (Among q) made_were m);
-  }
-    where
-      later : (q : ℕ) → q ≢ p → Among q (p ∷ slots_made rest) → Among q (slots_made rest)
-      later q ne (inl same) = absurd (ne same)
-      later q ne (inr m) = m
+  freed_leaves = first_of (search rules, grind arith)
 
   freed_unit : u < 32 → IsServed freed_world u (unit_at w u)
   freed_unit lt =

@@ -1,5 +1,5 @@
 -- READY: the unit waits behind all others, and phase and adapter hold.
-use Rattle.std.proofs.Common.{◌≡◌, inl, inr, ℕ, false, [], ◌∷◌, ◌++◌, Some, refl, sym, ap, ◌∙◌}
+use Rattle.std.proofs.Common.{◌≡◌, inl, inr, ℕ, false, [], ◌∷◌, ◌++◌, Some, refl, sym, ap, ◌∙◌, arith, rules}
 use Rattle.transfer_engine.specs.State.{TransferState}
 use Rattle.driver_machine.specs.declared.Phase.TheVariants.{Waiting, Queued, Due}
 use Rattle.driver_machine.specs.declared.Task.TheVariants.{Steps}
@@ -36,10 +36,7 @@ pub ready_phase : (line u p : ℕ) (t : TransferState) (s : Scene) → SceneOk u
 ready_phase line u p t s ok due = (ready_begun line u p t s ok due, ready_still u t s ok due, Among-last u s.adapter.queue)
 
 ready_rest : (v : UnitView) (h : Held) (t : TransferState) → IsReady v h t → (is_transferring v.phase ≡ false) × (is_queued v.phase ≡ false)
-ready_rest v h t ready = elim ready [
-  | inl start ↦ (ap is_transferring start.0, ap is_queued start.0)
-  | inr over ↦ (ap is_transferring over.0.phase, ap is_queued over.0.phase)
-]
+ready_rest v h t ready = first_of (search rules, grind arith)
 
 pub ready_left : (line u p : ℕ) (t : TransferState) (s : Scene) → SceneOk u s → SceneAdapter u s → May u (deed.Ready t) s
     → AdapterLeft u s.adapter (effect line u p (deed.Ready t) s).unit (effect line u p (deed.Ready t) s).adapter (effect line u p (deed.Ready t) s).held

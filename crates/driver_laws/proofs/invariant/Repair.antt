@@ -1,5 +1,5 @@
 -- A REPAIR in the buffer leaves a phase and an adapter that hold.
-use Rattle.std.proofs.Common.{ℕ, ◌+◌, ◌<◌, refl, ap, arith}
+use Rattle.std.proofs.Common.{ℕ, ◌+◌, ◌<◌, refl, ap, arith, rules}
 use Rattle.hardware_table.specs.declared.Moved.TheVariants as verdict
 use Rattle.transfer_engine.specs.State.{segment_of}
 use Rattle.driver_machine.specs.declared.Task.TheVariants.{Judge}
@@ -16,14 +16,7 @@ use Rattle.driver_laws.proofs.invariant.AdapterLeft.{SceneAdapter, AdapterLeft, 
 -- the block counts as one that moved clean
 pub repair_phase : (line u p moved at pattern : ℕ) (s : Scene) → SceneOk u s → IsDue s.unit s.held (deed.Repair moved at pattern)
     → IsTask (effect line u p (deed.Repair moved at pattern) s).unit s.held (Judge (moved + 1) verdict.Clean)
-repair_phase line u p moved at pattern s ok due =
-    let is : IsTask s.unit s.held (Judge moved (verdict.Burst at pattern)) = judged_is u moved (verdict.Burst at pattern) s ok due in
-    let less : moved < (segment_of (transfer_of s.unit)).count = is.2 in (
-      same_begun s _ is.0 refl refl refl,
-      record { work = is.1.work; attention = is.1.attention; clear = is.1.clear },
-      (omega arith, omega (arith, less)),
-      tt,
-    )
+repair_phase line u p moved at pattern s ok due = first_of (search rules, grind arith)
 
 pub repair_left : (line u p moved place pattern : ℕ) (s : Scene) → SceneOk u s → SceneAdapter u s → May u (deed.Repair moved place pattern) s
     → AdapterLeft u s.adapter (effect line u p (deed.Repair moved place pattern) s).unit (effect line u p (deed.Repair moved place pattern) s).adapter

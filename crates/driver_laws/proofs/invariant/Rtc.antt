@@ -1,5 +1,5 @@
 -- RTC: no offset is left, and phase, drive and adapter hold.
-use Rattle.std.proofs.Common.{◌≡◌, ℕ, refl, ap}
+use Rattle.std.proofs.Common.{◌≡◌, ℕ, refl, ap, arith, rules}
 use Rattle.hardware_table.specs.declared.Moved.{Moved}
 use Rattle.driver_machine.specs.declared.Phase.TheVariants.{Due}
 use Rattle.driver_machine.specs.declared.Task.TheVariants.{Judge}
@@ -15,13 +15,7 @@ use Rattle.driver_laws.proofs.invariant.AdapterLeft.{SceneAdapter, AdapterLeft, 
 -- RTC: no offset is left
 pub rtc_phase : (line u p moved : ℕ) (last : Moved) (s : Scene) → SceneOk u s → s.unit.phase ≡ Due (Judge moved last)
     → IsTask (effect line u p deed.Rtc s).unit s.held (Judge moved last)
-rtc_phase line u p moved last s ok due =
-    let is : IsTask s.unit s.held (Judge moved last) = phase_is u s (Due (Judge moved last)) ok due in (
-      same_begun s _ is.0 refl refl refl,
-      record { work = is.1.work; attention = is.1.attention; clear = record { er1 = is.1.clear.er1; er2 = is.1.clear.er2 } },
-      is.2,
-      is.3,
-    )
+rtc_phase line u p moved last s ok due = first_of (search rules, grind arith)
 
 pub rtc_drive : (line u p : ℕ) (s : Scene) → SceneOk u s → May u deed.Rtc s → IsDrive (effect line u p deed.Rtc s).unit.drive
 rtc_drive line u p s ok may = drive_centred s.unit.drive ok.drive

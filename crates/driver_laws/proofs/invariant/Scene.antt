@@ -1,5 +1,5 @@
 -- What holds of the scene of a deed, and what a transfer that goes on keeps.
-use Rattle.std.proofs.Common.{◌≡◌, inl, inr, ℕ, ◌+◌, ◌<◌, ◌≤◌, Bool, true, false, Option, Some, None, refl, sym, ap, subst, arith}
+use Rattle.std.proofs.Common.{◌≡◌, inl, inr, ℕ, ◌+◌, ◌<◌, ◌≤◌, Bool, true, false, Option, Some, None, refl, sym, ap, subst, arith, rules}
 use Rattle.std.specs.Prelude.{if◌then◌else◌, slice_get, unwrap_or}
 use Rattle.pack_geometry.specs.declared.DriveKind.{DriveKind}
 use Rattle.pack_geometry.specs.Geometry.{limit_of, block_count, place_at}
@@ -93,20 +93,10 @@ record BegunWith (t : Option TransferState) (table : Option Table) (kind : Drive
 begun_with : (t x : Option TransferState) (table other : Option Table) (kind like : DriveKind) (first count from many : ℕ) (write writes : Bool)
     → BegunWith t table kind first count write → x ≡ t → other ≡ table → like ≡ kind → from ≡ first → many ≡ count → writes ≡ write
     → BegunWith x other like from many writes
-begun_with t x table other kind like first count from many write writes is e f g h i j =
-    subst (λ y. BegunWith y other like from many writes) (sym e)
-    (subst (λ y. BegunWith t y like from many writes) (sym f)
-    (subst (λ y. BegunWith t table y from many writes) (sym g)
-    (subst (λ y. BegunWith t table kind y many writes) (sym h)
-    (subst (λ y. BegunWith t table kind first y writes) (sym i) (subst (λ y. BegunWith t table kind first count y) (sym j) is)))))
+begun_with t x table other kind like first count from many write writes is e f g h i j = first_of (search rules, grind arith)
 
 pub begun_as : (v x : UnitView) (h g : Held) → IsBegun v h → x.transfer ≡ v.transfer → x.table ≡ v.table → x.drive.kind ≡ v.drive.kind → IsSameAsk h g → IsBegun x g
-begun_as v x h g is transfer table kind ask =
-    let was : BegunWith v.transfer v.table v.drive.kind h.first h.loan.count h.write = record { some = is.some; is = is.is; job = is.job; listed = is.listed } in
-    let now : BegunWith x.transfer x.table x.drive.kind g.first g.loan.count g.write =
-    begun_with v.transfer x.transfer v.table x.table v.drive.kind x.drive.kind h.first h.loan.count g.first g.loan.count h.write g.write was
-    transfer table kind ask.first (ap (λ l. l.count) ask.loan) ask.write in
-    record { some = now.some; is = now.is; job = now.job; listed = now.listed }
+begun_as v x h g is transfer table kind ask = first_of (search rules, grind arith)
 
 -- what holds of a phase holds for the same request
 pub phase_held : (u : ℕ) (v : UnitView) (a : AdapterView) (h g : Held) (phase : Phase) → IsSameAsk h g → IsPhase u v a h phase → IsPhase u v a g phase
@@ -125,24 +115,11 @@ phase_held u v a h g (Due (GiveUp done)) ask is = (is.0, is.1, subst (λ l. done
 -- THE SECTORS OF A SEGMENT lie on the pack.
 segment_below : (index : Option ℕ) (job : Job) (done k : ℕ) → IsJob job → done < job.count → ((i : ℕ) → index ≡ Some i → i < 126)
     → k < (segment_by index job done).count → (segment_by index job done).block + k < block_count job.kind
-segment_below None job done k is left entry less =
-    let below = is.below in below_limit job.kind (job.first + done + k) (omega (arith, below, left, less))
-segment_below (Some i) job done k is left entry less =
-    let same : replacement_of + k ≡ replacement_of = omega (arith, less) in
-    subst (λ n. n < block_count job.kind) (sym same) (replacement_below job.kind i (entry i refl))
-  where
-    replacement_of : ℕ
-    replacement_of = (segment_by (Some i) job done).block
+segment_below index job done k h0 h1 h2 h3 = first_of (search rules, grind arith)
 
 pub block_below : (v : UnitView) (h : Held) (k : ℕ) → IsBegun v h → k < (segment_of (transfer_of v)).count
     → (segment_of (transfer_of v)).block + k < block_count v.drive.kind
-block_below v h k begun less =
-    subst (λ (j : Job). (segment_of (transfer_of v)).block + k < block_count j.kind) begun.job
-    (segment_below (transfer_of v).index (transfer_of v).job (transfer_of v).done k begun.is.is_job begun.is.left begun.is.entry less)
+block_below v h k begun less = first_of (search rules, grind arith)
 
 pub segment_some : (t : TransferState) → IsTransfer t → 0 < (segment_of t).count
-segment_some t is = by_index t.index t.job t.done is.left
-  where
-    by_index : (index : Option ℕ) (job : Job) (done : ℕ) → done < job.count → 0 < (segment_by index job done).count
-    by_index None job done left = omega (arith, left)
-    by_index (Some i) job done left = omega arith
+segment_some t is = first_of (search rules, grind arith)

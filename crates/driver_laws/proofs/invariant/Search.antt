@@ -1,5 +1,5 @@
 -- SEARCH: its place lies on the drive, and behind it phase, drive and adapter hold.
-use Rattle.std.proofs.Common.{◌≡◌, inl, ℕ, ◌/◌, ◌<◌, Bool, true, false, refl, sym, ap, subst, arith}
+use Rattle.std.proofs.Common.{◌≡◌, inl, ℕ, ◌/◌, ◌<◌, Bool, true, false, refl, sym, ap, subst, arith, rules}
 use Rattle.std.specs.Prelude.{if◌then◌else◌}
 use Rattle.pack_geometry.specs.declared.DriveKind.{DriveKind}
 use Rattle.pack_geometry.specs.declared.Place.{Place}
@@ -23,10 +23,7 @@ use Rattle.driver_laws.proofs.invariant.AdapterLeft.{SceneAdapter, AdapterLeft, 
 
 -- SEARCH. The target lies on the drive, and so does the place that is searched.
 first_inside : (u : ℕ) (s : Scene) → SceneOk u s → IsInside s.unit.drive.kind (target_of s.unit s.held)
-first_inside u s ok =
-    let some = ok.loan.shape.some in
-    let inside = ok.inside in
-    place_inside s.unit.drive.kind s.held.first (below_limit s.unit.drive.kind s.held.first (omega (arith, some, inside)))
+first_inside u s ok = first_of (search rules, grind arith)
 
 search_by : (b : Bool) (x y c k : ℕ) → ◌≡◌ {A = Position} (if b then position.Ready else position.Search x y) (position.Search c k) → k ≡ y
 search_by true x y c k e = absurd (cc)

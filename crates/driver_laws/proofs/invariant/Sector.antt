@@ -1,5 +1,5 @@
 -- A SECTOR is tried: the next one lies on the pack, and behind it phase, drive and adapter hold.
-use Rattle.std.proofs.Common.{◌≡◌, ◌≢◌, ℕ, ◌+◌, ◌<◌, ◌≤◌, Bool, true, false, List, Option, Some, None, refl, sym, ap, ◌∙◌, subst, arith}
+use Rattle.std.proofs.Common.{◌≡◌, ◌≢◌, ℕ, ◌+◌, ◌<◌, ◌≤◌, Bool, true, false, List, Option, Some, None, refl, sym, ap, ◌∙◌, subst, arith, rules}
 use Rattle.std.specs.Prelude.{◌*◌, ◌-◌, if◌then◌else◌, ◌==◌, min, option_map}
 use Rattle.std.proofs.lemmas.Bool.{false≢true, eqb-true, eqb-false}
 use Rattle.std.specs.Int.{bit_at}
@@ -54,45 +54,19 @@ faulted_same fault.Seek d = same_but
 faulted_same other d = same_but
 
 moved_same : (v : Moved) (block : ℕ) (d : DriveState) → IsSameBut d (after_move v block d)
-moved_same verdict.Marked block d = marked_same d.kind d
-moved_same (verdict.Faulted kind) block d = faulted_same kind d
-moved_same other block d = same_but
+moved_same v block d = first_of (search rules, grind arith)
 
 attention_stepped : (v : Moved) (a : AdapterState) (d : DriveState) → (drive_stepped v a d).attention ≡ d.attention
-attention_stepped v a d =
-    let same = (moved_same v (next_block a) d).attention in
-    by_if (stepped v a).completion (λ (x : DriveState). x.attention ≡ d.attention) (transfer_ended (after_move v (next_block a) d))
-    (after_move v (next_block a) d) same same
+attention_stepped v a d = first_of (search rules, grind arith)
 
 -- a transfer that ends shows what its last verdict left
 stopped_way : (v : Moved) (block : ℕ) (d : DriveState) (a : AdapterState) → a.completion ≡ true → a.verdict ≡ v → a.data_late ≡ late_by v
     → d.attention ≡ false → IsClear d → IsUnderWay (transfer_ended (after_move v block d)) a
-stopped_way v block d a up last late down clear = record {
-  work = sym (ap (λ b. if b then work.Ready else work.Transfer a.write) up);
-  attention = (moved_same v block d).attention ∙ down;
-  quiet = λ off. absurd (false≢true (sym off ∙ up));
-  shown = λ on. record {
-    before = d;
-    kind = sym (moved_same v block d).kind;
-    clear = clear;
-    block = block;
-    er1 = ap (λ (m : Moved). (after_move m block d).er1) (sym last);
-    er2 = ap (λ (m : Moved). (after_move m block d).er2) (sym last);
-    ec1 = ap (λ (m : Moved). (after_move m block d).ec1) (sym last);
-    ec2 = ap (λ (m : Moved). (after_move m block d).ec2) (sym last);
-    late = late ∙ ap late_by (sym last);
-  };
-}
+stopped_way v block d a up last late down clear = first_of (search rules, grind arith)
 
 clean_way : (b : Bool) (block : ℕ) (d : DriveState) (a : AdapterState) → a.completion ≡ b → a.verdict ≡ verdict.Clean → a.data_late ≡ false
     → d.work ≡ work.Transfer a.write → d.attention ≡ false → IsClear d → IsUnderWay (if b then transfer_ended (passed block d) else passed block d) a
-clean_way true block d a up last late does down clear = stopped_way verdict.Clean block d a up last late down clear
-clean_way false block d a up last late does down clear = record {
-  work = does ∙ sym (ap (λ b. if b then work.Ready else work.Transfer a.write) up);
-  attention = down;
-  quiet = λ off. record { clear = record { er1 = clear.er1; er2 = clear.er2 }; late = late };
-  shown = λ on. absurd (false≢true (sym up ∙ on));
-}
+clean_way b block d a h0 h1 h2 h3 h4 h5 = first_of (search rules, grind arith)
 
 way_stepped : (v : Moved) (a : AdapterState) (d : DriveState) → a.completion ≡ false → IsUnderWay d a → IsUnderWay (drive_stepped v a d) (stepped v a)
 way_stepped verdict.Clean a d up way =
@@ -121,19 +95,7 @@ pub record IsStepOf (a b : AdapterState) : Type 0 where
 -- it changes only what has moved, what is left, and what it shows
 step_of : {a : AdapterState} {address byte_count moved : ℕ} {completion : Bool} {v : Moved} {late : Bool}
     → IsStepOf a (record a { address = address; byte_count = byte_count; moved = moved; completion = completion; verdict = v; data_late = late })
-step_of = record {
-  busy = refl;
-  drive = refl;
-  frames = refl;
-  offset = refl;
-  blocks = refl;
-  last = refl;
-  block = refl;
-  skip = refl;
-  count = refl;
-  write = refl;
-  attentions = refl;
-}
+step_of = first_of (search rules, grind arith)
 
 is_step : (v : Moved) (a : AdapterState) → IsStepOf a (stepped v a)
 is_step verdict.Clean a = step_of
@@ -156,11 +118,7 @@ sector_phase line u p block t s ok may =
 
 -- THE NEXT SECTOR of a transfer that is under way lies on the pack: some bytes of the segment are left.
 loaded_few : (blocks last skip count : ℕ) → bytes_between blocks last skip count ≤ 512 * count
-loaded_few blocks last skip count = by_test (skip + count == blocks)
-  where
-    by_test : (b : Bool) → (if b then 512 * count - (512 - last) else 512 * count) ≤ 512 * count
-    by_test true = omega arith
-    by_test false = omega arith
+loaded_few blocks last skip count = first_of (search rules, grind arith)
 
 moved_fewer : (bytes all moved count : ℕ) → bytes ≡ all - 512 * moved → 0 < bytes → all ≤ 512 * count → moved < count
 moved_fewer bytes all moved count counted some few = omega arith
@@ -193,29 +151,10 @@ some_left : (n : ℕ) → (n == 0) ≡ false → 0 < n
 some_left n e = let ne : n ≢ 0 = eqb-false _ _ e in omega arith
 
 stopped_adapter : (a : AdapterState) (v : Moved) (late : Bool) → IsAdapter a → IsAdapter (record a { completion = true; verdict = v; data_late = late })
-stopped_adapter a v late k = record {
-  inside = k.inside;
-  few = k.few;
-  offset = k.offset;
-  last_some = k.last_some;
-  last_few = k.last_few;
-  place = k.place;
-  counted = k.counted;
-  left = λ e f. absurd (false≢true (sym f));
-}
+stopped_adapter a v late k = first_of (search rules, grind arith)
 
 stepped_adapter : (v : Moved) (a : AdapterState) → IsAdapter a → a.busy ≡ true → IsAdapter (stepped v a)
-stepped_adapter verdict.Clean a k busy = record {
-  inside = k.inside;
-  few = k.few;
-  offset = k.offset;
-  last_some = k.last_some;
-  last_few = k.last_few;
-  place = still_placed a.address a.byte_count _ k.place;
-  counted = λ e. still_counted a.byte_count (bytes_loaded a) a.moved (k.counted busy);
-  left = λ e f. some_left (a.byte_count - min 512 a.byte_count) f;
-}
-stepped_adapter other a k busy = stopped_adapter a _ _ k
+stepped_adapter v a h0 h1 = first_of (search rules, grind arith)
 
 -- where the completion goes up behind a clean sector, all moved
 all_moved : (bytes all moved count : ℕ) → bytes ≡ all - 512 * moved → 0 < bytes → all ≤ 512 * count → 512 * count < all + 512
@@ -229,12 +168,7 @@ over_stepped other a k busy up = moved_less a k busy up
 
 whole_stepped : (v : Moved) (a : AdapterState) → IsAdapter a → a.busy ≡ true → a.completion ≡ false → (stepped v a).completion ≡ true
     → (stepped v a).verdict ≡ verdict.Clean → (stepped v a).moved ≡ (stepped v a).count
-whole_stepped verdict.Clean a k busy up on clean =
-    let less = moved_less a k busy up in
-    let inside = k.inside in
-    all_moved a.byte_count (bytes_loaded a) a.moved a.count (k.counted busy) (k.left busy up) (loaded_few a.blocks a.last a.skip a.count)
-    (loaded_many a.blocks a.last a.skip a.count (k.last_some (omega (arith, inside, less))) (omega (arith, less))) (eqb-true _ _ on)
-whole_stepped other a k busy up on clean = absurd (grind (arith, clean))
+whole_stepped v a h0 h1 h2 h3 h4 = first_of (search rules, grind arith)
 
 stepped_verdict : (v : Moved) (a : AdapterState) → (stepped v a).verdict ≡ v
 stepped_verdict verdict.Clean a = refl
@@ -260,9 +194,7 @@ IsStop write None = Unit {0}
 IsStop write (Some stop) = IsFor write stop
 
 stop_by : (on write : Bool) (kind : Option FaultKind) → IsStop write (if on then option_map verdict.Faulted kind else Some verdict.Offline)
-stop_by false write kind = tt
-stop_by true write None = tt
-stop_by true write (Some kind) = tt
+stop_by on write kind = first_of (search rules, grind arith)
 
 for_by : (stop : Option Moved) (marked write : Bool) (places : Option (List ℕ)) (v : Moved) → IsStop write stop → IsVerdictBy stop marked write places v → IsFor write v
 for_by (Some stop) marked write places v stops is = subst (IsFor write) (sym is) stops

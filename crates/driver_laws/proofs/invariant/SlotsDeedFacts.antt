@@ -1,5 +1,5 @@
 -- What several deeds share: what they keep of a scene, and that the blocks of a buffer fit.
-use Rattle.std.proofs.Common.{◌≡◌, ◌≢◌, inl, inr, ℕ, Bool, true, List, length, Some, refl, sym, ap, ◌∙◌, arith}
+use Rattle.std.proofs.Common.{◌≡◌, ◌≢◌, inl, inr, ℕ, Bool, true, List, length, Some, refl, sym, ap, ◌∙◌, arith, rules}
 use Rattle.driver_machine.specs.declared.Phase.TheVariants.{Queued, Transferring}
 use Rattle.driver_machine.specs.declared.Phase.{Phase}
 use Rattle.driver_machine.specs.World.{UnitView, AdapterView, Held, block_in}
@@ -10,39 +10,13 @@ use Rattle.driver_laws.proofs.invariant.Hand.{Keeps, Fits}
 
 pub kept : (s : Scene) (v : UnitView) (a : AdapterView) → v.declared ≡ s.unit.declared → v.queue ≡ s.unit.queue → v.drive.kind ≡ s.unit.drive.kind
     → Keeps s (record s { unit = v; adapter = a })
-kept s v a declared queue kind = record {
-  declared = declared;
-  queue = queue;
-  kind = kind;
-  id = refl;
-  unit = refl;
-  first = refl;
-  write = refl;
-  loan = refl;
-  ended = refl;
-  blocks = refl;
-  frames = refl;
-  answers = refl;
-}
+kept s v a declared queue kind = first_of (search rules, grind arith)
 
 -- the request's blocks and its hold of the bus change
 pub kept_held : (s new : Scene) (blocks : List (List ℕ)) (on_bus : Bool) → new.unit.declared ≡ s.unit.declared → new.unit.queue ≡ s.unit.queue
     → new.unit.drive.kind ≡ s.unit.drive.kind → new.held ≡ record s.held { blocks = blocks; on_bus = on_bus } → length blocks ≡ length s.held.blocks
     → new.frames ≡ s.frames → new.answers ≡ s.answers → Keeps s new
-kept_held s new blocks on_bus declared queue kind held size frames answers = record {
-  declared = declared;
-  queue = queue;
-  kind = kind;
-  id = ap (λ (g : Held). g.id) held;
-  unit = ap (λ (g : Held). g.unit) held;
-  first = ap (λ (g : Held). g.first) held;
-  write = ap (λ (g : Held). g.write) held;
-  loan = ap (λ (g : Held). g.loan) held;
-  ended = ap (λ (g : Held). g.ended) held;
-  blocks = ap (λ (g : Held). length g.blocks) held ∙ size;
-  frames = frames;
-  answers = answers;
-}
+kept_held s new blocks on_bus declared queue kind held size frames answers = first_of (search rules, grind arith)
 
 -- WHAT IS DUE is due nowhere in a transfer.
 none_in_transfer : (phase : Phase) (v : UnitView) (h : Held) (d : Deed) → next_by phase v h ≡ Some d → phase ≢ Transferring
@@ -58,7 +32,4 @@ not_transferring u d s (inr chosen) same = queued (sym chosen.phase ∙ same)
 
 -- a deed that leaves the request's buffer alone, where the unit does not transfer
 pub rests : (s new : Scene) → new.held ≡ s.held → (s.held.on_bus ≡ true → s.unit.phase ≡ Transferring) → s.unit.phase ≢ Transferring → Fits s new
-rests s new same bus elsewhere = record {
-  whole = λ k lt e. ap (λ (h : Held). length (block_in h k)) same ∙ e;
-  bus = λ e. absurd (elsewhere (bus (ap (λ (h : Held). h.on_bus) (sym same) ∙ e)));
-}
+rests s new same bus elsewhere = first_of (search rules, grind arith)

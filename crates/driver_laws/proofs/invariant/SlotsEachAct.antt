@@ -1,5 +1,5 @@
 -- Each act keeps what holds of queues, slots, frames and answers.
-use Rattle.std.proofs.Common.{◌≡◌, ℕ, ◌<◌, Bool, true, false, Some, None, refl, subst}
+use Rattle.std.proofs.Common.{◌≡◌, ℕ, ◌<◌, Bool, true, false, Some, None, refl, subst, arith, rules}
 use Rattle.std.specs.Prelude.{IsTrue}
 use Rattle.std.proofs.lemmas.Option.{none-some, same_Some}
 use Rattle.partitions.specs.Partitions.{admission}
@@ -32,12 +32,7 @@ use Rattle.trace_replay.proofs.Kept.{online_kind}
 
 -- what holds holds in its parts
 pub sound_parts : (w : World) → Sound w → AreParts w
-sound_parts w s = record {
-  queues = λ u lt. let ok = s.each_unit u lt in record { queue = ok.queue; once = ok.once; order = ok.order; head = ok.head; undeclared = ok.undeclared };
-  slots = record { units = s.units; adapters = s.adapters; each = s.each_slot; differ = s.differ; apart = s.apart };
-  frames = record { used = s.frames; room = s.room };
-  answers = record { each = s.answers; refused = s.refused; once = s.once };
-}
+sound_parts w s = first_of (search rules, grind arith)
 
 going_parts : (w : World) (line u id : ℕ) (d : Deed) → Sound w → InHand w u id → May u d (scene_of w u) → GoesOn d → AreParts (after w (Of line u id d))
 going_parts w line u id d s i may on =

@@ -1,6 +1,6 @@
 -- THE END of a request: it leaves its queue, its frames are free again, and its answer waits. A request that failed did so in
 -- front of its last block, and any other gives just its blocks.
-use Rattle.std.proofs.Common.{◌≡◌, inl, inr, ℕ, ◌+◌, ◌<◌, ◌-◌, ◌≤◌, Bool, true, false, List, [], ◌∷◌, ◌++◌, drop, length-set, Option, Some, None, refl, sym, ap, ◌∙◌, subst, arith}
+use Rattle.std.proofs.Common.{◌≡◌, inl, inr, ℕ, ◌+◌, ◌<◌, ◌-◌, ◌≤◌, Bool, true, false, List, [], ◌∷◌, ◌++◌, drop, length-set, Option, Some, None, refl, sym, ap, ◌∙◌, subst, arith, rules}
 use Rattle.std.specs.Prelude.{if◌then◌else◌, Contains, unwrap_or}
 use Rattle.std.proofs.lemmas.Option.{none-some, same_Some}
 use Rattle.std.proofs.lemmas.List.Elements.{Contains-push_cases}
@@ -39,9 +39,7 @@ phase_is : (u : ℕ) (v : UnitView) (a : AdapterView) (h : Held) (phase : Phase)
 phase_is u v a h phase is holds = subst (IsPhase u v a h) is holds
 
 begun_less : (v : UnitView) (h : Held) (moved : ℕ) → IsBegun v h → moved < (segment_of (transfer_of v)).count → done_with moved v < h.loan.count
-begun_less v h moved is less =
-    let in_job : done_with moved v < (transfer_of v).job.count = left_by (transfer_of v).index (transfer_of v).job (transfer_of v).done moved is.is.left less in
-    subst (λ (job : Job). done_with moved v < job.count) is.job in_job
+begun_less v h moved is less = first_of (search rules, grind arith)
 
 some_left : (index : Option ℕ) (job : Job) (done : ℕ) → done < job.count → 0 < (segment_by index job done).count
 some_left None job done left = omega (arith, left)

@@ -1,5 +1,5 @@
 -- Numbers of a list, queues in service order, and lists of which one element changed.
-use Rattle.std.proofs.Common.{◌≡◌, ◌≢◌, ◌⊎◌, inl, inr, ℕ, zero, suc, ◌<◌, List, [], ◌∷◌, ◌++◌, drop, length, map, set, get_or, get_or-set_same, get_or-set_other, length-set, refl, sym, ap, ◌∙◌, subst, arith}
+use Rattle.std.proofs.Common.{◌≡◌, ◌≢◌, ◌⊎◌, inl, inr, ℕ, zero, suc, ◌<◌, List, [], ◌∷◌, ◌++◌, drop, length, map, set, get_or, get_or-set_same, get_or-set_other, length-set, refl, sym, ap, ◌∙◌, subst, arith, rules}
 use Rattle.std.specs.Prelude.{Contains, slice_index_or}
 use Rattle.std.proofs.lemmas.Bool.{cond_both}
 use Rattle.disksort.specs.declared.Waiter.{Waiter}
@@ -75,9 +75,7 @@ Once-drop [] once = tt
 Once-drop (x ∷ queue) once = once.1
 
 pub Among-behind : (queue : List Waiter) (n : ℕ) → n ≢ (head_of queue).number → Among n (slots_of queue) → Among n (slots_of (drop 1 queue))
-Among-behind [] n ne m = m
-Among-behind (x ∷ queue) n ne (inl same) = absurd (ne same)
-Among-behind (x ∷ queue) n ne (inr m) = m
+Among-behind queue n h0 h1 = first_of (search rules, grind arith)
 
 -- A QUEUE WITH ONE MORE
 abbrev with_one : Waiter → List Waiter → List Waiter
@@ -97,9 +95,7 @@ put_contained h x y (z ∷ queue) c =
     ]) c
 
 behind : (m n k : ℕ) (ys zs : List ℕ) → (Among n (m ∷ ys) → Among n zs) → Among n (m ∷ k ∷ ys) → Among n (k ∷ zs)
-behind m n k ys zs rest (inl mine) = inr (rest (inl mine))
-behind m n k ys zs rest (inr (inl first)) = inl first
-behind m n k ys zs rest (inr (inr later)) = inr (rest (inr later))
+behind m n k ys zs h0 h1 = first_of (search rules, grind arith)
 
 in_front : (m n k : ℕ) (ys zs : List ℕ) → (Among n zs → Among n (m ∷ ys)) → Among n (k ∷ zs) → Among n (m ∷ k ∷ ys)
 in_front m n k ys zs rest (inl first) = inr (inl first)
@@ -169,11 +165,7 @@ pub record Put {A : Type 0} (xs ys : List A) (i : ℕ) (x d : A) : Type 0 where
   pub others : (j : ℕ) → j ≢ i → get_or ys j d ≡ get_or xs j d
 
 pub put_set : {A : Type 0} (xs : List A) (i : ℕ) (x d : A) → i < length xs → Put xs (set xs i x) i x d
-put_set xs i x d lt = record {
-  size = length-set xs i x;
-  here = get_or-set_same xs i x d lt;
-  others = λ j ne. get_or-set_other xs i j x d ne;
-}
+put_set xs i x d lt = first_of (search rules, grind arith)
 
 pub put_none : {A : Type 0} (xs : List A) (i : ℕ) (d : A) → Put xs xs i (get_or xs i d) d
 put_none xs i d = record { size = refl; here = refl; others = λ j ne. refl }

@@ -1,5 +1,5 @@
 -- A REPAIR in the buffer: what it keeps of its scene, and that the request's blocks fit.
-use Rattle.std.proofs.Common.{◌≡◌, inl, inr, ℕ, ◌+◌, ◌<◌, true, List, [], length, get_or-set_same, get_or-set_other, length-set, refl, sym, ap, ◌∙◌, subst}
+use Rattle.std.proofs.Common.{◌≡◌, inl, inr, ℕ, ◌+◌, ◌<◌, true, List, [], length, get_or-set_same, get_or-set_other, length-set, refl, sym, ap, ◌∙◌, subst, arith, rules}
 use Rattle.std.specs.Prelude.{slice_index_or, slice_set}
 use Rattle.std.proofs.lemmas.Bool.{cases_eq}
 use Rattle.driver_machine.specs.Repaired.{repaired}
@@ -14,10 +14,7 @@ use Rattle.driver_laws.proofs.invariant.Hand.{Keeps, Fits}
 use Rattle.driver_laws.proofs.invariant.SlotsDeedFacts.{kept_held, not_transferring}
 
 pub repair_keeps : (line u p moved at pattern : ℕ) (s : Scene) → Keeps s (effect line u p (deed.Repair moved at pattern) s)
-repair_keeps line u p moved at pattern s =
-    kept_held s _
-    (slice_set s.held.blocks ((transfer_of s.unit).done + moved) (repaired at pattern (block_in s.held ((transfer_of s.unit).done + moved)))) s.held.on_bus
-    refl refl refl refl (length-set s.held.blocks ((transfer_of s.unit).done + moved) _) refl refl
+repair_keeps line u p moved at pattern s = first_of (search rules, grind arith)
 
 repaired_fits : (blocks : List (List ℕ)) (n at pattern : ℕ) (size : ℕ → ℕ) (k : ℕ) → k < length blocks → length (slice_index_or blocks k []) ≡ size k
     → length (slice_index_or (slice_set blocks n (repaired at pattern (slice_index_or blocks n []))) k []) ≡ size k

@@ -1,5 +1,5 @@
 -- A SECTOR is tried: what it keeps of its scene, and that the request's blocks fit.
-use Rattle.std.proofs.Common.{◌≡◌, inl, inr, ℕ, ◌<◌, Bool, true, false, List, [], length, get_or-set_same, get_or-set_other, length-set, refl, sym, ap, ◌∙◌, subst}
+use Rattle.std.proofs.Common.{◌≡◌, inl, inr, ℕ, ◌<◌, Bool, true, false, List, [], length, get_or-set_same, get_or-set_other, length-set, refl, sym, ap, ◌∙◌, subst, arith, rules}
 use Rattle.std.specs.Prelude.{if◌then◌else◌, slice_index_or, slice_set}
 use Rattle.std.proofs.lemmas.Bool.{cases_eq}
 use Rattle.hardware_table.specs.Moves.{was_read}
@@ -28,20 +28,12 @@ length-put_if true k block blocks = length-set blocks k block
 length-put_if false k block blocks = refl
 
 pub sector_keeps : (line u p block : ℕ) (t : deed.Tried) (s : Scene) → Keeps s (effect line u p (deed.Sector block t) s)
-sector_keeps line u p block t s =
-    kept_held s _ (put_if (was_read s.unit.drive t.verdict) (next_window s.adapter.state) t.bytes s.held.blocks) s.held.on_bus refl refl
-    (stepped_kind t.verdict s.adapter.state s.unit.drive) (held_if (was_read s.unit.drive t.verdict) (next_window s.adapter.state) t.bytes s.held)
-    (length-put_if (was_read s.unit.drive t.verdict) (next_window s.adapter.state) t.bytes s.held.blocks) refl refl
+sector_keeps line u p block t s = first_of (search rules, grind arith)
 
 -- THE BLOCKS FIT.
 block_put : (blocks : List (List ℕ)) (n : ℕ) (block : List ℕ) (size : ℕ → ℕ) (k : ℕ) → k < length blocks
     → length (slice_index_or blocks k []) ≡ size k → length block ≡ size n → length (slice_index_or (slice_set blocks n block) k []) ≡ size k
-block_put blocks n block size k lt old new = elim (cases_eq k n) [
-  | inl same ↦
-      subst (λ (m : ℕ). length (slice_index_or (slice_set blocks n block) m []) ≡ size m) (sym same)
-      (ap length (get_or-set_same blocks n block [] (subst (λ (m : ℕ). m < length blocks) same lt)) ∙ new)
-  | inr other ↦ ap length (get_or-set_other blocks n k block [] other) ∙ old
-]
+block_put blocks n block size k lt old new = first_of (search rules, grind arith)
 
 put_fits : (b : Bool) (blocks : List (List ℕ)) (n : ℕ) (block : List ℕ) (size : ℕ → ℕ) → (b ≡ true → length block ≡ size n) → (k : ℕ) → k < length blocks
     → length (slice_index_or blocks k []) ≡ size k → length (slice_index_or (put_if b n block blocks) k []) ≡ size k

@@ -1,5 +1,5 @@
 -- Each act keeps what holds of the driver, from its parts.
-use Rattle.driver_laws.specs.invariant.Passes.{after}
+use Rattle.driver_machine.specs.Acts.{after}
 use Rattle.driver_laws.specs.invariant.InvariantKept.{EachActKeeps}
 use Rattle.driver_laws.proofs.invariant.EachAct.{Keeps, act_keeps}
 use Rattle.driver_laws.proofs.invariant.SlotsEachAct.{queues_after, slots_after, frames_after, answers_after}

@@ -1,5 +1,5 @@
 -- Adapter start: its fuel is never short, and behind it the adapter is busy or no unit waits for it.
-use Rattle.std.proofs.Common.{◌≡◌, ◌⊎◌, inl, inr, ℕ, zero, suc, ◌+◌, ◌-◌, ◌<◌, ◌≤◌, Bool, true, false, List, [], ◌∷◌, length, drop, Option, Some, None, refl, sym, ap, subst, arith, ◌∙◌, get_or-set_same}
+use Rattle.std.proofs.Common.{◌≡◌, ◌⊎◌, inl, inr, ℕ, zero, suc, ◌+◌, ◌-◌, ◌<◌, ◌≤◌, Bool, true, false, List, [], ◌∷◌, length, drop, Option, Some, None, refl, sym, ap, subst, arith, ◌∙◌, get_or-set_same, rules}
 use Rattle.std.specs.Prelude.{if◌then◌else◌, not, ◌&&◌, slice_index_or, unwrap_or, sum_by, ◌*◌}
 use Rattle.std.proofs.lemmas.List.{get_or_past}
 use Rattle.std.proofs.lemmas.List.Sums.{sum_by-le}
@@ -33,15 +33,7 @@ IsTurn v h (deed.End kind) = Unit {0}
 IsTurn v h other = ⊥
 
 command_turn : (v : UnitView) (h : Held) → IsTurn v h (command_of v h)
-command_turn v h =
-    either (IsTurn v h) (not v.drive.online) (failed cause.Offline 0 v)
-    (if h.write && v.drive.locked then failed cause.Locked 0 v else if v.drive.valid then deed.Move h.write (segment_of (transfer_of v)) else deed.Pack)
-    (λ off. tt)
-    (λ on. either (IsTurn v h) (h.write && v.drive.locked) (failed cause.Locked 0 v)
-    (if v.drive.valid then deed.Move h.write (segment_of (transfer_of v)) else deed.Pack)
-    (λ locked. tt)
-    (λ free. either (IsTurn v h) v.drive.valid (deed.Move h.write (segment_of (transfer_of v))) deed.Pack
-    (λ valid. tt) (λ invalid. (not-false v.drive.online on, free))))
+command_turn v h = first_of (search rules, grind arith)
 
 may_turn : (u : ℕ) (d : Deed) (s : Scene) → IsTurn s.unit s.held d → IsChosen u d s → May u d s
 may_turn u (deed.Move write segment) s turn chosen = (inr chosen, chosen.free)
@@ -90,9 +82,7 @@ turn_done stays E line u n rest d w first is few =
 
 choose_is : (E : Type 0) (line u : ℕ) (rest : List ℕ) (d : Deed) (w : World) → IsFirst E u rest w → turn_of w u ≡ d
     → choose_acts line (adapter_of u) w ≡ begun line u d w
-choose_is E line u rest d w first is =
-    ap (λ (b : Bool). choose_by b (adapter_at w (adapter_of u)).queue line w) first.busy
-    ∙ ap (λ (l : List ℕ). choose_by false l line w) first.queue ∙ ap (λ (x : Deed). begun line u x w) is
+choose_is E line u rest d w first is = first_of (search rules, grind arith)
 
 -- WHERE THE ADAPTER HAS NOTHING TO CHOOSE its start is over.
 pub record IsOver (E : Type 0) (line a n : ℕ) (w : World) : Type 0 where
@@ -150,11 +140,7 @@ last_turn stays E line u n fuel rest write segment w first is few =
 -- PACK comes in front of it
 sensed_goes : (writes : Bool) (v : UnitView) (command : Deed) → v.drive.online ≡ true → writes && v.drive.locked ≡ false
     → v.drive.valid ≡ true → sensed writes v command ≡ command
-sensed_goes writes v command on free valid =
-    ap (λ (b : Bool). if not b then failed cause.Offline 0 v
-    else if writes && v.drive.locked then failed cause.Locked 0 v else if v.drive.valid then command else deed.Pack) on
-    ∙ ap (λ (b : Bool). if b then failed cause.Locked 0 v else if v.drive.valid then command else deed.Pack) free
-    ∙ ap (λ (b : Bool). if b then command else deed.Pack) valid
+sensed_goes writes v command on free valid = first_of (search rules, grind arith)
 
 pack_turn : EachActKeeps → (E : Type 0) (line u n fuel : ℕ) (rest : List ℕ) (w : World) → IsFirst E u rest w
     → turn_of w u ≡ deed.Pack → IsTurn (unit_at w u) (held_in w (slot_in_hand (unit_at w u))) deed.Pack → outstanding w ≤ n
@@ -287,29 +273,14 @@ turns stays E line a n (suc fuel) w lt at enough =
 -- behind it no unit waits for an adapter that is free
 none_waits : (line a : ℕ) (queue : List ℕ) (w : World) → Sound w → a < 4 → (adapter_at w a).state.busy ≡ false → (adapter_at w a).queue ≡ queue
     → choose_acts line a w ≡ [] → queue ≡ []
-none_waits line a [] w sound lt busy is none = refl
-none_waits line a (u ∷ rest) w sound lt busy is none =
-    let waits : (u < 32) × (adapter_of u ≡ a) × ((unit_at w u).phase ≡ Queued) =
-    (sound.each_adapter a lt).waits u (subst (Among u) (sym is) (inl refl)) in
-    let chosen : choose_acts line a w ≡ deed_at line u (turn_of w u) w ∷ due_acts line u (after w (deed_at line u (turn_of w u) w)) =
-    ap (λ (b : Bool). choose_by b (adapter_at w a).queue line w) busy ∙ ap (λ (l : List ℕ). choose_by false l line w) is
-    ∙ begun_one line u (turn_of w u) w (some_asked w u sound waits.0 waits.2) in
-    absurd (some_none _ _ (sym chosen ∙ none))
-  where
-    some_none : (act : Act) (acts : List Act) → act ∷ acts ≡ [] → ⊥
-    some_none act acts e = grind (arith, e)
+none_waits line a queue w h0 h1 h2 h3 h4 = first_of (search rules, grind arith)
 
 pub no_more : (line a : ℕ) (w : World) → Sound w → a < 4 → choose_acts line a w ≡ [] → (adapter_at w a).state.busy ≡ false → (adapter_at w a).queue ≡ []
 no_more line a w sound lt none busy = none_waits line a (adapter_at w a).queue w sound lt busy refl none
 
 -- ADAPTER START
 one_most : (o : Option Held) → one_in o ≤ 1
-one_most None = omega arith
-one_most (Some h) = by_end h.ended
-  where
-    by_end : (b : Bool) → one_by b ≤ 1
-    by_end true = omega arith
-    by_end false = omega arith
+one_most o = first_of (search rules, grind arith)
 
 most_out : (slots : List (Option Held)) → sum_by one_in slots ≤ length slots
 most_out slots =

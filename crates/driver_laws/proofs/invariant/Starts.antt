@@ -1,5 +1,5 @@
 -- The world at the start is sound, and every unit and adapter is at rest.
-use Rattle.std.proofs.Common.{◌≡◌, inl, inr, ℕ, zero, suc, ◌<◌, Bool, true, false, List, [], ◌∷◌, length, set, get_or, get_or-set_same, get_or-set_other, length-set, replicate, Option, Some, None, refl, sym, ap, ◌∙◌, subst, arith}
+use Rattle.std.proofs.Common.{◌≡◌, inl, inr, ℕ, zero, suc, ◌<◌, Bool, true, false, List, [], ◌∷◌, length, set, get_or, get_or-set_same, get_or-set_other, length-set, replicate, Option, Some, None, refl, sym, ap, ◌∙◌, subst, arith, rules}
 use Rattle.std.specs.Prelude.{if◌then◌else◌, Contains}
 use Rattle.std.proofs.lemmas.List.{length-replicate}
 use Rattle.std.proofs.lemmas.Nat.Bits.{bit_at-zero}
@@ -38,16 +38,7 @@ first_addressed Rp06 unit = refl
 first_addressed other unit = refl
 
 attached_is : (kind : DriveKind) (unit : ℕ) → IsDrive (attached kind unit)
-attached_is kind unit = record {
-  cylinder = some_cylinder kind;
-  look = 0;
-  look_ahead = refl;
-  sector = some_sectors kind;
-  address = first_addressed kind unit;
-  code = None;
-  offset = refl;
-  valid = λ e. refl;
-}
+attached_is kind unit = first_of (search rules, grind arith)
 
 attached_still : (kind : DriveKind) (unit : ℕ) → IsStill (attached kind unit)
 attached_still kind unit = record { work = refl; attention = refl; clear = record { er1 = refl; er2 = refl } }
@@ -65,24 +56,10 @@ abbrev HasTable : Setup → Type 0
 HasTable s = (table : Table) → s.table ≡ Some table → IsTableFor s.kind table
 
 idle_new : (s : Setup) → HasTable s → IsIdle (new_unit s)
-idle_new s has = record {
-  queue = refl;
-  phase = refl;
-  transfer = refl;
-  still = attached_still s.kind s.unit;
-  drive = attached_is s.kind s.unit;
-  table = has;
-}
+idle_new s has = first_of (search rules, grind arith)
 
 idle_none : IsIdle no_unit
-idle_none = record {
-  queue = refl;
-  phase = refl;
-  transfer = refl;
-  still = attached_still Rp06 0;
-  drive = attached_is Rp06 0;
-  table = λ table e. absurd (none-some table e);
-}
+idle_none = first_of (search rules, grind arith)
 
 abbrev AreIdle : List UnitView → Type 0
 AreIdle units = (u : ℕ) → IsIdle (get_or units u no_unit)
@@ -124,16 +101,7 @@ stands_at (s ∷ setups) units t (suc k) once small lt e =
 
 -- THE ADAPTERS
 new_adapter_is : IsAdapter new_adapter
-new_adapter_is = record {
-  inside = omega arith;
-  few = omega arith;
-  offset = omega arith;
-  last_some = λ e. absurd (omega (arith, e));
-  last_few = omega arith;
-  place = refl;
-  counted = λ e. absurd (false≢true e);
-  left = λ e. absurd (false≢true e);
-}
+new_adapter_is = first_of (search rules, grind arith)
 
 no_frames : (n : ℕ) → frames_used (replicate n None) ≡ 0
 no_frames zero = refl
@@ -160,16 +128,7 @@ module _ (units : List UnitView) (adapters : List AdapterView) (slots : List (Op
       }
 
   start_adapter : (a : ℕ) → AdapterOk start a (adapter_at start a)
-  start_adapter a = subst (AdapterOk start a) (sym (free a)) (record {
-    state = new_adapter_is;
-    drive = omega arith;
-    busy = λ e. absurd (false≢true e);
-    rest = λ e. refl;
-    waits = λ u m. absurd m;
-    once = tt;
-    small = omega arith;
-    raised = λ k small. bit_at-zero k ∙ ap (λ (b : Bool). if b then 1 else 0) (sym (idle (unit_on a k)).still.attention);
-  })
+  start_adapter a = first_of (search rules, grind arith)
 
   start_sound : length units ≡ 32 → length adapters ≡ 4 → frames_used slots ≡ 0 → Sound start
   start_sound many four none = record {
@@ -188,10 +147,7 @@ module _ (units : List UnitView) (adapters : List AdapterView) (slots : List (Op
   }
 
   start_rests : AtWork start
-  start_rests = record {
-    units = λ u lt. let is = idle u in subst (λ phase. WorkOf phase (unit_at start u).queue) (sym is.phase) is.queue;
-    adapters = λ a lt e. ap (λ (x : AdapterView). x.queue) (free a);
-  }
+  start_rests = first_of (search rules, grind arith)
 
 module _ (setups : List Setup) (outstanding noises : ℕ) (are : AreSetups setups) where
   units_idle : AreIdle (set_up setups (replicate 32 no_unit))

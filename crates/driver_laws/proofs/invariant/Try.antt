@@ -1,5 +1,5 @@
 -- A TRY FAILED: what comes next leaves a phase and an adapter that hold.
-use Rattle.std.proofs.Common.{◌≡◌, ◌≢◌, ℕ, ◌+◌, ◌<◌, ◌≤◌, Bool, true, false, List, Option, Some, None, refl, sym, ap, subst, arith}
+use Rattle.std.proofs.Common.{◌≡◌, ◌≢◌, ℕ, ◌+◌, ◌<◌, ◌≤◌, Bool, true, false, List, Option, Some, None, refl, sym, ap, subst, arith, rules}
 use Rattle.std.specs.Prelude.{if◌then◌else◌, ◌==◌, not, slice_get}
 use Rattle.pack_geometry.specs.declared.DriveKind.{DriveKind}
 use Rattle.pack_geometry.specs.declared.Place.{Place}
@@ -29,26 +29,17 @@ use Rattle.driver_laws.proofs.invariant.DeedFacts.{left_by, judged_is}
 use Rattle.driver_laws.proofs.invariant.AdapterLeft.{SceneAdapter, AdapterLeft, is_transferring, is_queued, due_left}
 
 failures_few : (moved failures : ℕ) → failures ≤ 27 → failures_after moved failures ≢ 28 → failures_after moved failures ≤ 27
-failures_few moved failures most other = by_test (moved == 0) other
-  where
-    by_test : (b : Bool) → (if b then failures + 1 else 1) ≢ 28 → (if b then failures + 1 else 1) ≤ 27
-    by_test true other = grind (arith, most, other)
-    by_test false other = omega arith
+failures_few moved failures most other = first_of (search rules, grind arith)
 
 -- A TRY FAILED. A verdict other than clean came in front of the segment's end.
 pub failed_less : (last : Moved) (moved count : ℕ) → IsFailure last → IsEndedAt last moved count → moved < count
-failed_less (verdict.Faulted kind) moved count fails is = is
-failed_less verdict.Hard moved count fails is = is
-failed_less other moved count fails is = absurd fails
+failed_less last moved count h0 h1 = first_of (search rules, grind arith)
 
 -- what is listed stays so where the place does not move on
 listed_on : (index : Option ℕ) (job : Job) (places : List Place) (kind : DriveKind) (first done moved : ℕ) → moved < (segment_by index job done).count
     → ((i : ℕ) → index ≡ Some i → slice_get places i ≡ Some (place_at kind (first + done))) → (i : ℕ) → index ≡ Some i
     → slice_get places i ≡ Some (place_at kind (first + (done + moved)))
-listed_on None job places kind first done moved less listed i is = absurd (none_some is)
-listed_on (Some k) job places kind first done moved less listed i is =
-    let same : done + moved ≡ done = omega (arith, less) in
-    subst (λ (n : ℕ). slice_get places i ≡ Some (place_at kind (first + n))) (sym same) (listed i is)
+listed_on index job places kind first done moved h0 h1 i h2 = first_of (search rules, grind arith)
 
 failed_begun : (moved : ℕ) (task : Task) (s : Scene) → IsBegun s.unit s.held → moved < (segment_of (transfer_of s.unit)).count
     → failures_after moved (transfer_of s.unit).failures ≢ 28

@@ -1,5 +1,5 @@
 -- Each act keeps what holds of the drive, the table and the phase of each unit.
-use Rattle.std.proofs.Common.{◌≡◌, inl, inr, ℕ, ◌<◌, Bool, true, false, List, get_or-set_same, get_or-set_other, refl, sym, ap, ◌∙◌, subst, arith}
+use Rattle.std.proofs.Common.{◌≡◌, inl, inr, ℕ, ◌<◌, Bool, true, false, List, get_or-set_same, get_or-set_other, refl, sym, ap, ◌∙◌, subst, arith, rules}
 use Rattle.std.specs.Prelude.{slice_index_or}
 use Rattle.std.proofs.lemmas.Bool.{cases_eq, false≢true}
 use Rattle.hardware_table.specs.Drive.{DriveState}
@@ -85,33 +85,10 @@ still_as : (d e : DriveState) → IsSameDrive d e → IsStill d → IsStill e
 still_as d e same is = record { work = same.work ∙ is.work; attention = same.attention ∙ is.attention; clear = clear_as d e same is.clear }
 
 moving_as : (d e : DriveState) → IsSameDrive d e → IsMoving d → IsMoving e
-moving_as d e same is = record {
-  either = elim is.either [
-    | inl going ↦ inl (subst (IsGoal e.kind) (sym same.work) (subst (λ k. IsGoal k d.work) (sym same.kind) going.0), same.attention ∙ going.1)
-    | inr over ↦ inr (same.work ∙ over.0, same.attention ∙ over.1)
-  ];
-  clear = clear_as d e same is.clear;
-}
+moving_as d e same is = first_of (search rules, grind arith)
 
 way_as : (d e : DriveState) (a : AdapterState) → IsSameDrive d e → IsUnderWay d a → IsUnderWay e a
-way_as d e a same is = record {
-  work = same.work ∙ is.work;
-  attention = same.attention ∙ is.attention;
-  quiet = λ down. let was = is.quiet down in record { clear = clear_as d e same was.clear; late = was.late };
-  shown = λ up.
-      let was = is.shown up in
-      record {
-        before = was.before;
-        kind = was.kind ∙ sym same.kind;
-        clear = was.clear;
-        block = was.block;
-        er1 = same.er1 ∙ was.er1;
-        er2 = same.er2 ∙ was.er2;
-        ec1 = same.ec1 ∙ was.ec1;
-        ec2 = same.ec2 ∙ was.ec2;
-        late = was.late;
-      };
-}
+way_as d e a same is = first_of (search rules, grind arith)
 
 module _ (u : ℕ) (v : UnitView) (queue : List Waiter) (d : DriveState) (a : AdapterView) (h : Held) (same : IsSameDrive v.drive d) where
   abbrev now_unit : UnitView
@@ -153,12 +130,7 @@ pub locked_same : (on : Bool) (d : DriveState) → IsSameDrive d (locked_set on 
 locked_same on d = record { kind = refl; work = refl; attention = refl; er1 = refl; er2 = refl; ec1 = refl; ec2 = refl }
 
 pub drive_changed : (w : World) (u : ℕ) (f : DriveState → DriveState) → Changed w (with_unit_drive u f w) u
-drive_changed w u f = record {
-  units = λ x other. get_or-set_other w.units u x (with_drive f (unit_at w u)) no_unit other;
-  adapters = λ a other. refl;
-  held = λ x lt other goes. refl;
-  leaves = alone u (adapter_at w (adapter_of u));
-}
+drive_changed w u f = first_of (search rules, grind arith)
 
 pub changed_unit : (w : World) (u : ℕ) (f : DriveState → DriveState) → Sound w → u < 32
     → unit_at (with_unit_drive u f w) u ≡ with_drive f (unit_at w u)
@@ -181,14 +153,7 @@ change_kept w u f s same drive lt =
 pub unchanged : (w now : World) → now.units ≡ w.units → now.adapters ≡ w.adapters
     → ((x : ℕ) → x < 32 → is_waiting (unit_at w x).phase ≡ false → slot_at now (slot_in_hand (unit_at w x)) ≡ slot_at w (slot_in_hand (unit_at w x)))
     → Changed w now 32
-unchanged w now units adapters held = record {
-  units = λ x other. ap (λ (us : List UnitView). slice_index_or us x no_unit) units;
-  adapters = λ a other. ap (λ (all : List AdapterView). slice_index_or all a new_adapter_view) adapters;
-  held = λ x lt other goes. held x lt goes;
-  leaves = subst (λ (a : AdapterView). LeavesOthers 32 (adapter_at w (adapter_of 32)) a)
-      (sym (ap (λ (all : List AdapterView). slice_index_or all (adapter_of 32) new_adapter_view) adapters))
-      (alone 32 (adapter_at w (adapter_of 32)));
-}
+unchanged w now units adapters held = first_of (search rules, grind arith)
 
 pub no_such : {A : Type 0} → 32 < 32 → A
 no_such lt = absurd (omega (arith, lt))

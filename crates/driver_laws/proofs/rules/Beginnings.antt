@@ -11,8 +11,7 @@ use Rattle.trace_replay.specs.Script.{Input, Submit, Noise, Numbered, AreApart}
 use Rattle.trace_replay.specs.Moments.{Deed, Search, Moment, Played, Told, Idle, Answered, played, answers_in}
 use Rattle.trace_replay.specs.Replay.{Replay, next_wish, Follows, after_moment, after_moments, Submission, Refused, Joined}
 use Rattle.trace_replay.specs.Events.{NoLine}
-use Rattle.driver_laws.specs.rules.Machine.{Blocks, Machine, MayAnswer, Steps, kind_of, after_input, answers_of_input, meets}
-use Rattle.driver_laws.specs.rules.Machine.{submitted as machine_submitted}
+use Rattle.driver_laws.specs.rules.Machine.{Blocks, Machine, MayAnswer, Steps, kind_of, after_input, answers_of_input, meets, submitted as machine_submitted}
 use Rattle.driver_laws.specs.rules.LegalAnswers.{AnswersTo, with_asked, ids_asked}
 use Rattle.driver_laws.specs.rules.Stands.{Setup, home_in, StandsFor, AreGiven, IsNew, MomentStep, owed, told_by, armed_by, armed_behind, sure_claims, machine_at, answers_of_moment}
 use Rattle.driver_laws.proofs.rules.MachineUnits.{Keeps}

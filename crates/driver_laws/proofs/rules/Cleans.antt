@@ -24,8 +24,7 @@ use Rattle.trace_replay.specs.Events.{Wish, NoLine, DueLine, Arrival, SectorLine
 use Rattle.trace_replay.specs.Replay.{Replay, UnitSeen, next_wish, hand_of, at_unit, LineMay, ToldMay, Follows, after_moment, after_moments, unit_after, Submission, Refused, Joined, submission, submitted, unit_joined}
 use Rattle.trace_replay.proofs.Kept.{after_kind}
 use Rattle.trace_replay.proofs.Unchanged.{told_keeps}
-use Rattle.driver_laws.specs.rules.Machine.{Machine, idle, request_of, without, kind_of, done_in, Steps}
-use Rattle.driver_laws.specs.rules.Machine.{meets, submitted as machine_submitted}
+use Rattle.driver_laws.specs.rules.Machine.{Machine, idle, request_of, without, kind_of, done_in, Steps, meets, submitted as machine_submitted}
 use Rattle.driver_laws.specs.rules.Stands.{Setup, home_in, is_sure_among, IsSure, StandsFor, MomentStep, IsOutstanding, sure_claims}
 use Rattle.driver_laws.proofs.rules.MachineUnits.{Keeps, head_is, try_of}
 use Rattle.driver_laws.proofs.rules.Keeping.{with_each}

@@ -15,8 +15,7 @@ use Rattle.trace_replay.specs.Schedule.{offset_after, recalibrates_after}
 use Rattle.trace_replay.specs.declared.retry_offsets.Step.TheVariants as retry
 use Rattle.trace_replay.specs.requests.Requests.{Request, Failed, Offline}
 use Rattle.trace_replay.specs.Moments.{Deed, Search, Seek, Recal, Offset, Centre, Clear, Pack, Transfer, Sector, Intr, Try, Attn, End}
-use Rattle.trace_replay.specs.Conversation.{Positioning, SearchFor, SeekTo, Segment, OwnBlocks, Replacement, Hand, is_write, start_of, length_of, transfer_of, command_of, needs_unlocked, guarded, due, entry_of}
-use Rattle.trace_replay.specs.Conversation.{Stage, Waiting, Steps, UnderWay, AtOnce, Moving, Saying, Ending, Progress, saying, retried, failed, forwarded, marked, continued, ok_answer, interrupted_by, stage_after, is_under_way, is_clean, last_of, sector_may, intr_may, progress_tried, progress_interrupted, offset_steps}
+use Rattle.trace_replay.specs.Conversation.{Positioning, SearchFor, SeekTo, Segment, OwnBlocks, Replacement, Hand, is_write, start_of, length_of, transfer_of, command_of, needs_unlocked, guarded, due, entry_of, Stage, Waiting, Steps, UnderWay, AtOnce, Moving, Saying, Ending, Progress, saying, retried, failed, forwarded, marked, continued, ok_answer, interrupted_by, stage_after, is_under_way, is_clean, last_of, sector_may, intr_may, progress_tried, progress_interrupted, offset_steps}
 use Rattle.trace_replay.proofs.Histories.{Fits, AreSaid, Open, MoveFits, guard_holds, interrupted, length_some}
 use Rattle.trace_replay.proofs.Kept.{no}
 use Rattle.driver_laws.specs.rules.Measure.{tries_left, steps_left, events_from, events_while_clean, events_of_step, events_at}

@@ -7,13 +7,12 @@ use Rattle.pack_geometry.specs.Geometry.{limit_of, place_at, replacement_at}
 use Rattle.pack_geometry.specs.Pack as model
 use Rattle.pack_geometry.specs.TableSpelling.{Table}
 use Rattle.pack_geometry.specs.PackTable.{IsTableAt, AreTablesOf}
-use Rattle.pack_geometry.specs.Homes.{home_of, index_in}
+use Rattle.pack_geometry.specs.Homes.{home_of, index_in, if_unmarked}
 use Rattle.pack_geometry.proofs.HomeLaws.{homes_apart}
 use Rattle.pack_geometry.proofs.PackTableLaws.{table_room}
 use Rattle.driver_laws.specs.rules.Stands.{Setup, home_at, home_in}
 use Rattle.std.specs.Prelude.{unwrap_or}
 use Rattle.std.proofs.lemmas.Bool.{lt-ltb}
-use Rattle.pack_geometry.specs.Homes.{if_unmarked}
 use Rattle.trace_replay.specs.requests.Requests.{first_block}
 use Rattle.trace_replay.specs.Script.{IsThere}
 use Rattle.trace_replay.specs.Moments.{Deed}

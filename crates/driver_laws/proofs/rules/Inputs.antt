@@ -17,8 +17,7 @@ use Rattle.trace_replay.specs.Conversation.{goes_on}
 use Rattle.trace_replay.specs.Events.{Serving, Wish, NoLine, IdleLine}
 use Rattle.trace_replay.specs.Replay.{Replay, UnitSeen, next_wish, InputMay, after_moment, Submission, Refused, Joined, submission, submission_by, submitted, unit_joined, joined_by, event_of, conditions_after, has_frames, act_submitted}
 use Rattle.trace_replay.proofs.Kept.{played_kind}
-use Rattle.driver_laws.specs.rules.Machine.{Machine, request_of, frames_of, kind_of, meets, after_input, answers_of_input}
-use Rattle.driver_laws.specs.rules.Machine.{submitted as machine_submitted, answers_at_once}
+use Rattle.driver_laws.specs.rules.Machine.{Machine, request_of, frames_of, kind_of, meets, after_input, answers_of_input, submitted as machine_submitted, answers_at_once}
 use Rattle.driver_laws.specs.rules.Stands.{Setup, home_in, is_sure_among, UnitStands, QueueStands, IsLive, StageStands, StandsFor, owed, owed_by, armed_by, MomentStep}
 use Rattle.driver_laws.proofs.rules.Outstanding.{queue_joined, queue_stays, joins_found}
 use Rattle.driver_laws.proofs.rules.Homes.{there_is}

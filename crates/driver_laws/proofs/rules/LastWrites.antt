@@ -14,8 +14,7 @@ use Rattle.trace_replay.specs.Script.{Input, Submit, Numbered, AreApart, Script,
 use Rattle.trace_replay.specs.Moments.{Moment, Answered, answers_in}
 use Rattle.trace_replay.specs.Replay.{Submission, Refused, Joined}
 use Rattle.trace_replay.specs.Runs.{IsLegalRun}
-use Rattle.driver_laws.specs.rules.Machine.{Blocks, Machine, kind_of, idle, request_of, without, meets, after_input, answers_of_input, answers_at_once, MayAnswer, blocks_after, Steps}
-use Rattle.driver_laws.specs.rules.Machine.{submitted as machine_submitted}
+use Rattle.driver_laws.specs.rules.Machine.{Blocks, Machine, kind_of, idle, request_of, without, meets, after_input, answers_of_input, answers_at_once, MayAnswer, blocks_after, Steps, submitted as machine_submitted}
 use Rattle.driver_laws.specs.rules.LegalAnswers.{AnswersTo, with_asked, ids_asked, unaliased, all_claimed, none_claimed}
 use Rattle.driver_laws.specs.rules.LastWrites.{asked_in, left_by, left_behind, Gives, EachGives}
 use Rattle.driver_laws.specs.rules.Laws.{HasLegalAnswers, ArePassedOn, WritesArePassedOn, AllWritesArePassedOn, LeadsToOneMap}

@@ -25,9 +25,8 @@ use Rattle.trace_replay.specs.Moments.{Deed, Centre, Clear, Pack, Transfer, Arri
 use Rattle.trace_replay.specs.Drives.{takes, transfer_function, drive_after, addressed}
 use Rattle.trace_replay.specs.Packs.{flips_at, bytes_read}
 use Rattle.trace_replay.specs.Service.{first_waiting, request_or_none, ids, in_hand, target_of}
-use Rattle.trace_replay.specs.Conversation.{Stage, Progress, last_of, segment_of, left_of, Moving, interrupted_by, step_taken, step_ended, said, progress_tried, progress_interrupted}
+use Rattle.trace_replay.specs.Conversation.{Stage, Progress, last_of, segment_of, left_of, Moving, interrupted_by, step_taken, step_ended, said, progress_tried, progress_interrupted, goes_on}
 use Rattle.trace_replay.specs.Events.{Act, Refusing}
-use Rattle.trace_replay.specs.Conversation.{goes_on}
 use Rattle.trace_replay.specs.Replay.{Replay, UnitSeen, LineMay, hand_of, at_unit, unit_after, surface_after}
 use Rattle.trace_replay.proofs.Kept.{AllFit, after_kind}
 use Rattle.driver_laws.specs.rules.Machine.{Blocks, Machine, kind_of}

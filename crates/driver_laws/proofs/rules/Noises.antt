@@ -7,7 +7,7 @@ use Rattle.std.proofs.lemmas.Bool.Decides.{nat_tests}
 use Rattle.std.proofs.lemmas.List.Elements.{All-head, All-tail, All-cons, All-weaker, All-contains}
 use Rattle.std.proofs.lemmas.Bool.{cases_lt}
 use Rattle.fire_code.specs.Remainder.{remainder}
-use Rattle.fire_code.specs.Burst.{IsShortBurst, IsBurst}
+use Rattle.fire_code.specs.Burst.{IsShortBurst, IsBurst, places_of}
 use Rattle.fire_code.specs.Noise.{IsNoise, IsAlias}
 use Rattle.fire_code.proofs.Noises.{short_from_ends}
 use Rattle.fire_code.proofs.Bursts.{burst_not_zero}
@@ -16,7 +16,6 @@ use Rattle.hardware_table.proofs.NoiseLaws.{among_armed, among_struck}
 use Rattle.trace_replay.specs.Packs.{read_as, repaired_from}
 use Rattle.trace_replay.proofs.ReadBytes.{repairs_bursts}
 use Rattle.driver_laws.specs.rules.Stands.{IsLive, is_sure_among}
-use Rattle.fire_code.specs.Burst.{places_of}
 use Rattle.hardware_table.specs.declared.Moved.{Moved}
 use Rattle.hardware_table.specs.declared.Moved.TheVariants as verdict
 use Rattle.hardware_table.specs.Moves.{IsReadVerdict}

@@ -9,8 +9,7 @@ use Rattle.trace_replay.specs.requests.Requests.{Request}
 use Rattle.trace_replay.specs.Script.{Input, Submit, Numbered, AreApart}
 use Rattle.trace_replay.specs.Moments.{Answered}
 use Rattle.trace_replay.specs.Replay.{Submission, Refused, Joined}
-use Rattle.driver_laws.specs.rules.Machine.{Machine, request_of, without, meets, after_input, answers_of_input, answers_at_once, Steps}
-use Rattle.driver_laws.specs.rules.Machine.{submitted as machine_submitted}
+use Rattle.driver_laws.specs.rules.Machine.{Machine, request_of, without, meets, after_input, answers_of_input, answers_at_once, Steps, submitted as machine_submitted}
 use Rattle.driver_laws.specs.rules.LegalAnswers.{AnswersTo, with_asked, ids_asked, times_answered}
 use Rattle.driver_laws.proofs.rules.Outstanding.{found_id}
 

@@ -24,8 +24,7 @@ use Rattle.trace_replay.specs.Replay.{Replay, UnitSeen, next_wish, MayCome, Subm
 use Rattle.trace_replay.proofs.Kept.{IsHeld}
 use Rattle.driver_laws.specs.rules.Drains.{IsIdle}
 use Rattle.driver_laws.proofs.rules.Tells.{Between, moments_between}
-use Rattle.driver_laws.specs.rules.Machine.{Blocks, Machine, idle, request_of, without, frames_of, kind_of, meets, answers_at_once, MayAnswer, blocks_after, after_answer, Steps, bytes_of_first}
-use Rattle.driver_laws.specs.rules.Machine.{submitted as machine_submitted}
+use Rattle.driver_laws.specs.rules.Machine.{Blocks, Machine, idle, request_of, without, frames_of, kind_of, meets, answers_at_once, MayAnswer, blocks_after, after_answer, Steps, bytes_of_first, submitted as machine_submitted}
 use Rattle.driver_laws.specs.rules.Stands.{Setup, home_at, home_in, held_at, sure_claims}
 use Rattle.driver_laws.proofs.rules.Blocks.{read_blocks}
 use Rattle.driver_laws.proofs.rules.Inputs.{append_nil, over_owes}

@@ -19,7 +19,7 @@ use Rattle.driver_laws.proofs.invariant.Scene.{HasTransferFor, SceneOk}
 use Rattle.driver_laws.proofs.invariant.Frame.{held_is, scene_ok}
 use Rattle.driver_laws.proofs.invariant.Sector.{moved_less, next_below}
 use Rattle.driver_laws.proofs.invariant.DeedFacts.{transfer_at}
-use Rattle.driver_laws.specs.shown.TracePasses.{packs_after}
+use Rattle.driver_laws.specs.answers.Packs.{packs_after}
 use Rattle.driver_laws.proofs.shown.Starting.{set_up}
 use Rattle.driver_laws.specs.shown.RunsActs.{BeyondStays, OthersStay}
 use Rattle.driver_laws.proofs.shown.Images.{block_beyond}

@@ -16,12 +16,12 @@ use Rattle.driver_machine.proofs.Measure.{is_resting}
 use Rattle.driver_machine.specs.Events.{and_then, when_by, each, begun, data_interrupt, attention, steps_taken, drives, attended, adapter_start}
 use Rattle.driver_machine.specs.Guards.{IsSetUp}
 use Rattle.driver_machine.specs.Sound.{Sound, Among, Once, IsPhase, IsTask, is_waiting}
-use Rattle.driver_laws.proofs.shown.Passes.{false_true}
+use Rattle.driver_machine.proofs.DueFacts.{false_true}
 use Rattle.driver_machine.specs.Runs.{Run}
-use Rattle.driver_laws.proofs.answers.Passes.{run_split}
-use Rattle.driver_laws.proofs.answers.Passes.{deed_at, own_adapter}
-use Rattle.driver_laws.proofs.answers.Passes.{begun_one}
-use Rattle.driver_laws.proofs.answers.Passes.{IsServing, serving}
+use Rattle.driver_laws.proofs.invariant.Leads.{run_split}
+use Rattle.driver_laws.proofs.invariant.Deeds.{deed_at, own_adapter}
+use Rattle.driver_laws.proofs.invariant.Due.{begun_one}
+use Rattle.driver_laws.proofs.invariant.Calls.{IsServing, serving, was_busy}
 use Rattle.driver_laws.specs.shown.Shows.{is_coming}
 use Rattle.driver_laws.specs.shown.Within.{Rests}
 use Rattle.driver_laws.proofs.shown.Telling.{Tells}
@@ -30,7 +30,6 @@ use Rattle.driver_laws.proofs.shown.Due.{IsQuiet, rest_quiet}
 use Rattle.driver_laws.proofs.shown.Resting.{Rested, shows_one, begun_told}
 use Rattle.driver_laws.specs.shown.Calls.{IsOverWithin}
 use Rattle.driver_laws.proofs.shown.Starting.{wish_resting, set_up, start_told}
-use Rattle.driver_laws.proofs.invariant.Calls.{was_busy}
 
 -- THE ATTENTIONS that are up, of some drives
 abbrev pub raised_by : Bool → ℕ → List ℕ → List ℕ

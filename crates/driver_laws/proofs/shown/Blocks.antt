@@ -23,8 +23,8 @@ use Rattle.driver_laws.proofs.invariant.Scene.{SceneOk, phase_is, block_below}
 use Rattle.driver_laws.proofs.invariant.Frame.{head_out, held_is, scene_ok, unit_on-own}
 use Rattle.driver_laws.proofs.invariant.Sector.{moved_less}
 use Rattle.driver_laws.proofs.invariant.DeedFacts.{transfer_at}
-use Rattle.driver_laws.proofs.shown.TracePasses.{IsServing, serving}
-use Rattle.driver_laws.proofs.shown.RunsPasses.{set_up}
+use Rattle.driver_laws.proofs.invariant.Calls.{IsServing, serving}
+use Rattle.driver_laws.proofs.shown.Starting.{set_up}
 use Rattle.driver_laws.proofs.shown.Acts.{piece_few, written_beyond}
 use Rattle.driver_laws.specs.shown.Reach.{Reaches, NextBlocksStay}
 

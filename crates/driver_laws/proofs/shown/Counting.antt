@@ -29,7 +29,7 @@ use Rattle.driver_machine.specs.Runs as machine
 use Rattle.driver_laws.proofs.invariant.Calls.{event_works, taken_works}
 use Rattle.driver_laws.proofs.invariant.Next.{next_can}
 use Rattle.driver_laws.proofs.invariant.Sound.{sound_after}
-use Rattle.driver_laws.specs.shown.TracePasses.{packs_after_all}
+use Rattle.driver_laws.specs.answers.Packs.{packs_after_all}
 use Rattle.driver_laws.specs.shown.Calls.{Stands, Ends, AreThere, IsReadOf}
 use Rattle.driver_laws.proofs.shown.Telling.{IsTold}
 use Rattle.driver_laws.proofs.shown.Named.{IsTriedOn}

@@ -14,9 +14,9 @@ use Rattle.driver_machine.specs.Acts as deed
 use Rattle.driver_machine.specs.Acts.{Tried, Nothing, scene_of}
 use Rattle.driver_machine.specs.Events.{in_hand, or_nothing, can_move, attended, move_acts, event_acts, next_event}
 use Rattle.driver_machine.specs.Sound.{Sound, AtWork}
-use Rattle.driver_laws.proofs.shown.Passes.{false_true}
+use Rattle.driver_machine.proofs.DueFacts.{false_true}
 use Rattle.driver_machine.specs.Runs.{Run, CanCome}
-use Rattle.driver_laws.proofs.answers.Passes.{next_none}
+use Rattle.driver_laws.proofs.invariant.Next.{next_none}
 use Rattle.driver_laws.specs.shown.Shows.{counted_by, outstanding_in, IsOnSurface}
 use Rattle.driver_laws.specs.shown.Within.{Rests}
 use Rattle.driver_laws.specs.shown.Calls.{IsSurfaceOf, Stands, IsOverWithin, Ends, IsLeft, AreThere}

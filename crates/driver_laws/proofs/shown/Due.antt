@@ -29,8 +29,8 @@ use Rattle.driver_machine.specs.Acts.{Deed, Scene}
 use Rattle.driver_machine.specs.Due.{next_of, next_by, deed_for, start_by, position_of, target_of, steps_of, step_of}
 use Rattle.driver_machine.specs.Lines.{deed_told, step_told}
 use Rattle.driver_machine.proofs.Measure.{is_resting}
-use Rattle.driver_laws.specs.shown.Passes.{IsDue}
-use Rattle.driver_laws.proofs.shown.Passes.{false_true, none_some}
+use Rattle.driver_machine.specs.DueFacts.{IsDue}
+use Rattle.driver_machine.proofs.DueFacts.{false_true, none_some}
 use Rattle.driver_laws.specs.shown.Stages.{stage_by, task_stage, lines_left, segment_seen, steps_seen}
 use Rattle.driver_laws.specs.shown.Shows.{Match, IsUnitSeen, is_coming}
 use Rattle.driver_laws.proofs.shown.Core.{Core, IsHead, core_of, head_is}

@@ -16,7 +16,7 @@ use Rattle.driver_machine.specs.Acts.{Nothing, after}
 use Rattle.driver_machine.specs.Lines.{lines_of_all}
 use Rattle.driver_machine.specs.Events.{attended, drives, can_attend}
 use Rattle.driver_machine.specs.Sound.{Sound, Among}
-use Rattle.driver_laws.proofs.shown.Passes.{false_true}
+use Rattle.driver_machine.proofs.DueFacts.{false_true}
 use Rattle.driver_machine.specs.Runs.{Run}
 use Rattle.driver_laws.specs.answers.Packs.{packs_after_all}
 use Rattle.driver_laws.specs.shown.Within.{ShowsAll, Rests}

@@ -19,8 +19,8 @@ use Rattle.driver_machine.specs.Lines.{lines_of_all}
 use Rattle.driver_machine.specs.Events.{event_acts, next_event}
 use Rattle.driver_machine.specs.Runs.{Works}
 use Rattle.driver_machine.specs.Runs as work
-use Rattle.driver_laws.proofs.answers.Passes.{event_works}
-use Rattle.driver_laws.proofs.answers.Passes.{next_can}
+use Rattle.driver_laws.proofs.invariant.Calls.{event_works}
+use Rattle.driver_laws.proofs.invariant.Next.{next_can}
 use Rattle.driver_laws.proofs.shown.TraceRuns.{sound_after}
 use Rattle.driver_laws.specs.shown.Runs.{IsDraining, with_call}
 use Rattle.driver_laws.proofs.shown.Telling.{IsTold}

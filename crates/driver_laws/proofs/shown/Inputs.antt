@@ -23,11 +23,11 @@ use Rattle.driver_machine.proofs.Measure.{is_resting}
 use Rattle.driver_machine.specs.Events.{in_hand, can_arrive, can_attend, or_nothing, attended, arrive_acts, attend_acts}
 use Rattle.driver_machine.specs.Guards.{IsSetUp}
 use Rattle.driver_machine.specs.Sound.{IsPhase, IsTask, is_waiting}
-use Rattle.driver_laws.proofs.shown.Passes.{false_true}
-use Rattle.driver_laws.proofs.shown.Passes.{own_unit, resting}
+use Rattle.driver_machine.proofs.DueFacts.{false_true}
+use Rattle.driver_machine.proofs.Until.{own_unit, resting}
 use Rattle.driver_machine.specs.Runs.{Run}
-use Rattle.driver_laws.proofs.answers.Passes.{deed_at}
-use Rattle.driver_laws.proofs.answers.Passes.{in_hand_one}
+use Rattle.driver_laws.proofs.invariant.Deeds.{deed_at}
+use Rattle.driver_laws.proofs.invariant.Due.{in_hand_one}
 use Rattle.driver_laws.specs.shown.Within.{Rests}
 use Rattle.driver_laws.proofs.shown.Telling.{Speaks, IsTold}
 use Rattle.driver_laws.specs.shown.Calls.{IsSurfaceOf, Stands, IsOverWithin}

@@ -11,7 +11,7 @@ use Rattle.driver_machine.specs.Acts.{Act, after, after_all}
 use Rattle.driver_machine.specs.Lines.{lines_of, lines_of_all}
 use Rattle.driver_machine.specs.Events.{Part, followed}
 use Rattle.driver_laws.specs.answers.Packs.{packs_after, packs_after_all}
-use Rattle.driver_laws.proofs.answers.Passes.{after_append}
+use Rattle.driver_laws.proofs.invariant.Leads.{after_append}
 use Rattle.driver_laws.proofs.shown.Telling.{told_within, within, within_all, LineFollows, LinesFollow, Tells}
 pub use Rattle.driver_laws.proofs.answers.Joined.{lines_append}
 

@@ -13,9 +13,8 @@ use Rattle.pack_geometry.specs.Pack.{Pack, grown, with_window, with_block, with_
 use Rattle.trace_replay.specs.Moments.{Moment, Deed, Sector, Played, Told, Idle}
 use Rattle.trace_replay.specs.Script as script
 use Rattle.trace_replay.specs.Script.{Input}
-use Rattle.trace_replay.specs.Events.{Event}
+use Rattle.trace_replay.specs.Events.{Event, is_no_line}
 use Rattle.trace_replay.specs.Replay.{Replay, after_moment, after_moments, drained, act_drained, next_wish}
-use Rattle.trace_replay.specs.Events.{is_no_line}
 use Rattle.driver_machine.specs.World.{World, unit_at, adapter_at, unit_of, held_in, slot_in_hand}
 use Rattle.driver_machine.specs.Acts as deed
 use Rattle.driver_machine.specs.Acts.{Act, Refuse, Submit, Of, Change, Nothing, Taken, Tried, after}
@@ -23,12 +22,12 @@ use Rattle.driver_machine.specs.Lines.{lines_of, lines_of_all}
 use Rattle.driver_machine.specs.Events.{submit_acts, event_acts, move_acts, in_hand, or_nothing, can_move}
 use Rattle.driver_machine.specs.Sound.{Sound}
 use Rattle.driver_machine.specs.Runs.{Run}
-use Rattle.driver_laws.proofs.shown.TracePasses.{deed_at}
-use Rattle.driver_laws.proofs.shown.TracePasses.{in_hand_one}
-use Rattle.driver_laws.proofs.shown.TracePasses.{IsServing, serving}
-use Rattle.driver_laws.specs.shown.TracePasses.{packs_after, packs_after_all}
-use Rattle.driver_laws.specs.shown.RunsPasses.{ShowsAll}
-use Rattle.driver_laws.proofs.shown.RunsPasses.{set_up}
+use Rattle.driver_laws.proofs.invariant.Deeds.{deed_at}
+use Rattle.driver_laws.proofs.invariant.Due.{in_hand_one}
+use Rattle.driver_laws.proofs.invariant.Calls.{IsServing, serving}
+use Rattle.driver_laws.specs.answers.Packs.{packs_after, packs_after_all}
+use Rattle.driver_laws.specs.shown.Within.{ShowsAll}
+use Rattle.driver_laws.proofs.shown.Starting.{set_up}
 use Rattle.driver_laws.proofs.shown.Acts.{is_inside}
 use Rattle.driver_laws.proofs.shown.Sectors.{IsNoMove, event_quiet, submission_quiet}
 use Rattle.driver_laws.specs.rules.Beginnings.{AreNoSectors}

@@ -28,12 +28,12 @@ use Rattle.driver_machine.specs.Events.{can_move}
 use Rattle.driver_machine.specs.Events as part
 use Rattle.driver_machine.specs.Guards.{Allowed, IsSetUp}
 use Rattle.driver_machine.specs.Sound.{Sound}
-use Rattle.driver_laws.proofs.shown.Passes.{false_true}
-use Rattle.driver_laws.proofs.shown.Passes.{own_unit}
+use Rattle.driver_machine.proofs.DueFacts.{false_true}
+use Rattle.driver_machine.proofs.Until.{own_unit}
 use Rattle.driver_machine.specs.Runs.{Run}
-use Rattle.driver_laws.proofs.answers.Passes.{deed_at}
-use Rattle.driver_laws.proofs.answers.Passes.{in_hand_one}
-use Rattle.driver_laws.proofs.answers.Passes.{IsServing, serving}
+use Rattle.driver_laws.proofs.invariant.Deeds.{deed_at}
+use Rattle.driver_laws.proofs.invariant.Due.{in_hand_one}
+use Rattle.driver_laws.proofs.invariant.Calls.{IsServing, serving}
 use Rattle.driver_laws.specs.answers.Packs.{packs_after}
 use Rattle.driver_laws.specs.shown.Shows.{Shows, is_coming, IsOnSurface}
 use Rattle.driver_laws.proofs.shown.Writes.{writes_show}

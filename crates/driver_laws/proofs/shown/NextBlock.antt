@@ -29,8 +29,8 @@ use Rattle.driver_machine.specs.Guards.{InHand, IsTried, IsSetUp}
 use Rattle.driver_machine.specs.Sound.{Sound}
 use Rattle.driver_laws.proofs.invariant.Frame.{scene_ok, unit_on-own}
 use Rattle.driver_laws.proofs.invariant.Sector.{next_below}
-use Rattle.driver_laws.proofs.shown.TracePasses.{IsServing, serving}
-use Rattle.driver_laws.specs.shown.TracePasses.{IsNextBlock}
+use Rattle.driver_laws.proofs.invariant.Calls.{IsServing, serving}
+use Rattle.driver_laws.specs.answers.Outcome.{IsNextBlock}
 use Rattle.driver_laws.specs.shown.Stages.{segment_seen, progress_with}
 use Rattle.driver_laws.specs.shown.Shows.{Shows, is_coming}
 use Rattle.driver_laws.proofs.shown.Busy.{Moves, moves}

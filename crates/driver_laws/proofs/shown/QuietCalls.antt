@@ -11,10 +11,10 @@ use Rattle.driver_machine.specs.Acts.{Act, Change, Taken, Tried, after, after_al
 use Rattle.driver_machine.specs.Events.{submit_acts, event_acts}
 use Rattle.driver_machine.specs.Sound.{Sound}
 use Rattle.driver_machine.specs.Runs.{Run}
-use Rattle.driver_laws.specs.shown.TracePasses.{is_taking}
-use Rattle.driver_laws.proofs.shown.TracePasses.{AreAll, Holds, all_submitted, all_of_event}
-use Rattle.driver_laws.proofs.shown.TracePasses.{sound_after}
-use Rattle.driver_laws.specs.shown.TracePasses.{ReadAll, packs_after, packs_after_all}
+use Rattle.driver_laws.specs.answers.Waiting.{is_taking}
+use Rattle.driver_laws.proofs.answers.Parts.{AreAll, Holds, all_submitted, all_of_event}
+use Rattle.driver_laws.proofs.invariant.Sound.{sound_after}
+use Rattle.driver_laws.specs.answers.Packs.{ReadAll, packs_after, packs_after_all}
 use Rattle.driver_laws.specs.shown.Bytes.{Bears}
 use Rattle.driver_laws.specs.shown.QuietLaws.{armed_with, maps_after, SubmissionsBear, EventsBear, TakingsBear}
 use Rattle.driver_laws.proofs.shown.EachAct.{acts_bear, bears_less}

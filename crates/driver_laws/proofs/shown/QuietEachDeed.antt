@@ -28,7 +28,7 @@ use Rattle.driver_machine.proofs.Frame.{effect_same, other_slot}
 use Rattle.driver_laws.proofs.invariant.Scene.{SceneOk, due_of}
 use Rattle.driver_laws.proofs.invariant.Frame.{Changed, scene_ok, adapter_here, unit_here, slot_here, deed_changed}
 use Rattle.driver_laws.proofs.invariant.Hand.{in_slot, slot_ok, own, not_made}
-use Rattle.driver_laws.specs.shown.TracePasses.{Reads, packs_after}
+use Rattle.driver_laws.specs.answers.Packs.{Reads, packs_after}
 use Rattle.driver_laws.specs.shown.Bytes.{map_done, IsSureFor, HandBears, UnitBears, done_by, done_in, last_in, IsStep, StepsFrom, maps_with, maps_behind, AreSteps, Bears}
 use Rattle.driver_laws.proofs.shown.Hand.{hand_waits}
 use Rattle.driver_laws.proofs.shown.Deeds.{SceneBears, IsPlain, plain_bears}

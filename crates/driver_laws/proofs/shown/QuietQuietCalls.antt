@@ -23,7 +23,7 @@ use Rattle.driver_machine.specs.Runs.{Works}
 use Rattle.driver_laws.proofs.invariant.Calls.{submit_works, event_works, taken_works}
 use Rattle.driver_laws.proofs.invariant.Next.{next_can}
 use Rattle.driver_laws.proofs.invariant.Sound.{sound_after}
-use Rattle.driver_laws.specs.shown.TracePasses.{packs_after_all}
+use Rattle.driver_laws.specs.answers.Packs.{packs_after_all}
 use Rattle.driver_laws.specs.shown.Shows.{Shows}
 use Rattle.driver_laws.proofs.shown.Rest.{rest_shows}
 use Rattle.driver_laws.specs.shown.Calls.{Stands, Ends, IsLeft, AreThere}

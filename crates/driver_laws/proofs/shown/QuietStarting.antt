@@ -26,7 +26,7 @@ use Rattle.driver_machine.specs.Events.{refusal_of, submit_acts}
 use Rattle.driver_machine.specs.Guards.{IsSetUp, IsHeldFor}
 use Rattle.driver_machine.specs.Sound.{Sound, AtWork}
 use Rattle.driver_machine.specs.Runs.{MaySubmit}
-use Rattle.driver_laws.specs.shown.TracePasses.{packs_after_all}
+use Rattle.driver_laws.specs.answers.Packs.{packs_after_all}
 use Rattle.driver_laws.proofs.shown.Inputted.{lines_play_nothing}
 use Rattle.driver_laws.specs.shown.Quiet.{IsQuiet, rested, StandsQuiet}
 use Rattle.driver_laws.specs.shown.QuietCalls.{GoesTo}

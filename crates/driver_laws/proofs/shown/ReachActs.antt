@@ -19,10 +19,10 @@ use Rattle.driver_machine.specs.Guards.{Allowed, InHand, MayChange}
 use Rattle.driver_machine.specs.Sound.{Sound}
 use Rattle.driver_machine.proofs.Frame.{effect_same}
 use Rattle.driver_laws.proofs.invariant.Hand.{slot_there}
-use Rattle.driver_laws.proofs.shown.TracePasses.{setups_stay}
-use Rattle.driver_laws.proofs.shown.TracePasses.{freed_was}
-use Rattle.driver_laws.specs.shown.TracePasses.{packs_after}
-use Rattle.driver_laws.proofs.shown.RunsPasses.{set_up}
+use Rattle.driver_laws.proofs.answers.Units.{setups_stay}
+use Rattle.driver_laws.proofs.answers.Ids.{freed_was}
+use Rattle.driver_laws.specs.answers.Packs.{packs_after}
+use Rattle.driver_laws.proofs.shown.Starting.{set_up}
 use Rattle.driver_laws.proofs.shown.Acts.{beyond_by, is_inside}
 use Rattle.driver_laws.specs.shown.Reach.{Reaches, StayFrom, JoinsBelow, ActsKeepReach}
 use Rattle.driver_laws.proofs.shown.Blocks.{next_in_reach}

@@ -17,11 +17,11 @@ use Rattle.driver_machine.specs.Events.{submit_acts, submit_by, event_acts, refu
 use Rattle.driver_machine.specs.Guards.{IsHeldFor, IsNew}
 use Rattle.driver_machine.specs.Sound.{Sound}
 use Rattle.driver_machine.specs.Runs.{Run, Works, MaySubmit}
-use Rattle.driver_laws.proofs.shown.TracePasses.{submit_works, event_works}
+use Rattle.driver_laws.proofs.invariant.Calls.{submit_works, event_works}
 use Rattle.driver_laws.proofs.invariant.Starts.{sound_new}
-use Rattle.driver_laws.proofs.shown.TracePasses.{sound_after}
-use Rattle.driver_laws.proofs.shown.TracePasses.{AreAll, Holds, all_submitted, all_of_event}
-use Rattle.driver_laws.specs.shown.TracePasses.{packs_after, packs_after_all}
+use Rattle.driver_laws.proofs.invariant.Sound.{sound_after}
+use Rattle.driver_laws.proofs.answers.Parts.{AreAll, Holds, all_submitted, all_of_event}
+use Rattle.driver_laws.specs.answers.Packs.{packs_after, packs_after_all}
 use Rattle.driver_laws.specs.shown.RunsRuns.{AreDeclared}
 use Rattle.driver_laws.proofs.shown.RunsLaws.{is_small}
 use Rattle.driver_laws.specs.shown.Reach.{AsksBelow, IsWithinReach, JoinsBelow, StartsWithinReach, EventsKeepReach, SubmissionsKeepReach, AnswersKeepReach}

@@ -15,12 +15,11 @@ use Rattle.driver_machine.specs.Events.{submit_acts, event_acts}
 use Rattle.driver_machine.specs.Guards.{Allowed}
 use Rattle.driver_machine.specs.Sound.{Sound}
 use Rattle.driver_machine.specs.Runs.{Works}
-use Rattle.driver_laws.proofs.shown.TracePasses.{submit_works, event_works}
+use Rattle.driver_laws.proofs.invariant.Calls.{submit_works, event_works}
 use Rattle.driver_laws.proofs.invariant.Starts.{sound_new}
-use Rattle.driver_laws.proofs.shown.TraceRuns.{sound_after}
-use Rattle.driver_laws.specs.shown.TracePasses.{packs_after}
+use Rattle.driver_laws.proofs.shown.TraceRuns.{sound_after, is_legal}
+use Rattle.driver_laws.specs.answers.Packs.{packs_after}
 use Rattle.driver_laws.proofs.shown.Marks.{sectors_are_left, marks_stay}
-use Rattle.driver_laws.proofs.shown.TraceRuns.{is_legal}
 use Rattle.driver_laws.specs.shown.RunsRuns.{IsKept, StartsKept, RunsKeep, EventsKeep, SubmissionsKeep, AnswersKeep, PacksAreLeft, RunsAreLegal}
 use Rattle.driver_laws.proofs.shown.Acts.{beyond_stays, others_stay}
 use Rattle.driver_laws.proofs.shown.Units.{act_same}

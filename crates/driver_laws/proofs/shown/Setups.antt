@@ -5,8 +5,8 @@ use Rattle.pack_geometry.specs.declared.DriveKind.{DriveKind}
 use Rattle.pack_geometry.specs.TableSpelling.{Table}
 use Rattle.driver_machine.specs.World.{UnitView, unit_at}
 use Rattle.driver_machine.specs.Acts.{after_all}
-use Rattle.driver_laws.specs.shown.TracePasses.{IsSetAs}
-use Rattle.driver_laws.proofs.shown.TracePasses.{setups_stay}
+use Rattle.driver_laws.specs.answers.Counts.{IsSetAs}
+use Rattle.driver_laws.proofs.answers.Units.{setups_stay}
 use Rattle.driver_laws.specs.shown.Quiet.{kind_if, table_if, setup_of}
 use Rattle.driver_laws.specs.shown.QuietCalls.{SetupStays}
 

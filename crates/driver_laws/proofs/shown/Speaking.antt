@@ -17,12 +17,12 @@ use Rattle.driver_machine.specs.Lines.{deed_told, step_told, lines_with, lines_o
 use Rattle.driver_machine.specs.Events.{go_on, until, next_acts}
 use Rattle.driver_machine.specs.Guards.{Allowed, IsSetUp}
 use Rattle.driver_machine.specs.Sound.{Sound}
-use Rattle.driver_laws.proofs.shown.Passes.{due_facts}
-use Rattle.driver_laws.proofs.shown.Passes.{other_unit, effect_same}
-use Rattle.driver_laws.proofs.shown.Passes.{IsNext, next_cases, own_unit}
+use Rattle.driver_machine.proofs.DueFacts.{due_facts}
+use Rattle.driver_machine.proofs.Frame.{other_unit, effect_same}
+use Rattle.driver_machine.proofs.Until.{IsNext, next_cases, own_unit}
 use Rattle.driver_machine.specs.Runs.{Run}
-use Rattle.driver_laws.proofs.answers.Passes.{deed_at, own_adapter}
-use Rattle.driver_laws.proofs.answers.Passes.{sound_after}
+use Rattle.driver_laws.proofs.invariant.Deeds.{deed_at, own_adapter}
+use Rattle.driver_laws.proofs.invariant.Sound.{sound_after}
 use Rattle.driver_laws.specs.answers.Packs.{packs_after}
 use Rattle.driver_laws.specs.shown.Shows.{Shows, IsOnSurface}
 use Rattle.driver_laws.specs.shown.Laws.{IsSaid, told_by}

@@ -17,11 +17,11 @@ use Rattle.driver_machine.specs.Events.{Part, go_on, until, begun, choose_by, ch
 use Rattle.driver_machine.specs.Guards.{Allowed, IsSetUp}
 use Rattle.driver_machine.specs.Sound.{Sound, Among, is_waiting}
 use Rattle.driver_machine.specs.Runs.{Run}
-use Rattle.driver_laws.proofs.answers.Passes.{run_split}
-use Rattle.driver_laws.proofs.answers.Passes.{deed_at}
-use Rattle.driver_laws.proofs.answers.Passes.{begun_one}
-use Rattle.driver_laws.proofs.answers.Passes.{start_is, no_more}
-use Rattle.driver_laws.proofs.answers.Passes.{sound_after}
+use Rattle.driver_laws.proofs.invariant.Leads.{run_split}
+use Rattle.driver_laws.proofs.invariant.Deeds.{deed_at}
+use Rattle.driver_laws.proofs.invariant.Due.{begun_one}
+use Rattle.driver_laws.proofs.invariant.Start.{start_is, no_more}
+use Rattle.driver_laws.proofs.invariant.Sound.{sound_after}
 use Rattle.driver_laws.specs.shown.Shows.{is_coming}
 use Rattle.driver_laws.specs.shown.Laws.{told_by}
 use Rattle.driver_laws.specs.shown.Within.{Rests}

@@ -28,9 +28,9 @@ use Rattle.driver_machine.specs.Events.{followed, and_then, choose_by, choose_ac
 use Rattle.driver_machine.specs.Guards.{Allowed, IsSetUp, IsHeldFor, MayChange}
 use Rattle.driver_machine.specs.Sound.{Sound, AtWork, WorkOf}
 use Rattle.driver_machine.specs.Runs.{Run}
-use Rattle.driver_laws.proofs.answers.Passes.{run_split}
-use Rattle.driver_laws.proofs.answers.Passes.{until_stop}
-use Rattle.driver_laws.proofs.answers.Passes.{sound_after}
+use Rattle.driver_laws.proofs.invariant.Leads.{run_split}
+use Rattle.driver_laws.proofs.invariant.Start.{until_stop}
+use Rattle.driver_laws.proofs.invariant.Sound.{sound_after}
 use Rattle.driver_laws.specs.answers.Packs.{packs_after_all}
 use Rattle.driver_laws.specs.shown.Shows.{Shows}
 use Rattle.driver_laws.specs.shown.Acts.{IsRefused, IsAtWorkFor}

@@ -10,27 +10,25 @@ use Rattle.trace_replay.specs.Moments.{Moment, Played}
 use Rattle.trace_replay.specs.Packs.{Surface}
 use Rattle.trace_replay.specs.Script as script
 use Rattle.trace_replay.specs.Script.{Input}
-use Rattle.trace_replay.specs.Replay.{Replay, Submission, Refused, Joined, all_units, new_replay, are_at_work, InputMay, after_moment, after_moments, replay_played, submitted, submission, Legal}
+use Rattle.trace_replay.specs.Replay.{Replay, Submission, Refused, Joined, all_units, new_replay, are_at_work, InputMay, Follows, after_moment, after_moments, replay_played, submitted, submission, Legal}
 use Rattle.driver_laws.proofs.rules.Conserved.{is_conserved}
 use Rattle.driver_machine.specs.World.{World, UnitView, unit_at, slot_in_hand, no_unit}
 use Rattle.driver_machine.specs.Acts as deed
-use Rattle.driver_machine.specs.Acts.{Act, Refuse, Submit, Of, Change, Nothing, Tried, effect, scene_of, joined, after, after_all}
+use Rattle.driver_machine.specs.Acts.{Act, Refuse, Submit, Of, Change, Nothing, effect, scene_of, joined, after, after_all}
 use Rattle.driver_machine.specs.Lines.{lines_of_all}
-use Rattle.driver_machine.specs.Events.{event_acts, next_event}
+use Rattle.driver_machine.specs.Events.{next_event}
 use Rattle.driver_machine.specs.Guards.{Allowed}
 use Rattle.driver_machine.specs.Sound.{Sound, AtWork}
-use Rattle.driver_laws.proofs.shown.Passes.{effect_same}
+use Rattle.driver_machine.proofs.Frame.{effect_same}
 use Rattle.driver_machine.specs.Runs.{Run}
-use Rattle.driver_laws.proofs.answers.Passes.{next_can}
-pub use Rattle.driver_laws.proofs.answers.Passes.{sound_after}
+use Rattle.driver_laws.proofs.invariant.Next.{unit_there}
+pub use Rattle.driver_laws.proofs.invariant.Sound.{sound_after}
 use Rattle.driver_laws.specs.answers.Packs.{packs_after_all}
 use Rattle.driver_laws.specs.shown.Calls.{Ends, IsLeft, AreThere}
 use Rattle.driver_laws.proofs.shown.Telling.{IsTold}
-use Rattle.driver_laws.proofs.shown.Named.{IsTriedOn}
 use Rattle.driver_laws.specs.shown.Runs.{IsSoFar, IsDraining}
-use Rattle.driver_laws.proofs.shown.DrainsLaws.{GoesOn, drain_goes_on, drain_between, drain_begins, drain_idle, event_goes, call_left, drain_left, none_outstanding}
+use Rattle.driver_laws.proofs.shown.DrainsLaws.{drain_idle, call_left, drain_left, none_outstanding}
 use Rattle.driver_laws.proofs.rules.Quiet.{after_parts}
-use Rattle.driver_laws.proofs.invariant.Next.{unit_there}
 use Rattle.trace_replay.proofs.Following.{joined as follows_append}
 
 -- THE UNITS that are set up stay so.
@@ -90,10 +88,34 @@ pub played_there : (s : Replay) (input : Input) → (replay_played s input).ther
 played_there s (script.Submit r) = submit_there s r (submission s r)
 played_there s other = refl
 
+-- WHAT FOLLOWS behind a run so far goes on with it, between two calls
+so_far : (start : Replay) (line : ℕ) (moments more : List Moment) (held : ℕ → Pack) (w : World) → Follows start moments → Follows (after_moments start moments) more
+    → IsLeft line held w (after_moments (after_moments start moments) more) → AreThere w (after_moments (after_moments start moments) more)
+    → IsSoFar start line (moments ++ more) held w
+so_far start line moments more held w before behind left there = record {
+  follows = follows_append start moments more before behind;
+  left = subst (IsLeft line held w) (sym (after_parts start moments more)) left;
+  there = subst (AreThere w) (sym (after_parts start moments more)) there;
+}
+
+-- and in a drain.
+pub draining : (start : Replay) (line : ℕ) (moments more : List Moment) (held : ℕ → Pack) (w : World) → Follows start moments
+    → Follows (after_moments start moments) more → Ends line true held w (after_moments (after_moments start moments) more) → AtWork w
+    → AreThere w (after_moments (after_moments start moments) more) → IsDraining start line (moments ++ more) held w
+draining start line moments more held w before behind ends work there = record {
+  follows = follows_append start moments more before behind;
+  ends = subst (Ends line true held w) (sym (after_parts start moments more)) ends;
+  work = work;
+  there = subst (AreThere w) (sym (after_parts start moments more)) there;
+}
+
 module _ (drives : ℕ → Option DriveKind) (tables : ℕ → Option Table) (surface : Surface) where
+  abbrev start : Replay
+  start = new_replay drives tables surface
+
   -- A LINE OF THE SCRIPT may be played.
-  pub may_play : (line next : ℕ) (moments : List Moment) (held : ℕ → Pack) (w : World) → IsSoFar (new_replay drives tables surface) line moments held w
-      → line < next → InputMay (after_moments (new_replay drives tables surface) moments) next
+  pub may_play : (line next : ℕ) (moments : List Moment) (held : ℕ → Pack) (w : World) → IsSoFar start line moments held w
+      → line < next → InputMay (after_moments start moments) next
   may_play line next moments held w far less = record {
     later = ap (λ (n : ℕ). nat_lt n next) far.left.line_is ∙ lt-ltb line next less;
     over = far.left.stands.over;
@@ -103,110 +125,42 @@ module _ (drives : ℕ → Option DriveKind) (tables : ℕ → Option Table) (su
 
   -- A CALL that is no drain
   pub call_goes : (line next : ℕ) (input : Input) (moments : List Moment) (held : ℕ → Pack) (w : World) (acts : List Act)
-      → IsSoFar (new_replay drives tables surface) line moments held w → line < next → Run w acts → AtWork (after_all w acts)
-      → IsTold next false held w (after_moment (after_moments (new_replay drives tables surface) moments) (Played next input)) acts
-      → IsSoFar (new_replay drives tables surface) next (moments ++ Played next input ∷ lines_of_all w acts) (packs_after_all w held acts) (after_all w acts)
+      → IsSoFar start line moments held w → line < next → Run w acts → AtWork (after_all w acts)
+      → IsTold next false held w (after_moment (after_moments start moments) (Played next input)) acts
+      → IsSoFar start next (moments ++ Played next input ∷ lines_of_all w acts) (packs_after_all w held acts) (after_all w acts)
   call_goes line next input moments held w acts far less run work told =
-      let s : Replay = after_moments (new_replay drives tables surface) moments in
-      let at : after_moments (new_replay drives tables surface) (moments ++ Played next input ∷ lines_of_all w acts)
-      ≡ after_moments (after_moment s (Played next input)) (lines_of_all w acts) =
-      after_parts (new_replay drives tables surface) moments (Played next input ∷ lines_of_all w acts) in
-      record {
-        follows = follows_append (new_replay drives tables surface) moments (Played next input ∷ lines_of_all w acts) far.follows
-            (may_play line next moments held w far less, told.follows);
-        left = subst (IsLeft next (packs_after_all w held acts) (after_all w acts)) (sym at)
-            (call_left next (packs_after_all w held acts) (after_all w acts) (after_moments (after_moment s (Played next input)) (lines_of_all w acts)) work told.ends);
-        there = subst (AreThere (after_all w acts)) (sym at)
-            (there_after w acts s (after_moments (after_moment s (Played next input)) (lines_of_all w acts)) far.left.stands.sound run far.there
-            (told.there ∙ played_there s input));
-      }
+      let s : Replay = after_moments start moments in
+      let now : Replay = after_moments (after_moment s (Played next input)) (lines_of_all w acts) in
+      so_far start next moments (Played next input ∷ lines_of_all w acts) (packs_after_all w held acts) (after_all w acts) far.follows
+      (may_play line next moments held w far less, told.follows) (call_left next (packs_after_all w held acts) (after_all w acts) now work told.ends)
+      (there_after w acts s now far.left.stands.sound run far.there (told.there ∙ played_there s input))
 
   -- A DRAIN that finds nothing
   pub drain_finds_nothing : (line next : ℕ) (moments : List Moment) (held : ℕ → Pack) (w : World)
-      → IsSoFar (new_replay drives tables surface) line moments held w → line < next → next_event w ≡ None
-      → IsSoFar (new_replay drives tables surface) next (moments ++ Played next script.Drain ∷ lines_of_all w (Nothing next ∷ [])) held w
+      → IsSoFar start line moments held w → line < next → next_event w ≡ None
+      → IsSoFar start next (moments ++ Played next script.Drain ∷ lines_of_all w (Nothing next ∷ [])) held w
   drain_finds_nothing line next moments held w far less idle =
-      let s : Replay = after_moments (new_replay drives tables surface) moments in
+      let s : Replay = after_moments start moments in
       let told : IsTold next true held w (after_moment s (Played next script.Drain)) (Nothing next ∷ []) = drain_idle next held w s far.left.stands idle in
-      let at : after_moments (new_replay drives tables surface) (moments ++ Played next script.Drain ∷ lines_of_all w (Nothing next ∷ []))
-      ≡ after_moments (after_moment s (Played next script.Drain)) (lines_of_all w (Nothing next ∷ [])) =
-      after_parts (new_replay drives tables surface) moments (Played next script.Drain ∷ lines_of_all w (Nothing next ∷ [])) in
-      record {
-        follows = follows_append (new_replay drives tables surface) moments (Played next script.Drain ∷ lines_of_all w (Nothing next ∷ [])) far.follows
-            (may_play line next moments held w far less, told.follows);
-        left = subst (IsLeft next held w) (sym at)
-            (drain_left next held w (after_moments (after_moment s (Played next script.Drain)) (lines_of_all w (Nothing next ∷ []))) far.left.stands.work idle told.ends);
-        there = subst (AreThere w) (sym at) far.there;
-      }
+      so_far start next moments (Played next script.Drain ∷ lines_of_all w (Nothing next ∷ [])) held w far.follows
+      (may_play line next moments held w far less, told.follows)
+      (drain_left next held w (after_moments (after_moment s (Played next script.Drain)) (lines_of_all w (Nothing next ∷ []))) far.left.stands.work idle told.ends)
+      far.there
 
-  -- its first event,
-  pub drain_starts : (line next : ℕ) (input : Input) (tried : Tried) (moments : List Moment) (held : ℕ → Pack) (w : World)
-      → IsSoFar (new_replay drives tables surface) line moments held w → line < next → next_event w ≡ Some input
-      → IsTriedOn w (after_moment (after_moments (new_replay drives tables surface) moments) (Played next script.Drain)) input tried
-      → Run w (event_acts next input tried w) → AtWork (after_all w (event_acts next input tried w))
-      → IsDraining (new_replay drives tables surface) next (moments ++ Played next script.Drain ∷ lines_of_all w (event_acts next input tried w))
-      (packs_after_all w held (event_acts next input tried w)) (after_all w (event_acts next input tried w))
-  drain_starts line next input tried moments held w far less is on run work =
-      let s : Replay = after_moments (new_replay drives tables surface) moments in
-      let acts : List Act = event_acts next input tried w in
-      let goes : GoesOn next input held w (after_moment s (Played next script.Drain)) = drain_begins next input held w s far.left.stands far.there is in
-      let told : IsTold next true held w (after_moment s (Played next script.Drain)) acts =
-      event_goes next true input tried held w (after_moment s (Played next script.Drain)) (next_can w input far.left.stands.sound is) goes.rests goes.packs on run in
-      let at : after_moments (new_replay drives tables surface) (moments ++ Played next script.Drain ∷ lines_of_all w acts)
-      ≡ after_moments (after_moment s (Played next script.Drain)) (lines_of_all w acts) =
-      after_parts (new_replay drives tables surface) moments (Played next script.Drain ∷ lines_of_all w acts) in
-      record {
-        follows = follows_append (new_replay drives tables surface) moments (Played next script.Drain ∷ lines_of_all w acts) far.follows
-            (may_play line next moments held w far less, told.follows);
-        ends = subst (Ends next true (packs_after_all w held acts) (after_all w acts)) (sym at) told.ends;
-        work = work;
-        there = subst (AreThere (after_all w acts)) (sym at)
-            (there_after w acts s (after_moments (after_moment s (Played next script.Drain)) (lines_of_all w acts)) far.left.stands.sound run far.there told.there);
-      }
-
-  -- each of the others,
-  pub drain_continues : (line : ℕ) (input : Input) (tried : Tried) (moments : List Moment) (held : ℕ → Pack) (w : World)
-      → IsDraining (new_replay drives tables surface) line moments held w → next_event w ≡ Some input
-      → IsTriedOn w (after_moments (new_replay drives tables surface) moments) input tried
-      → Run w (event_acts line input tried w) → AtWork (after_all w (event_acts line input tried w))
-      → IsDraining (new_replay drives tables surface) line (moments ++ lines_of_all w (event_acts line input tried w))
-      (packs_after_all w held (event_acts line input tried w)) (after_all w (event_acts line input tried w))
-  drain_continues line input tried moments held w far is on run work =
-      let s : Replay = after_moments (new_replay drives tables surface) moments in
-      let acts : List Act = event_acts line input tried w in
-      let at_work : are_at_work s ≡ true =
-      is_conserved drives tables surface moments far.follows (inr (drain_between line input held w s far.ends far.work is)) in
-      let goes : GoesOn line input held w s = drain_goes_on line input held w s far.ends far.work far.there is at_work in
-      let told : IsTold line true held w s acts =
-      event_goes line true input tried held w s (next_can w input goes.rests.sound is) goes.rests goes.packs on run in
-      let at : after_moments (new_replay drives tables surface) (moments ++ lines_of_all w acts) ≡ after_moments s (lines_of_all w acts) =
-      after_parts (new_replay drives tables surface) moments (lines_of_all w acts) in
-      record {
-        follows = follows_append (new_replay drives tables surface) moments (lines_of_all w acts) far.follows told.follows;
-        ends = subst (Ends line true (packs_after_all w held acts) (after_all w acts)) (sym at) told.ends;
-        work = work;
-        there = subst (AreThere (after_all w acts)) (sym at)
-            (there_after w acts s (after_moments s (lines_of_all w acts)) goes.rests.sound run far.there told.there);
-      }
-
-  -- and its end
+  -- and the end of one that found something
   pub drain_ends : (line : ℕ) (moments : List Moment) (held : ℕ → Pack) (w : World)
-      → IsDraining (new_replay drives tables surface) line moments held w → next_event w ≡ None
-      → IsSoFar (new_replay drives tables surface) line moments held w
-  drain_ends line moments held w far idle = record {
-    follows = far.follows;
-    left = drain_left line held w (after_moments (new_replay drives tables surface) moments) far.work idle far.ends;
-    there = far.there;
-  }
+      → IsDraining start line moments held w → next_event w ≡ None → IsSoFar start line moments held w
+  drain_ends line moments held w far idle =
+      record { follows = far.follows; left = drain_left line held w (after_moments start moments) far.work idle far.ends; there = far.there }
 
   -- WHERE NOTHING IS OUTSTANDING the trace is legal.
   pub is_legal : (line : ℕ) (moments : List Moment) (held : ℕ → Pack) (w : World)
-      → IsSoFar (new_replay drives tables surface) line moments held w → next_event w ≡ None → Legal (new_replay drives tables surface) moments
+      → IsSoFar start line moments held w → next_event w ≡ None → Legal start moments
   is_legal line moments held w far idle = record {
     follows = far.follows;
     over = record {
       over = far.left.stands.over;
-      answered = none_outstanding w (after_moments (new_replay drives tables surface) moments).outstanding far.left.stands.sound far.left.stands.work idle
+      answered = none_outstanding w (after_moments start moments).outstanding far.left.stands.sound far.left.stands.work idle
           far.left.stands.shows.outstanding;
     };
   }

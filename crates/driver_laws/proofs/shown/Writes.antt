@@ -15,9 +15,8 @@ use Rattle.trace_replay.specs.Conversation as told
 use Rattle.driver_machine.specs.World.{UnitView, Held, adapter_of, unit_at, adapter_at, held_in, slot_in_hand, transfer_of, block_in, pieces}
 use Rattle.driver_laws.specs.shown.Stages.{progress_with}
 use Rattle.driver_laws.specs.shown.Acts.{WritesShow}
-use Rattle.driver_laws.proofs.shown.Sector.{sector_progress}
+use Rattle.driver_laws.proofs.shown.Sector.{sector_progress, IsSector, sector_facts}
 use Rattle.driver_laws.proofs.shown.Facts.{At, at_facts}
-use Rattle.driver_laws.proofs.shown.Sector.{IsSector, sector_facts}
 
 cut_same : (size n : ℕ) (xs : List ℕ) → length (take n xs) ≡ size → take size xs ≡ take n xs
 cut_same size zero [] is = rw (sym is) refl

@@ -2,12 +2,12 @@
 use Rattle.std.specs.Prelude.{◌≡◌, ℕ, ◌<◌, List, [], ◌∷◌, length}
 use Rattle.trace_replay.specs.requests.Requests.{Request}
 use Rattle.trace_replay.specs.Script.{Input}
-use Rattle.driver_laws.specs.invariant.Passes.{World, Held}
-use Rattle.driver_laws.specs.invariant.Passes.{Act, Taken, Tried, after, after_all}
-use Rattle.driver_laws.specs.invariant.Passes.{choose_acts, adapter_start, submit_acts, event_acts}
-use Rattle.driver_laws.specs.invariant.Passes.{Allowed}
-use Rattle.driver_laws.specs.invariant.Passes.{Sound, AtWork}
-use Rattle.driver_laws.specs.invariant.Passes.{Run, Works, MaySubmit, MayCome}
+use Rattle.driver_machine.specs.World.{World, Held}
+use Rattle.driver_machine.specs.Acts.{Act, Taken, Tried, after, after_all}
+use Rattle.driver_machine.specs.Events.{choose_acts, adapter_start, submit_acts, event_acts}
+use Rattle.driver_machine.specs.Guards.{Allowed}
+use Rattle.driver_machine.specs.Sound.{Sound, AtWork}
+use Rattle.driver_machine.specs.Runs.{Run, Works, MaySubmit, MayCome}
 
 -- each act that is allowed leaves the driver sound, and so do acts that run
 abbrev pub EachActKeeps : Type 0

@@ -13,9 +13,9 @@ use Rattle.driver_machine.specs.Acts.{Nothing, Tried}
 use Rattle.driver_machine.specs.Lines.{lines_of_all}
 use Rattle.driver_machine.specs.Events.{submit_acts, event_acts}
 use Rattle.driver_machine.specs.Sound.{Sound}
-use Rattle.driver_laws.specs.shown.TracePasses.{packs_after_all}
-use Rattle.driver_laws.specs.shown.RunsPasses.{ShowsAll}
-use Rattle.driver_laws.specs.shown.RunsPasses.{with_call}
+use Rattle.driver_laws.specs.answers.Packs.{packs_after_all}
+use Rattle.driver_laws.specs.shown.Within.{ShowsAll}
+use Rattle.driver_laws.specs.shown.Runs.{with_call}
 use Rattle.driver_machine.specs.Runs.{Run}
 
 -- so many bytes, or as many as there are up to the end of a block

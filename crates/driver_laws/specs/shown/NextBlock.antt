@@ -7,7 +7,7 @@ use Rattle.trace_replay.specs.Replay.{Replay, AreLeft}
 use Rattle.trace_replay.specs.Service.{in_hand}
 use Rattle.driver_machine.specs.World.{World}
 use Rattle.driver_machine.specs.Sound.{Sound}
-use Rattle.driver_laws.specs.shown.TracePasses.{IsNextBlock}
+use Rattle.driver_laws.specs.answers.Outcome.{IsNextBlock}
 use Rattle.driver_laws.specs.shown.Within.{ShowsAll}
 use Rattle.driver_laws.specs.shown.RunsRuns.{AreDeclared}
 use Rattle.driver_laws.specs.rules.Beginnings.{IsNextSector, with_next}

@@ -14,7 +14,7 @@ use Rattle.driver_machine.specs.Lines.{lines_of_all}
 use Rattle.driver_machine.specs.Events.{refusal_of, submit_acts, event_acts, next_event}
 use Rattle.driver_machine.specs.Guards.{IsSetUp, IsHeldFor}
 use Rattle.driver_machine.specs.Runs.{MaySubmit, MayCome}
-use Rattle.driver_laws.specs.shown.TracePasses.{packs_after_all}
+use Rattle.driver_laws.specs.answers.Packs.{packs_after_all}
 use Rattle.driver_laws.specs.shown.Calls.{Stands, AreThere, IsReadOf}
 use Rattle.driver_laws.specs.shown.Runs.{IsDraining}
 use Rattle.driver_laws.specs.rules.Sessions.{MayPlay, behind_all, waited}

@@ -17,7 +17,7 @@ use Rattle.driver_machine.specs.Guards.{IsSetUp, Allowed}
 use Rattle.driver_machine.specs.Sound.{Sound, AtWork}
 use Rattle.driver_laws.specs.invariant.Parts.{AreSetups}
 use Rattle.driver_machine.specs.Runs.{Run, NoneOutstanding}
-use Rattle.driver_laws.specs.shown.TracePasses.{Reads, ReadAll, packs_after, packs_after_all}
+use Rattle.driver_laws.specs.answers.Packs.{Reads, ReadAll, packs_after, packs_after_all}
 use Rattle.driver_laws.specs.shown.Bytes.{Bears, maps_behind}
 
 -- AT REST: no request is outstanding, no answer waits, and no noise is live. Where the tables are those of the packs, the map is what

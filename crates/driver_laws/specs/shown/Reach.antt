@@ -14,8 +14,8 @@ use Rattle.driver_machine.specs.Guards.{Allowed, IsHeldFor}
 use Rattle.driver_machine.specs.Sound.{Sound, AtWork}
 use Rattle.driver_laws.specs.invariant.Parts.{AreSetups}
 use Rattle.driver_machine.specs.Runs.{MaySubmit, MayCome}
-use Rattle.driver_laws.specs.shown.TracePasses.{IsNextBlock}
-use Rattle.driver_laws.specs.shown.TracePasses.{packs_after, packs_after_all}
+use Rattle.driver_laws.specs.answers.Outcome.{IsNextBlock}
+use Rattle.driver_laws.specs.answers.Packs.{packs_after, packs_after_all}
 use Rattle.driver_laws.specs.shown.Acts.{AreSetUp}
 use Rattle.driver_laws.specs.shown.RunsRuns.{AreDeclared}
 

@@ -6,7 +6,7 @@ use Rattle.driver_machine.specs.World.{World, unit_at}
 use Rattle.driver_machine.specs.Acts.{Act}
 use Rattle.driver_machine.specs.Guards.{Allowed}
 use Rattle.driver_machine.specs.Sound.{Sound}
-use Rattle.driver_laws.specs.shown.TracePasses.{packs_after}
+use Rattle.driver_laws.specs.answers.Packs.{packs_after}
 
 -- What an image has behind the last sector of its unit's drive stays,
 abbrev pub BeyondStays : Type 0

@@ -16,7 +16,7 @@ use Rattle.driver_machine.specs.Events.{submit_acts, event_acts, next_event}
 use Rattle.driver_machine.specs.Sound.{Sound, AtWork}
 use Rattle.driver_laws.specs.invariant.Parts.{AreSetups}
 use Rattle.driver_machine.specs.Runs.{Run, MaySubmit, MayCome}
-use Rattle.driver_laws.specs.shown.TracePasses.{packs_after_all}
+use Rattle.driver_laws.specs.answers.Packs.{packs_after_all}
 use Rattle.driver_laws.specs.shown.Acts.{AreSetUp}
 use Rattle.driver_laws.specs.shown.Runs.{IsSoFar}
 

@@ -1,12 +1,7 @@
 // One step of a transfer: the move of one sector between the drive and the loaded buffer.
-ghost use Rattle.std.specs.Prelude.{◌≡◌, ◌<◌, true, false, IfOk, IsOk, OnErr, IsSome, if◌then◌else◌};
-ghost use Rattle.main_memory.specs.Blocks.{size_at};
-ghost use Rattle.main_memory.specs.Memory.{with_block};
-ghost use Rattle.hardware_table.specs.Moves.{stop_of, was_read};
-ghost use Rattle.hardware_table.specs.Adapter.{next_block, next_window, stepped, drive_stepped};
-ghost use Rattle.drive_model.specs.Move.{MovesSector, FailsAtPacks};
-ghost use Rattle.mba_adapter.specs.Loaded.{next_bytes};
-ghost use Rattle.mba_adapter.specs.Steps.{MayMove};
+ghost use Rattle.std.specs.Prelude.{◌≡◌, ◌<◌, true, false};
+ghost use Rattle.hardware_table.specs.Adapter.{next_window, stepped};
+ghost use Rattle.mba_adapter.specs.Steps.{MayMove, StepsSector, buffer_block};
 
 use crate::adapter::Adapter;
 use drive_model::{Drive, FaultKind, Moved, NoiseBook};
@@ -55,30 +50,12 @@ impl Adapter {
         requires unit { unit < 32 }
         requires may { MayMove self.old drive.old buffer.now memory.old }
 
-        // The verdict, and the bytes that moved.
-        ensures moves { IfOk result (λ v. MovesSector unit (next_block self.old) drive.old
-            (size_at buffer.now (next_window self.old)) (P.tells packs.new)
-            (record { book = book.old; held = P.held packs.old; window = next_bytes self.old buffer.now memory.old })
-            (record { book = book.new; held = P.held packs.new; window = next_bytes self.old buffer.now memory.new }) v) }
-        ensures adapter { IfOk result (λ v. self.new ≡ stepped v self.old) }
-        ensures drive { IfOk result (λ v. drive.new ≡ drive_stepped v self.old drive.old) }
-
-        // No byte of the memory changes except those of the block, and what is lent stays lent.
-        ensures memory { IfOk result (λ v. memory.new
-            ≡ (if was_read drive.old v
-            then with_block buffer.now (next_window self.old) (next_bytes self.old buffer.now memory.new) memory.old
-            else memory.old)) }
+        ensures steps { StepsSector P.tells P.held P.faults packs.old packs.new unit (buffer_block self.old buffer.now)
+            (record { adapter = self.old; drive = drive.old; book = book.old; store = memory.old })
+            (record { adapter = self.new; drive = drive.new; book = book.new; store = memory.new }) result }
 
         // The block is one of the buffer's.
         ensures inside { next_window self.old < self.old.blocks }
-
-        // A drive that is stopped asks the packs for nothing.
-        ensures stopped { IsSome (stop_of drive.old) → IsOk result × (packs.new ≡ packs.old) }
-
-        // A failure.
-        ensures unchanged { OnErr result ((self.new ≡ self.old) × (drive.new ≡ drive.old) × (memory.new ≡ memory.old) × (book.new ≡ book.old)) }
-        ensures failure { FailsAtPacks P.tells P.held P.faults packs.old packs.new unit (next_block self.old) drive.old
-            (record { book = book.old; held = P.held packs.old; window = next_bytes self.old buffer.now memory.old }) result }
     {
         let mut window = memory.window(buffer, self.skip + self.moved);
         let verdict = drive.move_sector(packs, unit, self.block + self.moved, book, &mut window)?;

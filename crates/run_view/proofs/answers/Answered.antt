@@ -41,7 +41,7 @@ use Rattle.trace_replay.proofs.Kept.{AllFit, moments_all, starts, end_kept}
 use Rattle.trace_replay.proofs.Asking.{run_asks}
 use Rattle.run_view.proofs.answers.Declaring.{IsDeclared, script_declared}
 use Rattle.run_view.proofs.answers.Conditions.{conditions_of}
-use Rattle.run_view.proofs.answers.Ended.{IsEnded, all_ended, finished_ended}
+use Rattle.run_view.proofs.answers.Ended.{HasEnded, IsEnded, IsSo, all_ended, finished_ended}
 use Rattle.run_view.proofs.answers.Named.{IsNamed, all_named, none_named}
 use Rattle.run_view.proofs.answers.Running.{refused_is_so, Both, AreGood, WishTied, next_tied, turned_both, moment_both, moment_fits}
 use Rattle.run_view.proofs.answers.Starting.{run_good, names_behind, good_parts, some_parts, all_both, start_both}
@@ -79,28 +79,26 @@ full_head names l x u lines id (w ∷ rest) q is = record {
 }
 
 -- ITS END
-end_line : (b : Bool) (event line : ℕ) (d : Drive) (r : Request) → (request_end b event line d r).ended_line ≡ line
-end_line true event line d r = refl
-end_line false event line d r = refl
-
-end_is : (k : Known) (line u id place : ℕ) (a : Answer) (b : Bool) → place_of k.ids id ≡ Some place → place < length k.requests → is_refused place (drive_at k.drives u) (request_at k.requests place) ≡ b
-    → (event : ℕ) → (request_end b k.event line (drive_at k.drives u) (request_at k.requests place)).ended ≡ Some event
-    → IsWordOf (request_end b k.event line (drive_at k.drives u) (request_at k.requests place)).outcome a
-    → IsEnded (heard (seen.Told line u id deed.End) k).ids (heard (seen.Told line u id deed.End) k).requests id a line
-end_is k line u id place a b found inside refused event ended word =
-    subst (λ (z : Known). IsEnded z.ids z.requests id a line) (sym (own_at (place_of k.ids id) line u id k deed.End place found)) (record {
+pub end_is : (P : Request → Type 0) (k : Known) (line u id place : ℕ) (b : Bool) → place_of k.ids id ≡ Some place → place < length k.requests → is_refused place (drive_at k.drives u) (request_at k.requests place) ≡ b
+    → P (request_end b k.event line (drive_at k.drives u) (request_at k.requests place))
+    → HasEnded P (heard (seen.Told line u id deed.End) k).ids (heard (seen.Told line u id deed.End) k).requests id
+end_is P k line u id place b found inside refused holds =
+    subst (λ (z : Known). HasEnded P z.ids z.requests id) (sym (own_at (place_of k.ids id) line u id k deed.End place found)) (record {
       place = place;
       found = found;
       inside = subst (λ n. place < n) (sym (request_many k.requests place (request_after k.event line place deed.End (drive_at k.drives u) (request_at k.requests place)))) inside;
-      event = event;
-      ended = ap (λ (r : Request). r.ended) is ∙ ended;
-      line = ap (λ (r : Request). r.ended_line) is ∙ end_line b k.event line (drive_at k.drives u) (request_at k.requests place);
-      word = subst (λ (r : Request). IsWordOf r.outcome a) (sym is) word;
+      event = k.event;
+      ended = ap (λ (r : Request). r.ended) is ∙ at b;
+      holds = subst P (sym is) holds;
     })
   where
     is : request_at (told_at place line u deed.End k).requests place ≡ request_end b k.event line (drive_at k.drives u) (request_at k.requests place)
     is = get_or-set_same k.requests place (request_after k.event line place deed.End (drive_at k.drives u) (request_at k.requests place)) (new_request 0 0 0 0 false) inside
         ∙ ap (λ (x : Bool). request_end x k.event line (drive_at k.drives u) (request_at k.requests place)) refused
+
+    at : (b : Bool) → (request_end b k.event line (drive_at k.drives u) (request_at k.requests place)).ended ≡ Some k.event
+    at true = refl
+    at false = refl
 
 abbrev many : List ℕ → ℕ
 many letters = length letters
@@ -130,8 +128,8 @@ line_end : (drives : ℕ → Option DriveKind) (s : Replay) (k : Known) (lines :
     → IsEnded (heard (seen.Told line u id deed.End) k).ids (heard (seen.Told line u id deed.End) k).requests id a line
 line_end drives s k lines line u id a may fit t word =
     let h : FullHead k.ids k.requests (drive_at k.drives u) u (lines u) id = full_head k.ids k.requests (drive_at k.drives u) u (lines u) id (s.units u).service.waiting (t.queues u) may.service in
-    end_is k line u id h.place a false h.found h.inside (no_refusal h.place (drive_at k.drives u) (request_at k.requests h.place) h.joined h.holds) k.event refl
-    (word (end_kept (s.units u).drive (hand_of (s.units u)) (s.units u).stage (End a) (lines u) may.talk (fit u).fits) h.there h.place h.heard)
+    end_is (IsSo a line) k line u id h.place false h.found h.inside (no_refusal h.place (drive_at k.drives u) (request_at k.requests h.place) h.joined h.holds)
+    (refl, word (end_kept (s.units u).drive (hand_of (s.units u)) (s.units u).stage (End a) (lines u) may.talk (fit u).fits) h.there h.place h.heard)
 
 wish_end : (wish : Wish) (drives : ℕ → Option DriveKind) (s : Replay) (k : Known) (lines : ℕ → List Deed) (line u id : ℕ) (a : Answer) → WishTied k.ids k.requests wish → ToldMay wish s line u id (End a) → AllFit s lines
     → Tied drives s k lines
@@ -140,8 +138,8 @@ wish_end : (wish : Wish) (drives : ℕ → Option DriveKind) (s : Replay) (k : K
 unfolding answer_in
 wish_end (Refusal v i why) drives s k lines line u id a w may fit t word =
     let refused : is_refused w.place (drive_at k.drives u) (request_at k.requests w.place) ≡ true = refused_is_so k u w.place w.outcome w.refused in
-    end_is k line u id w.place a true (ap (λ (z : ℕ). place_of k.ids z) may.same_id ∙ w.found) w.inside refused k.event refl
-    (subst (λ (o : Option Outcome). IsWordOf (unwrap_or o outcome.Refused) a) (sym w.refused) (word_is w.outcome a (w.word ∙ ap answer_word (ap answer_in (sym may.answered)))))
+    end_is (IsSo a line) k line u id w.place true (ap (λ (z : ℕ). place_of k.ids z) may.same_id ∙ w.found) w.inside refused
+    (refl, subst (λ (o : Option Outcome). IsWordOf (unwrap_or o outcome.Refused) a) (sym w.refused) (word_is w.outcome a (w.word ∙ ap answer_word (ap answer_in (sym may.answered)))))
 wish_end other drives s k lines line u id a w may fit t word = line_end drives s k lines line u id a may fit t word
 
 -- NO MORE LINES than moments
@@ -216,7 +214,7 @@ are_answers_drawn script tables old new ms ns line u id a window run short =
     subst (λ (z : Known). IsAnswered (finished z).requests id a line) (sym whole)
     (finished_ended (fold step (step k (seen_of m)) (map seen_of ns)) id a line
     (all_named (step k (seen_of m)) (map seen_of ns) (all_named k (seen_of m ∷ []) (all_named known (map seen_of ms) start)))
-    (all_ended (drives_of script) (names_behind [] ms) (after_moment s m) (step k (seen_of m)) ns (λ x. lines_after x m (lines_behind x [] ms)) id a line (some_parts m ns r.some).1 r.follows.1 r.good.1
+    (all_ended (IsSo a line) (drives_of script) (names_behind [] ms) (after_moment s m) (step k (seen_of m)) ns (λ x. lines_after x m (lines_behind x [] ms)) id (some_parts m ns r.some).1 r.follows.1 r.good.1
     (moment_fits s (λ x. lines_behind x [] ms) m (some_parts m ns r.some).0 r.follows.0 r.fit) (moment_both (drives_of script) (names_behind [] ms) s k (λ x. lines_behind x [] ms) m r.follows.0 r.fit r.good.0 r.both) ended))
   where
     known : Known

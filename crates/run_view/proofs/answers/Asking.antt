@@ -158,11 +158,12 @@ refused_tied why line r write drives s k lines t = record {
 
 refused_act : (o : Outcome) (why : Rejection) (line : ℕ) (r : Wish) (write : Bool) (drives : ℕ → Option DriveKind) (s : Replay) (k : Known) (lines : ℕ → List Deed) → Tied drives s k lines
     → place_of k.ids r.id ≡ None → outcome_word o ≡ answer_word (rejection_answer why)
-    → IsToRefuse (with_asked (Err o) line r write k).ids (with_asked (Err o) line r write k).requests r.id why
+    → IsToRefuse (with_asked (Err o) line r write k).ids (with_asked (Err o) line r write k).requests r.unit r.id why
 refused_act o why line r write drives s k lines t none word = record {
   place = length k.requests;
   found = new_place k.ids k.requests r.id t.level none;
   inside = last_inside (length k.requests) (length (with_asked (Err o) line r write k).requests) (length-append k.requests (request_new (Err o) line r write k ∷ []));
+  own = ap (λ (z : Request). z.unit) (last_at k.requests (request_new (Err o) line r write k));
   outcome = o;
   refused = ap (λ (z : Request). z.why) (last_at k.requests (request_new (Err o) line r write k));
   still = ap (λ (z : Request). z.ended) (last_at k.requests (request_new (Err o) line r write k));

@@ -38,7 +38,7 @@ drained_line : (s : Replay) (b : Bool) (act : Act) → (cond b (record s { event
 drained_line s true act = refl
 drained_line s false act = refl
 
-told_line : (wish : Wish) (s : Replay) (u : ℕ) (d : Deed) → (told_after wish s u d).event.line ≡ s.event.line
+pub told_line : (wish : Wish) (s : Replay) (u : ℕ) (d : Deed) → (told_after wish s u d).event.line ≡ s.event.line
 told_line (Refusal v i why) s u d = refl
 told_line NoLine s u d = due_line s u d
   where
@@ -51,7 +51,7 @@ told_line (Interrupt v) s u d = let t : Replay = replay_told s u d (unit_after s
 told_line (Attention v) s u d = let t : Replay = replay_told s u d (unit_after s u d) in drained_line t (t.event.drains && (is_no_line (next_wish t) && nat_lt 0 t.outstanding)) (act_drained t)
 told_line IdleLine s u d = let t : Replay = replay_told s u d (unit_after s u d) in drained_line t (t.event.drains && (is_no_line (next_wish t) && nat_lt 0 t.outstanding)) (act_drained t)
 
-told_number : (wish : Wish) (s : Replay) (line u id : ℕ) (d : Deed) → ToldMay wish s line u id d → line ≡ s.event.line
+pub told_number : (wish : Wish) (s : Replay) (line u id : ℕ) (d : Deed) → ToldMay wish s line u id d → line ≡ s.event.line
 told_number (Refusal v i why) s line u id d may = may.number
 told_number wish s line u id d may = may.number
 
@@ -64,7 +64,7 @@ IsBeyond : ℕ → List Numbered → Type 0
 IsBeyond n [] = Unit {0}
 IsBeyond n (i ∷ rest) = n < i.line
 
-less_is : (n line : ℕ) → nat_lt n line ≡ true → n < line
+pub less_is : (n line : ℕ) → nat_lt n line ≡ true → n < line
 less_is n line e = grind (arith, nat_tests, e)
 
 same_least : (n line : ℕ) → line ≡ n → n ≤ line

@@ -99,7 +99,10 @@ heard_named (Told line u id t) k named =
     told_named (place_in (place_of k.ids id) k.ids) line u t (met_at (place_of k.ids id) line u id k) (met_named (place_of k.ids id) line u id k refl named)
 heard_named (Idle line) k named = named
 
+pub turned_named : (m : Seen) (k : Known) → IsNamed k.ids k.requests → IsNamed (at_moment k m).ids (at_moment k m).requests
+turned_named m k named = subst (λ (r : Rest). IsNamed r.ids r.requests) (sym (moment_rest m k)) named
+
 pub all_named : (k : Known) (moments : List Seen) → IsNamed k.ids k.requests → IsNamed (fold step k moments).ids (fold step k moments).requests
 all_named k [] named = named
 all_named k (m ∷ moments) named =
-    all_named (step k m) moments (heard_named m (at_moment k m) (subst (λ (r : Rest). IsNamed r.ids r.requests) (sym (moment_rest m k)) named))
+    all_named (step k m) moments (heard_named m (at_moment k m) (turned_named m k named))

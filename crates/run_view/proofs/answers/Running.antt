@@ -26,6 +26,8 @@ use Rattle.trace_reader.specs.RoundTrip.{told_of}
 use Rattle.trace_replay.specs.Adapters.{AdapterSeen, can_move}
 use Rattle.hardware_table.specs.Drive.{is_positioning}
 use Rattle.trace_replay.specs.Conversation.{goes_on}
+use Rattle.trace_replay.specs.requests.ServiceOrder.{Waiting as Waiter}
+use Rattle.trace_replay.specs.Service.{first_waiting, ids}
 use Rattle.trace_replay.specs.Causes.{AsksSome}
 use Rattle.trace_replay.specs.Events.{Act, Done, Refusing, Arriving, Trying, Serving, NothingToDo, Event, Wish, NoLine, DueLine, Refusal, is_no_line, act_after, can_attend, act_of_attend, act_of_move, act_of_arrival, adapters_there, interrupt_taken, attention_taken, serving, first_ready, wish_in_serving, wish_in}
 use Rattle.trace_replay.specs.History.{with_deed, lines_after}
@@ -189,13 +191,14 @@ input_plays drives names s k lines line (SetLocked v b) is t fit good =
     plays_change drives names s k (heard (seen.Played line (play_of (SetLocked v b))) k) lines (SetLocked v b) is t (locked_stays v b line k)
 
 -- A LINE OF THE TRACE leaves one that is to be refused
-refuse_stays : (names : List ℕ) (l l' : List Request) (id : ℕ) (why : Rejection) (place : ℕ) → Grows names names l l' place → (request_at l place).why ≡ None → IsToRefuse names l id why → IsToRefuse names l' id why
-refuse_stays names l l' id why place g none t =
+refuse_stays : (names : List ℕ) (l l' : List Request) (u id : ℕ) (why : Rejection) (place : ℕ) → Grows names names l l' place → (request_at l place).why ≡ None → IsToRefuse names l u id why → IsToRefuse names l' u id why
+refuse_stays names l l' u id why place g none t =
     let apart : t.place ≢ place = λ is. none-some t.outcome (sym none ∙ ap (λ (n : ℕ). (request_at l n).why) (sym is) ∙ t.refused) in
     let e : request_at l' t.place ≡ request_at l t.place = (g.others t.place t.inside apart).1 in record {
       place = t.place;
       found = t.found;
       inside = (g.others t.place t.inside apart).0;
+      own = ap (λ (x : Request). x.unit) e ∙ t.own;
       outcome = t.outcome;
       refused = ap (λ (x : Request). x.why) e ∙ t.refused;
       still = ap (λ (x : Request). x.ended) e ∙ t.still;
@@ -203,7 +206,7 @@ refuse_stays names l l' id why place g none t =
     }
 
 any_stays : (names : List ℕ) (l l' : List Request) (place : ℕ) (a : Act) → Grows names names l l' place → (request_at l place).why ≡ None → ActTied names l a → ActTied names l' a
-any_stays names l l' place (Refusing u i why) g none t = refuse_stays names l l' i why place g none t
+any_stays names l l' place (Refusing u i why) g none t = refuse_stays names l l' u i why place g none t
 any_stays names l l' place a g none t = tt
 
 line_act : (drives : ℕ → Option DriveKind) (s : Replay) (k : Known) (lines : ℕ → List Deed) (line u id : ℕ) (d : Deed) (a : Act) → LineMay s line u id d → Tied drives s k lines → ActTied k.ids k.requests a
@@ -234,7 +237,7 @@ none_back n = omega arith
 pub refused_is_so : (k : Known) (u place : ℕ) (o : Outcome) → (request_at k.requests place).why ≡ Some o → is_refused place (drive_at k.drives u) (request_at k.requests place) ≡ true
 refused_is_so k u place o e = ap (λ (w : Option Outcome). is_some w || (is_some (drive_at k.drives u).trial.hand && not (is_at (drive_at k.drives u).trial.hand place))) e
 
-refusal_tied : (drives : ℕ → Option DriveKind) (s : Replay) (k : Known) (lines : ℕ → List Deed) (line u id : ℕ) (why : Rejection) → Tied drives s k lines → (r : IsToRefuse k.ids k.requests id why)
+refusal_tied : (drives : ℕ → Option DriveKind) (s : Replay) (k : Known) (lines : ℕ → List Deed) (line u id : ℕ) (why : Rejection) → Tied drives s k lines → (r : IsToRefuse k.ids k.requests u id why)
     → Tied drives (act_done s) (told_at r.place line u deed.End k) (λ x. lines_after x (Told line u id (End (rejection_answer why))) (lines x))
 refusal_tied drives s k lines line u id why t r = record {
   many = set_length k.drives u (drive_after k.event r.place deed.End (drive_at k.drives u) (request_at k.requests r.place)) ∙ t.many;
@@ -267,7 +270,7 @@ refusal_tied drives s k lines line u id why t r = record {
     unchanged x false = queue x
 
 refusal_both : (drives : ℕ → Option DriveKind) (names : List ℕ) (s : Replay) (k : Known) (lines : ℕ → List Deed) (line u id : ℕ) (why : Rejection) → Both drives names s k lines
-    → IsToRefuse k.ids k.requests id why
+    → IsToRefuse k.ids k.requests u id why
     → Both drives names (act_done s) (heard (seen.Told line u id deed.End) k) (λ x. lines_after x (Told line u id (End (rejection_answer why))) (lines x))
 refusal_both drives names s k lines line u id why b r =
     subst (λ (z : Known). Both drives names (act_done s) z (λ x. lines_after x (Told line u id (End (rejection_answer why))) (lines x))) (sym (own_at (place_of k.ids id) line u id k deed.End r.place r.found))
@@ -275,7 +278,7 @@ refusal_both drives names s k lines line u id why b r =
 
 -- WHAT COMES NEXT
 abbrev pub WishTied : List ℕ → List Request → Wish → Type 0
-WishTied names l (Refusal u id why) = IsToRefuse names l id why
+WishTied names l (Refusal u id why) = IsToRefuse names l u id why
 WishTied names l wish = Unit {0}
 
 ready_wish : (names : List ℕ) (l : List Request) (ready : List ℕ) → WishTied names l (first_ready ready)
@@ -303,13 +306,36 @@ wanted_wish names l false speaker wish t = t
 pub next_tied : (names : List ℕ) (l : List Request) (s : Replay) → ActTied names l s.event.act → WishTied names l (next_wish s)
 next_tied names l s t = wanted_wish names l (goes_on (s.units s.event.speaker).stage) s.event.speaker (wish_in s.adapters s.event.act) (act_wish names l s.adapters s.event.act t)
 
+to_refuse : (names : List ℕ) (l : List Request) (v i u id : ℕ) (why : Rejection) → u ≡ v → id ≡ i → IsToRefuse names l v i why → IsToRefuse names l u id why
+to_refuse names l v i u id why same own t = subst (λ z. IsToRefuse names l z id why) (sym same) (subst (λ z. IsToRefuse names l v z why) (sym own) t)
+
 told_both : (wish : Wish) (drives : ℕ → Option DriveKind) (names : List ℕ) (s : Replay) (k : Known) (lines : ℕ → List Deed) (line u id : ℕ) (d : Deed) → WishTied k.ids k.requests wish
     → ToldMay wish s line u id d → AllFit s lines → Both drives names s k lines
     → Both drives names (told_after wish s u d) (heard (seen.Told line u id (told_of d)) k) (λ x. lines_after x (Told line u id d) (lines x))
 told_both (Refusal v i why) drives names s k lines line u id d w may fit b =
     subst (λ z. Both drives names (act_done s) (heard (seen.Told line u id (told_of z)) k) (λ x. lines_after x (Told line u id z) (lines x))) (sym may.answered)
-    (refusal_both drives names s k lines line u id why b (subst (λ z. IsToRefuse k.ids k.requests z why) (sym may.same_id) w))
+    (refusal_both drives names s k lines line u id why b (to_refuse k.ids k.requests v i u id why may.same_unit may.same_id w))
 told_both other drives names s k lines line u id d w may fit b = line_both drives names s k lines line u id d may fit b
+
+-- THE REQUEST THAT A LINE NAMES has its place, and has not ended
+pub record IsNamedBy (names : List ℕ) (l : List Request) (u id : ℕ) : Type 0 where
+  pub place : ℕ
+  pub found : place_of names id ≡ Some place
+  pub inside : place < length l
+  pub own : (request_at l place).unit ≡ u
+  pub still : (request_at l place).ended ≡ None
+
+head_named : (k : Known) (lines : List Deed) (u id : ℕ) (ws : List (Waiter Wished)) → IsTied k.ids k.requests (drive_at k.drives u) u lines ws → ids (first_waiting ws) ≡ Some id → IsNamedBy k.ids k.requests u id
+head_named k lines u id ws q is =
+    let h : HeadAt k.ids k.requests u id = head_at k.ids k.requests (drive_at k.drives u) u lines id ws q is in
+    record { place = h.place; found = h.found; inside = h.asked.inside; own = h.asked.own; still = h.asked.still }
+
+pub named_by : (wish : Wish) (drives : ℕ → Option DriveKind) (s : Replay) (k : Known) (lines : ℕ → List Deed) (line u id : ℕ) (d : Deed) → WishTied k.ids k.requests wish → ToldMay wish s line u id d → Tied drives s k lines
+    → IsNamedBy k.ids k.requests u id
+named_by (Refusal v i why) drives s k lines line u id d w may t =
+    let r : IsToRefuse k.ids k.requests u id why = to_refuse k.ids k.requests v i u id why may.same_unit may.same_id w in
+    record { place = r.place; found = r.found; inside = r.inside; own = r.own; still = r.still }
+named_by wish drives s k lines line u id d w may t = head_named k (lines u) u id (s.units u).service.waiting (t.queues u) may.service
 
 -- A MOMENT MORE
 pub turned_both : (m : Seen) (drives : ℕ → Option DriveKind) (names : List ℕ) (s : Replay) (k : Known) (lines : ℕ → List Deed) → Both drives names s k lines → Both drives names s (at_moment k m) lines

@@ -81,17 +81,18 @@ pub record Tied (drives : ℕ → Option DriveKind) (s : Replay) (k : Known) (li
   pub queues : (u : ℕ) → IsTied k.ids k.requests (drive_at k.drives u) u (lines u) (s.units u).service.waiting
 
 -- ONE THAT IS TO BE REFUSED
-pub record IsToRefuse (ids : List ℕ) (requests : List Request) (id : ℕ) (why : Rejection) : Type 0 where
+pub record IsToRefuse (ids : List ℕ) (requests : List Request) (u id : ℕ) (why : Rejection) : Type 0 where
   pub place : ℕ
   pub found : place_of ids id ≡ Some place
   pub inside : place < length requests
+  pub own : (request_at requests place).unit ≡ u
   pub outcome : Outcome
   pub refused : (request_at requests place).why ≡ Some outcome
   pub still : (request_at requests place).ended ≡ None
   pub word : outcome_word outcome ≡ answer_word (rejection_answer why)
 
 abbrev pub ActTied : List ℕ → List Request → Act → Type 0
-ActTied ids requests (Refusing u id why) = IsToRefuse ids requests id why
+ActTied ids requests (Refusing u id why) = IsToRefuse ids requests u id why
 ActTied ids requests act = Unit {0}
 
 -- WHERE ONE PLACE CHANGES

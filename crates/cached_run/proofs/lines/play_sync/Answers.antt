@@ -30,7 +30,7 @@ pub returns-clause-goes : goal.returns-clause-goes
 returns-clause-goes g c =
     let old : Stage = site g.P.Packs.tells g.P.Packs.held g.T.Sink.tells g.T.Sink.taken c.args.subsystem.now.world c.args.packs.now c.args.trace.now in
     let new : Stage = site g.P.Packs.tells g.P.Packs.held g.T.Sink.tells g.T.Sink.taken c.sync.new.subsystem.world c.sync.new.packs c.sync.new.trace in
-    λ t. goes_sync c.args.number c.args.cache.now c.sync.new.self old new (g.T.Sink.faults c.args.trace.now) (g.T.Sink.faults c.sync.new.trace) c.in_ok-sync.ensures.keeps.causes.later t (record { packs = c.in_ok-sync.ensures.keeps.never_again; trace = c.in_ok-sync.ensures.keeps.never_again_trace }) (setup_asked old new c.in_ok-sync.ensures.syncs.asks) c.in_ok-sync.ensures.syncs c.in_ok-sync.ensures.holds
+    λ t. goes_sync c.args.number c.args.cache.now c.sync.new.self old new (g.T.Sink.faults c.args.trace.now) (g.T.Sink.faults c.sync.new.trace) c.in_ok-sync.ensures.keeps.causes.later t (record { packs = c.in_ok-sync.ensures.keeps.never_again; trace = c.in_ok-sync.ensures.keeps.never_again_trace }) (setup_asked old new c.in_ok-sync.ensures.done.asks) c.in_ok-sync.ensures.done c.in_ok-sync.ensures.holds
 
 pub returns-clause-units : goal.returns-clause-units
 returns-clause-units g c =
@@ -43,3 +43,7 @@ returns-clause-told g c =
 pub returns-clause-causes : goal.returns-clause-causes
 returns-clause-causes g c =
     λ out. caused_ok tt c.in_ok-sync.ensures.keeps.causes.later_packs (same out) c.in_ok-sync.ensures.keeps.causes.later
+
+pub returns-clause-may : goal.returns-clause-may
+returns-clause-may g c =
+    c.in_ok-sync.ensures.may

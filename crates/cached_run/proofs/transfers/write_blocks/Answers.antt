@@ -6,6 +6,7 @@ use Rattle.buffer_cache.specs.Calls.{stop_of}
 use Rattle.buffer_cache.specs.declared.fault.CacheFault.{CacheFault}
 use Rattle.driver_laws.specs.declared.answers.outcome.Stop.{Stop}
 use Rattle.buffer_cache.proofs.Passes.{keeps_none, keeps_join}
+use Rattle.buffer_cache.proofs.Serving.{keeps_of}
 use Rattle.cached_run.proofs.Keepings.{setup_none, setup_more, setup_asked, data_at, not_stopped}
 use Rattle.cached_run.proofs.Writings.{written_none, written_more, written_all, written_cut, written_end, written_stops}
 use Rattle.cached_run.proofs.transfers.write_blocks.Goals as goal
@@ -31,15 +32,15 @@ loop-k-preserved g c =
     let old : Stage = site g.P.Packs.tells g.P.Packs.held g.T.Sink.tells g.T.Sink.taken c.args.subsystem.now.world c.args.packs.now c.args.trace.now in
     let mid : Stage = site g.P.Packs.tells g.P.Packs.held g.T.Sink.tells g.T.Sink.taken c.loop-k.subsystem.world c.loop-k.packs c.loop-k.trace in
     let new : Stage = site g.P.Packs.tells g.P.Packs.held g.T.Sink.tells g.T.Sink.taken c.write.new.subsystem.world c.write.new.packs c.write.new.trace in
-    let writes = c.in-Ok.ensures.writes refl in
-    let still : StillTell mid new = record { packs = c.in-Ok.ensures.keeps.never_again; trace = c.in-Ok.ensures.keeps.never_again_trace } in
+    let writes = c.in-Ok.ensures.serves.done refl in
+    let still : StillTell mid new = record { packs = c.in-Ok.ensures.serves.keeps.never_again; trace = c.in-Ok.ensures.serves.keeps.never_again_trace } in
     record {
       so_far = written_more c.args.line c.args.unit c.args.first c.loop-k.k c.args.from.now c.args.cache.now c.loop-k.cache c.write.new.self old mid new c.loop-k.invariant.setup still
-          c.loop-k.invariant.so_far writes c.in-Ok.ensures.holds;
+          c.loop-k.invariant.so_far writes c.in-Ok.ensures.serves.holds;
       setup = setup_more old mid new still.packs c.loop-k.invariant.setup (setup_asked mid new writes.asks);
-      may = c.in-Ok.ensures.may refl;
+      may = c.in-Ok.ensures.serves.may refl;
       keeps = keeps_join g.P.Packs.tells g.P.Packs.faults g.T.Sink.tells g.T.Sink.faults c.args.subsystem.now c.loop-k.subsystem c.write.new.subsystem c.args.packs.now c.loop-k.packs c.write.new.packs
-          c.args.trace.now c.loop-k.trace c.write.new.trace None c.loop-k.invariant.keeps c.in-Ok.ensures.keeps;
+          c.args.trace.now c.loop-k.trace c.write.new.trace None c.loop-k.invariant.keeps (keeps_of g.P.Packs.tells g.P.Packs.held g.P.Packs.faults g.T.Sink.tells g.T.Sink.taken g.T.Sink.faults c.loop-k.subsystem c.write.new.subsystem c.loop-k.packs c.write.new.packs c.loop-k.trace c.write.new.trace c.in-Ok.ensures.serves.keeps);
     }
 
 pub returns-in-Err-Unusable-clause-writes : goal.returns-in-Err-Unusable-clause-writes
@@ -48,25 +49,25 @@ returns-in-Err-Unusable-clause-writes g c =
     let mid : Stage = site g.P.Packs.tells g.P.Packs.held g.T.Sink.tells g.T.Sink.taken c.loop-k.subsystem.world c.loop-k.packs c.loop-k.trace in
     let new : Stage = site g.P.Packs.tells g.P.Packs.held g.T.Sink.tells g.T.Sink.taken c.write.new.subsystem.world c.write.new.packs c.write.new.trace in
     written_end c.args.line c.args.unit c.args.first c.args.count c.loop-k.k c.args.from.now c.args.cache.now c.loop-k.cache c.write.new.self old mid new c.loop-k-test.true
-    c.loop-k.invariant.setup (record { packs = c.in-Err-Unusable.ensures.keeps.never_again; trace = c.in-Err-Unusable.ensures.keeps.never_again_trace }) c.loop-k.invariant.so_far (c.in-Err-Unusable.ensures.writes (not_stopped (Unit {0}) c.in-Err-Unusable.field-0 c.in-Err-Unusable.field-0-is)) c.in-Err-Unusable.ensures.holds
+    c.loop-k.invariant.setup (record { packs = c.in-Err-Unusable.ensures.serves.keeps.never_again; trace = c.in-Err-Unusable.ensures.serves.keeps.never_again_trace }) c.loop-k.invariant.so_far (c.in-Err-Unusable.ensures.serves.done (not_stopped (Unit {0}) c.in-Err-Unusable.field-0 c.in-Err-Unusable.field-0-is)) c.in-Err-Unusable.ensures.serves.holds
 
 pub returns-in-Err-Unusable-clause-setup : goal.returns-in-Err-Unusable-clause-setup
 returns-in-Err-Unusable-clause-setup g c =
     let old : Stage = site g.P.Packs.tells g.P.Packs.held g.T.Sink.tells g.T.Sink.taken c.args.subsystem.now.world c.args.packs.now c.args.trace.now in
     let mid : Stage = site g.P.Packs.tells g.P.Packs.held g.T.Sink.tells g.T.Sink.taken c.loop-k.subsystem.world c.loop-k.packs c.loop-k.trace in
     let new : Stage = site g.P.Packs.tells g.P.Packs.held g.T.Sink.tells g.T.Sink.taken c.write.new.subsystem.world c.write.new.packs c.write.new.trace in
-    let writes = c.in-Err-Unusable.ensures.writes (not_stopped (Unit {0}) c.in-Err-Unusable.field-0 c.in-Err-Unusable.field-0-is) in
-    setup_more old mid new c.in-Err-Unusable.ensures.keeps.never_again c.loop-k.invariant.setup (setup_asked mid new writes.asks)
+    let writes = c.in-Err-Unusable.ensures.serves.done (not_stopped (Unit {0}) c.in-Err-Unusable.field-0 c.in-Err-Unusable.field-0-is) in
+    setup_more old mid new c.in-Err-Unusable.ensures.serves.keeps.never_again c.loop-k.invariant.setup (setup_asked mid new writes.asks)
 
 pub returns-in-Err-Unusable-clause-may : goal.returns-in-Err-Unusable-clause-may
 returns-in-Err-Unusable-clause-may g c =
-    c.in-Err-Unusable.ensures.may (not_stopped (Unit {0}) c.in-Err-Unusable.field-0 c.in-Err-Unusable.field-0-is)
+    c.in-Err-Unusable.ensures.serves.may (not_stopped (Unit {0}) c.in-Err-Unusable.field-0 c.in-Err-Unusable.field-0-is)
 
 pub returns-in-Err-Unusable-clause-keeps : goal.returns-in-Err-Unusable-clause-keeps
 returns-in-Err-Unusable-clause-keeps g c =
     keeps_join g.P.Packs.tells g.P.Packs.faults g.T.Sink.tells g.T.Sink.faults c.args.subsystem.now c.loop-k.subsystem c.write.new.subsystem c.args.packs.now c.loop-k.packs c.write.new.packs
     c.args.trace.now c.loop-k.trace c.write.new.trace None c.loop-k.invariant.keeps
-    (subst (λ (z : Option Stop). Keeps g.P.Packs.tells g.P.Packs.faults g.T.Sink.tells g.T.Sink.faults c.loop-k.subsystem c.write.new.subsystem c.loop-k.packs c.write.new.packs c.loop-k.trace c.write.new.trace z) (not_stopped (Unit {0}) c.in-Err-Unusable.field-0 c.in-Err-Unusable.field-0-is) c.in-Err-Unusable.ensures.keeps)
+    (subst (λ (z : Option Stop). Keeps g.P.Packs.tells g.P.Packs.faults g.T.Sink.tells g.T.Sink.faults c.loop-k.subsystem c.write.new.subsystem c.loop-k.packs c.write.new.packs c.loop-k.trace c.write.new.trace z) (not_stopped (Unit {0}) c.in-Err-Unusable.field-0 c.in-Err-Unusable.field-0-is) (keeps_of g.P.Packs.tells g.P.Packs.held g.P.Packs.faults g.T.Sink.tells g.T.Sink.taken g.T.Sink.faults c.loop-k.subsystem c.write.new.subsystem c.loop-k.packs c.write.new.packs c.loop-k.trace c.write.new.trace c.in-Err-Unusable.ensures.serves.keeps))
 
 pub returns-in-Err-Stop-clause-stops : goal.returns-in-Err-Stop-clause-stops
 returns-in-Err-Stop-clause-stops g c =
@@ -74,13 +75,13 @@ returns-in-Err-Stop-clause-stops g c =
     let mid : Stage = site g.P.Packs.tells g.P.Packs.held g.T.Sink.tells g.T.Sink.taken c.loop-k.subsystem.world c.loop-k.packs c.loop-k.trace in
     let new : Stage = site g.P.Packs.tells g.P.Packs.held g.T.Sink.tells g.T.Sink.taken c.write.new.subsystem.world c.write.new.packs c.write.new.trace in
     written_stops c.args.line c.args.unit c.args.first c.args.count c.loop-k.k c.args.from.now c.args.cache.now c.loop-k.cache old mid new c.loop-k-test.true
-    c.loop-k.invariant.setup c.in-Err-Stop.ensures.keeps.never_again c.loop-k.invariant.so_far c.in-Err-Stop.ensures.holds
+    c.loop-k.invariant.setup c.in-Err-Stop.ensures.serves.keeps.never_again c.loop-k.invariant.so_far c.in-Err-Stop.ensures.serves.holds
 
 pub returns-in-Err-Stop-clause-keeps : goal.returns-in-Err-Stop-clause-keeps
 returns-in-Err-Stop-clause-keeps g c =
     keeps_join g.P.Packs.tells g.P.Packs.faults g.T.Sink.tells g.T.Sink.faults c.args.subsystem.now c.loop-k.subsystem c.write.new.subsystem c.args.packs.now c.loop-k.packs c.write.new.packs
     c.args.trace.now c.loop-k.trace c.write.new.trace (Some c.in-Err-Stop.stop) c.loop-k.invariant.keeps
-    (subst (λ (z : Option Stop). Keeps g.P.Packs.tells g.P.Packs.faults g.T.Sink.tells g.T.Sink.faults c.loop-k.subsystem c.write.new.subsystem c.loop-k.packs c.write.new.packs c.loop-k.trace c.write.new.trace z) (ap (λ (z : CacheFault). stop_of {A = Unit {0}} (Err z)) c.in-Err-Stop.field-0-is) c.in-Err-Stop.ensures.keeps)
+    (subst (λ (z : Option Stop). Keeps g.P.Packs.tells g.P.Packs.faults g.T.Sink.tells g.T.Sink.faults c.loop-k.subsystem c.write.new.subsystem c.loop-k.packs c.write.new.packs c.loop-k.trace c.write.new.trace z) (ap (λ (z : CacheFault). stop_of {A = Unit {0}} (Err z)) c.in-Err-Stop.field-0-is) (keeps_of g.P.Packs.tells g.P.Packs.held g.P.Packs.faults g.T.Sink.tells g.T.Sink.taken g.T.Sink.faults c.loop-k.subsystem c.write.new.subsystem c.loop-k.packs c.write.new.packs c.loop-k.trace c.write.new.trace c.in-Err-Stop.ensures.serves.keeps))
 
 pub returns-clause-writes : goal.returns-clause-writes
 returns-clause-writes g c =
@@ -108,5 +109,5 @@ returns-in-Err-Stop-clause-cut g c =
     let mid : Stage = site g.P.Packs.tells g.P.Packs.held g.T.Sink.tells g.T.Sink.taken c.loop-k.subsystem.world c.loop-k.packs c.loop-k.trace in
     let new : Stage = site g.P.Packs.tells g.P.Packs.held g.T.Sink.tells g.T.Sink.taken c.write.new.subsystem.world c.write.new.packs c.write.new.trace in
     written_cut c.in-Err-Stop.stop c.args.line c.args.unit c.args.first c.args.count c.loop-k.k c.args.from.now c.args.cache.now c.loop-k.cache old mid new c.loop-k-test.true c.loop-k.invariant.setup
-    (record { packs = c.in-Err-Stop.ensures.keeps.never_again; trace = c.in-Err-Stop.ensures.keeps.never_again_trace }) c.loop-k.invariant.so_far
-    (c.in-Err-Stop.ensures.till c.in-Err-Stop.stop (ap (λ (z : CacheFault). stop_of {A = Unit {0}} (Err z)) c.in-Err-Stop.field-0-is))
+    (record { packs = c.in-Err-Stop.ensures.serves.keeps.never_again; trace = c.in-Err-Stop.ensures.serves.keeps.never_again_trace }) c.loop-k.invariant.so_far
+    (c.in-Err-Stop.ensures.serves.till c.in-Err-Stop.stop (ap (λ (z : CacheFault). stop_of {A = Unit {0}} (Err z)) c.in-Err-Stop.field-0-is))

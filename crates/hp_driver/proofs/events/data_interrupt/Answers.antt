@@ -3,7 +3,8 @@ use Rattle.driver_machine.specs.World.{World}
 use Rattle.hp_driver.specs.Free.{IsFree}
 use Rattle.hp_driver.proofs.Begins.{interrupt_free}
 use Rattle.hp_driver.proofs.Exits.{as_acts, handed}
-use Rattle.hp_driver.proofs.Parts.{is_busy, served_less, served_some, interrupt_may, interrupts, deed_then, deed_stopped, sound_then}
+use Rattle.hp_core.proofs.Serving.{served_less, served_some}
+use Rattle.hp_driver.proofs.Parts.{is_busy, interrupt_may, interrupts, deed_then, deed_stopped, sound_then}
 use Rattle.hp_driver.proofs.events.data_interrupt.Goals as goal
 
 pub interrupt-requires-clause-may : goal.interrupt-requires-clause-may

@@ -2,8 +2,8 @@ use Rattle.std.proofs.Common.{sym, ap, ◌∙◌}
 use Rattle.transfer_engine.specs.declared.job.Segment.{Segment}
 use Rattle.transfer_engine.specs.State.{segment_of}
 use Rattle.driver_machine.specs.World.{UnitView, unit_at, transfer_of}
-use Rattle.driver_machine.specs.Acts.{Deed, Move}
-use Rattle.driver_machine.specs.Due.{sensed, command_of}
+use Rattle.driver_machine.specs.Acts.{Move}
+use Rattle.driver_machine.specs.Due.{sensed}
 use Rattle.hp_driver.specs.Hand.{hand_at}
 use Rattle.hp_driver.proofs.Facts.{unit_there}
 use Rattle.hp_driver.proofs.One.{became, as_well, command_as}

@@ -3,7 +3,6 @@ use Rattle.run_view.specs.declared.seen.Seen.{Seen}
 use Rattle.run_view.specs.Runs as runs
 use Rattle.run_view.specs.Saids.{said_of}
 use Rattle.run_picture.specs.declared.columns.Column.{Column}
-use Rattle.run_picture.specs.Columns.{window_of}
 use Rattle.run_view.specs.declared.counter.Counter.{Counter}
 use Rattle.run_view.specs.Views.{declared_line, played_text}
 use Rattle.run_view.specs.Watched.{Watched, saw}
@@ -19,7 +18,8 @@ returns-clause-ok c =
     (subst (λ (old : Counter). runs.Watched count_said old c.watch_run.new.watcher c.args.script.now (map said_of items) c.args.trace.now) c.new-counter.ensures
     (subst (λ (ps : List Seen). runs.Watched count_said c.new-counter.result c.watch_run.new.watcher c.args.script.now (map said_of ps) c.args.trace.now) c.as_slice.ensures.value
     c.in_ok-watch_run.ensures.ok))
-    (c.new-window.ensures ∙ ap (λ (n : _). window_of n c.args.first c.args.last) c.events.ensures)
+    c.events-events.ensures
+    c.new-window.ensures
     (c.declare_all.ensures ∙ ap (λ (w : Watched). record w { known = fold declared_line w.known c.args.script.now.lines }) c.new-watch.ensures)
     (subst (λ (ps : List Seen). runs.Watched saw c.declare_all.new.watch c.watch_run-2.new.watcher c.args.script.now (map said_of ps) c.args.trace.now) c.as_slice-2.ensures.value
     c.in_ok-watch_run-2.ensures.ok)

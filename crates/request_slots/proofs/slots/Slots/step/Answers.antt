@@ -1,6 +1,7 @@
-use Rattle.std.proofs.Common.{◌≡◌, ◌<◌, List, Option, sym, ap, ◌∙◌, subst, rules}
+use Rattle.std.proofs.Common.{◌≡◌, ℕ, ◌<◌, List, Option, sym, ap, ◌∙◌, subst, rules}
 use Rattle.hardware_table.specs.Adapter.{next_window}
-use Rattle.hardware_table.specs.Moves.{was_read}
+use Rattle.mba_adapter.specs.Move.{has_read}
+use Rattle.mba_adapter.proofs.FailLaws.{tries_as}
 use Rattle.main_memory.specs.Blocks.{Loan, size_at, span_of, bytes_in}
 use Rattle.main_memory.specs.Memory.{IsMemory, IsLent}
 use Rattle.mba_adapter.specs.Loaded.{loaded_buffer}
@@ -9,7 +10,7 @@ use Rattle.request_slots.specs.Requests.{held_at}
 use Rattle.request_slots.specs.Stored.{loan_of, all_slots, as_seen, IsKept}
 use Rattle.request_slots.proofs.HolderLaws.{stands, adapter_has}
 use Rattle.request_slots.proofs.SlotLaws.{loan_at}
-use Rattle.request_slots.proofs.StepLaws.{IsMoved, moved_block, length-moved_block, kept-same_frames, sound_step, free_step, shown_step, moves_as, unchanged_step}
+use Rattle.request_slots.proofs.StepLaws.{IsMoved, moved_block, length-moved_block, kept-same_frames, sound_of, free_of, shown_of}
 use Rattle.request_slots.proofs.slots.Slots.step.Goals as goal
 use Rattle.request_slots.proofs.slots.Slots.step.Given.{Over}
 
@@ -35,15 +36,16 @@ moved g c =
       inside = subst (λ (l : Loan). next_window c.args.adapter.now < l.count) (sym loaded) c.step_sector.ensures.inside;
     }
 
+-- what a step leaves of the memory
 sound : (g : Over) (c : goal.After-step_sector g) → IsMemory c.step_sector.new.memory
 sound g c =
-    sound_step c.self.inside.memory (all_slots c.self.inside.slots) c.args.slot c.in-Adapter.buffer (next_window c.args.adapter.now) c.self.invariant (moved g c) c.step_sector.new.memory
-    c.step_sector.result (was_read c.args.drive.now) c.step_sector.ensures.memory (search rules)
+    sound_of c.self.inside.memory (all_slots c.self.inside.slots) c.args.slot c.in-Adapter.buffer (next_window c.args.adapter.now) c.self.invariant (moved g c) c.step_sector.new.memory
+    (has_read c.args.drive.now c.step_sector.result) c.step_sector.ensures.steps.store
 
 free : (g : Over) (c : goal.After-step_sector g) → c.step_sector.new.memory.free ≡ c.self.inside.memory.free
 free g c =
-    free_step c.self.inside.memory (all_slots c.self.inside.slots) c.args.slot c.in-Adapter.buffer (next_window c.args.adapter.now) c.self.invariant (moved g c) c.step_sector.new.memory
-    c.step_sector.result (was_read c.args.drive.now) c.step_sector.ensures.memory (search rules)
+    free_of c.self.inside.memory (all_slots c.self.inside.slots) c.args.slot c.in-Adapter.buffer (next_window c.args.adapter.now) c.self.invariant (moved g c) c.step_sector.new.memory
+    (has_read c.args.drive.now c.step_sector.result) c.step_sector.ensures.steps.store
 
 kept : (g : Over) (c : goal.After-step_sector g) → IsKept c.step_sector.new.memory (all_slots c.self.inside.slots)
 kept g c =
@@ -51,12 +53,6 @@ kept g c =
 
 pub invariant_of-self : goal.invariant_of-self
 invariant_of-self g c = kept g c
-
-pub returns-clause-slots : goal.returns-clause-slots
-returns-clause-slots g c =
-    rw c.self.view_is at
-    (shown_step c.self.inside.memory (all_slots c.self.inside.slots) c.args.slot c.in-Adapter.buffer (next_window c.args.adapter.now) c.self.invariant (moved g c) c.step_sector.new.memory
-    c.step_sector.result (was_read c.args.drive.now) (sound g c) (free g c) c.step_sector.ensures.memory)
 
 -- the block that is moved, before it is
 block_before : (g : Over) (c : goal.After-step_sector g) → bytes_in (span_of c.in-Adapter.buffer (next_window c.args.adapter.now)) c.self.inside.memory.bytes
@@ -77,26 +73,25 @@ size_is g c =
     let at : IsMoved (all_slots c.self.inside.slots) c.args.slot c.in-Adapter.buffer (next_window c.args.adapter.now) = moved g c in
     ap (λ (l : Loan). size_at l (next_window c.args.adapter.now)) (sym (loan_at c.self.inside.memory (all_slots c.self.inside.slots) c.args.slot at.slot c.self.view_is at.here ∙ at.has))
 
-pub returns-clause-size : goal.returns-clause-size
-returns-clause-size g c =
-    length-moved_block c.step_sector.new.memory (all_slots c.self.inside.slots) c.args.slot c.in-Adapter.buffer (next_window c.args.adapter.now) (kept g c) (moved g c) ∙ size_is g c
-
-pub returns-clause-moves : goal.returns-clause-moves
-returns-clause-moves g c =
-    moves_as c.step_sector.result _ _ _ _ _ _ _ _ (size_is g c) (block_before g c) (block_after g c) c.step_sector.ensures.moves
-
-pub returns-clause-failure : goal.returns-clause-failure
-returns-clause-failure g c = record {
-  old_or_new = rw (block_before g c) at c.step_sector.ensures.failure.old_or_new;
-  never_again = c.step_sector.ensures.failure.never_again;
-  cause = c.step_sector.ensures.failure.cause;
-}
+pub returns : goal.returns
+returns g c =
+    let steps = c.step_sector.ensures.steps in
+    let before = ap (λ (block : List ℕ). record { book = c.args.book.now; window = block }) (block_before g c) in
+    let after = ap (λ (block : List ℕ). record { book = c.step_sector.new.book; window = block }) (block_after g c) in
+    record {
+      steps = record {
+        tries = tries_as (size_is g c) before after steps.tries;
+        adapter = steps.adapter;
+        drive = steps.drive;
+        store = rw c.self.view_is at
+            (shown_of c.self.inside.memory (all_slots c.self.inside.slots) c.args.slot c.in-Adapter.buffer (next_window c.args.adapter.now) c.self.invariant (moved g c) c.step_sector.new.memory
+            (has_read c.args.drive.now c.step_sector.result) steps.store (sound g c) (free g c));
+      };
+      size = length-moved_block c.step_sector.new.memory (all_slots c.self.inside.slots) c.args.slot c.in-Adapter.buffer (next_window c.args.adapter.now) (kept g c) (moved g c) ∙ size_is g c;
+    }
 
 pub slot_at-requires : goal.slot_at-requires
 slot_at-requires g c = stands c.self.inside.memory (all_slots c.self.inside.slots) c.args.slot c.self.view_is c.requires.may.there
 
 pub unreachable-requires : goal.unreachable-requires
 unreachable-requires g c = adapter_has c.self.inside.memory (all_slots c.self.inside.slots) c.args.slot c.slot_at.result.now c.in_default.field-0 c.self.view_is c.slot_at.ensures c.requires.may.bus c.in_default.is
-
-pub returns-clause-unchanged : goal.returns-clause-unchanged
-returns-clause-unchanged g c = unchanged_step _ _ _ _ _ _ _ _ _ c.self.inside.memory c.step_sector.new.memory (all_slots c.self.inside.slots) _ c.self.view_is c.step_sector.ensures.unchanged

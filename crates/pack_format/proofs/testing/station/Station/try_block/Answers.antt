@@ -19,30 +19,30 @@ returns-in_err-verdict g c =
       failed =
           on_err _ is
           (old_or_new c.args.kind c.args.unit c.args.block c.args.write _ c.args.self.now.drive c.args.self.now.adapter c.args.frame.now c.args.self.now.memory
-          c.args.self.now.book _ _ c.requires.begun.drive c.requires.begun.started step.failure.old_or_new);
-      stuck = on_err _ is (ap (λ (a : AdapterState). a.busy) step.unchanged.0 ∙ c.requires.begun.started.busy);
-      tries = record { goes = record { never_again = step.failure.never_again; later = step.failure.cause.later }; failed = on_err _ is step.failure.cause.failed };
+          c.args.self.now.book _ _ c.requires.begun.drive c.requires.begun.started step.steps.tries.old_or_new);
+      stuck = on_err _ is (ap (λ (a : AdapterState). a.busy) step.steps.adapter ∙ c.requires.begun.started.busy);
+      tries = record { goes = record { never_again = step.steps.tries.never_again; later = step.steps.tries.cause.later }; failed = on_err _ is step.steps.tries.cause.failed };
     }
 
 pub returns-in-Clean : goal.returns-in-Clean
 returns-in-Clean g c =
-    let done = finished c.args.frame.now c.args.block c.args.write c.args.self.now.adapter _ c.in_ok-verdict.verdict c.requires.begun.started c.in-Clean.is c.in_ok-verdict.ensures.adapter in
+    let done = finished c.args.frame.now c.args.block c.args.write c.args.self.now.adapter _ c.in_ok-verdict.verdict c.requires.begun.started c.in-Clean.is c.in_ok-verdict.ensures.steps.adapter in
     record {
       polls = polls_clean c.args.kind c.args.unit c.args.block c.args.write _ c.args.self.now.drive c.args.self.now.adapter c.args.frame.now c.args.self.now.memory c.step_sector.new.memory
-          c.args.self.now.book _ _ _ c.in_ok-verdict.verdict c.requires.begun.drive c.requires.begun.quiet c.requires.begun.frame c.requires.begun.started c.in_ok-verdict.ensures.moves c.in-Clean.is;
+          c.args.self.now.book _ _ _ c.in_ok-verdict.verdict c.requires.begun.drive c.requires.begun.quiet c.requires.begun.frame c.requires.begun.started c.in_ok-verdict.ensures.steps.tries.moves c.in-Clean.is;
       moved = record {
         drive =
             ended c.args.kind c.args.block c.args.write c.args.frame.now c.args.self.now.adapter c.args.self.now.drive _ c.in_ok-verdict.verdict c.requires.begun.drive c.requires.begun.started
-            c.in-Clean.is c.in_ok-verdict.ensures.drive;
+            c.in-Clean.is c.in_ok-verdict.ensures.steps.drive;
         completion = done.0;
         loaded = done.1;
         lent = lent_after (was_read c.args.self.now.drive c.in_ok-verdict.verdict) c.args.frame.now c.args.frame.now (next_window c.args.self.now.adapter)
-            (next_bytes c.args.self.now.adapter c.args.frame.now c.step_sector.new.memory) c.args.self.now.memory c.step_sector.new.memory c.in_ok-verdict.ensures.memory c.requires.begun.lent;
-        quiet = quiet_again _ _ _ _ c.args.self.now.book _ c.requires.begun.quiet c.in_ok-verdict.ensures.moves.book;
+            (next_bytes c.args.self.now.adapter c.args.frame.now c.step_sector.new.memory) c.args.self.now.memory c.step_sector.new.memory c.in_ok-verdict.ensures.steps.store c.requires.begun.lent;
+        quiet = quiet_again _ _ _ _ c.args.self.now.book _ c.requires.begun.quiet c.in_ok-verdict.ensures.steps.tries.moves.book;
       };
       failed = tt;
       stuck = tt;
-      tries = record { goes = record { never_again = c.in_ok-verdict.ensures.failure.never_again; later = c.in_ok-verdict.ensures.failure.cause.later }; failed = tt };
+      tries = record { goes = record { never_again = c.in_ok-verdict.ensures.steps.tries.never_again; later = c.in_ok-verdict.ensures.steps.tries.cause.later }; failed = tt };
     }
 
 pub step_sector-requires : goal.step_sector-requires
@@ -65,20 +65,20 @@ step_sector-requires g c =
 pub returns-in_default : goal.returns-in_default
 returns-in_default g c =
     let is = is_marked_v c.args.kind c.args.unit c.args.block c.args.write _ c.args.self.now.drive c.args.self.now.adapter c.args.frame.now c.args.self.now.memory c.step_sector.new.memory
-    c.args.self.now.book _ _ _ c.in_ok-verdict.verdict c.requires.begun.drive c.requires.begun.quiet c.requires.begun.frame c.requires.begun.started c.in_ok-verdict.ensures.moves c.in_default.not-Clean in
-    let done = given_up c.args.frame.now c.args.block c.args.write c.args.self.now.adapter _ c.in_ok-verdict.verdict c.requires.begun.started is c.in_ok-verdict.ensures.adapter in
+    c.args.self.now.book _ _ _ c.in_ok-verdict.verdict c.requires.begun.drive c.requires.begun.quiet c.requires.begun.frame c.requires.begun.started c.in_ok-verdict.ensures.steps.tries.moves c.in_default.not-Clean in
+    let done = given_up c.args.frame.now c.args.block c.args.write c.args.self.now.adapter _ c.in_ok-verdict.verdict c.requires.begun.started is c.in_ok-verdict.ensures.steps.adapter in
     record {
       polls = polls_marked c.args.kind c.args.unit c.args.block c.args.write _ c.args.self.now.drive c.args.self.now.adapter c.args.frame.now c.args.self.now.memory c.step_sector.new.memory
-          c.args.self.now.book _ _ _ c.in_ok-verdict.verdict c.requires.begun.drive c.requires.begun.quiet c.requires.begun.frame c.requires.begun.started c.in_ok-verdict.ensures.moves c.in_default.not-Clean;
+          c.args.self.now.book _ _ _ c.in_ok-verdict.verdict c.requires.begun.drive c.requires.begun.quiet c.requires.begun.frame c.requires.begun.started c.in_ok-verdict.ensures.steps.tries.moves c.in_default.not-Clean;
       moved = record {
-        drive = cleared c.args.kind c.args.write c.args.self.now.adapter c.args.self.now.drive _ _ c.in_ok-verdict.verdict c.requires.begun.drive is c.in_ok-verdict.ensures.drive c.go.ensures;
+        drive = cleared c.args.kind c.args.write c.args.self.now.adapter c.args.self.now.drive _ _ c.in_ok-verdict.verdict c.requires.begun.drive is c.in_ok-verdict.ensures.steps.drive c.go.ensures;
         completion = done.0;
         loaded = done.1;
         lent = lent_after (was_read c.args.self.now.drive c.in_ok-verdict.verdict) c.args.frame.now c.args.frame.now (next_window c.args.self.now.adapter)
-            (next_bytes c.args.self.now.adapter c.args.frame.now c.step_sector.new.memory) c.args.self.now.memory c.step_sector.new.memory c.in_ok-verdict.ensures.memory c.requires.begun.lent;
-        quiet = still_quiet c.args.self.now.drive c.in_ok-verdict.verdict c.args.self.now.book _ _ c.requires.begun.quiet is c.in_ok-verdict.ensures.moves.book;
+            (next_bytes c.args.self.now.adapter c.args.frame.now c.step_sector.new.memory) c.args.self.now.memory c.step_sector.new.memory c.in_ok-verdict.ensures.steps.store c.requires.begun.lent;
+        quiet = still_quiet c.args.self.now.drive c.in_ok-verdict.verdict c.args.self.now.book _ _ c.requires.begun.quiet is c.in_ok-verdict.ensures.steps.tries.moves.book;
       };
       failed = tt;
       stuck = tt;
-      tries = record { goes = record { never_again = c.in_ok-verdict.ensures.failure.never_again; later = c.in_ok-verdict.ensures.failure.cause.later }; failed = tt };
+      tries = record { goes = record { never_again = c.in_ok-verdict.ensures.steps.tries.never_again; later = c.in_ok-verdict.ensures.steps.tries.cause.later }; failed = tt };
     }

@@ -1,2 +1,0 @@
--- What is passed on of the crates below, so that those above stand on this one.
-pub use Rattle.driver_laws.proofs.shown.Starting.{set_up}

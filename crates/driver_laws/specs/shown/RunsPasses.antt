@@ -1,3 +1,0 @@
--- What this crate passes on from the crates below, so that the crates above depend on this one only.
-pub use Rattle.driver_laws.specs.shown.Runs.{with_call}
-pub use Rattle.driver_laws.specs.shown.Within.{ShowsAll}
