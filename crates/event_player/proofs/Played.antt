@@ -132,13 +132,6 @@ begins_at {start} s setups requests noises set is kept sent count asked read non
   tally = none_yet ∙ ap (λ (n : ℕ). tally_by n [] []) asked;
 }
 
--- which may be lent
-pub start_lent : {s : Script} {start : Spot} (loans : List ℕ) → IsAtStart s start → IsAtStart s (record start { loans = loans })
-start_lent loans at = record { may = at.may; ready = at.ready; outstanding = at.outstanding; kept = at.kept; sent = at.sent }
-
-pub begins_lent : {s : Script} {start : Spot} (loans : List ℕ) → Begins s start → Begins s (record start { loans = loans })
-begins_lent loans begins = record { tables = begins.tables; read = begins.read; run = begins.run; start = start_lent loans begins.start; tally = begins.tally }
-
 module _ (s : Script) (start : Spot) (begins : Begins s start) where
   ends_whole : (new : Spot) → IsScript s → IsTrue start.packs.tells → ((tables : ℕ → Option Table) → PlaysScript s tables (seen start) (seen new))
       → Tallied s start.packs.held new.packs.held new.out.tells start.out.took new.out.took new.lines.tells start.lines.took new.lines.took new.tally

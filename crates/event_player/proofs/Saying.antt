@@ -80,6 +80,10 @@ module _ {O T : Type 0} (tells : O → Bool) (took : O → List ℕ) (faults : O
       least : (n : ℕ) → n ≤ n
       least n = omega arith
 
+-- the driver keeps nothing once it sent its lines
+pub driver_sent : {s : Spot} {d : State} → s.driver ≡ d → s ≡ record s { driver = d }
+driver_sent {s} is = ap (λ (d : State). record s { driver = d }) is
+
 -- WHAT A CALL TELLS: its lines are put behind those that are kept, and some are sent.
 pub record IsTold (lines lines' : Side) (text : List ℕ) : Type 0 where
   pub again : IsTrue lines'.tells → IsTrue lines.tells

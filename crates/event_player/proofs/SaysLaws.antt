@@ -11,7 +11,8 @@ use Rattle.script_runs.specs.Ahead.{IsBetween}
 use Rattle.std.proofs.lemmas.Result.{IfOk-from_err, on_ok_weaker}
 use Rattle.trace_replay.specs.Moments.{Answered}
 use Rattle.trace_lines.specs.answers.Counting.{Counts}
-use Rattle.trace_lines.proofs.answers.CountLaws.{counts_none, counts_both}
+use Rattle.trace_lines.specs.declared.answers.tally.Tally.{Tally}
+use Rattle.trace_lines.proofs.answers.CountLaws.{counts_none, counts_both, counts_same}
 use Rattle.event_player.specs.Saying.{Side, Says}
 use Rattle.event_player.specs.Spots.{Spot, SaysText}
 
@@ -158,5 +159,33 @@ text_stop {a = a} {x = x} {old = old} {new = new} b y result err said = record {
   says = says_stop y result err said.says;
   counts = IfOk-from_err result (λ _. Counts b (x ++ y) old.tally new.tally) err;
   requests = said.requests;
+  same = said.same;
+}
+
+-- ---- WHAT THE DESK COUNTS AND SAYS
+pub on_ok : {T E : Type 0} (P : Type 0) (result : Result T E) → P → OnOk result P
+on_ok P (Ok x) p = p
+on_ok P (Err e) p = tt
+
+pub on_err : {T E : Type 0} (P : Type 0) (result : Result T E) → P → OnErr result P
+on_err P (Ok x) p = tt
+on_err P (Err e) p = p
+
+pub text_at : {T E : Type 0} {x : List ℕ} {old new : Spot} (y : List ℕ) (result : Result T E) → Says old.out new.out old.lines new.lines result x → Counts [] x old.tally new.tally
+    → new.tally.requests ≡ old.tally.requests → new ≡ record old { driver = new.driver; out = new.out; lines = new.lines; tally = new.tally } → x ≡ y → SaysText [] y result old new
+text_at {x = x} {old = old} {new = new} y result says counts requests same is = record {
+  says = says_same y says is;
+  counts = on_ok (Counts [] y old.tally new.tally) result (counts_same old.tally new.tally [] [] x y counts refl is);
+  requests = requests;
+  same = same;
+}
+
+-- and of an answer that was counted before its line is said
+pub text_counted : {T E : Type 0} {answer : Answered} {x : List ℕ} {result : Result T E} {old new : Spot} {tally : Tally} → Counts (answer ∷ []) [] old.tally tally → tally.requests ≡ old.tally.requests
+    → SaysText [] x result (record old { tally = tally }) new → SaysText (answer ∷ []) x result old new
+text_counted {answer = answer} {x = x} {result = result} {old = old} {new = new} {tally = tally} itself same said = record {
+  says = said.says;
+  counts = on_ok_weaker result (λ counts. counts_both old.tally tally new.tally (answer ∷ []) [] [] x itself counts) said.counts;
+  requests = said.requests ∙ same;
   same = said.same;
 }

@@ -14,7 +14,7 @@ ghost use Rattle.script_runs.specs.Lengths.{IsTooLong};
 ghost use Rattle.script_runs.specs.Faults.{IsPlaying, IsBefore, IsLongFor, AreUntouched, HaveTold, Rise};
 ghost use Rattle.event_player.specs.Playing.{counted, one_request};
 ghost use Rattle.event_player.specs.Saying.{side};
-ghost use Rattle.event_player.specs.Spots.{Begins, IsAtStart, PlaysOver, PlaysTheScript, SendsRest, emptied, packs_at, spot};
+ghost use Rattle.event_player.specs.Spots.{Begins, IsAtStart, PlaysOver, PlaysTheScript, SendsRest, emptied, packs_at};
 ghost use Rattle.event_player.specs.Stops.{Leaves};
 ghost use Rattle.script_runs.specs.declared.fault.PlayFault.TheVariants.{Store};
 ghost use Rattle.script_runs.specs.Stops.{took};
@@ -119,35 +119,6 @@ fn play_all<V: Venue>(
     played
 }
 
-/// Plays a script over what is lent for it.
-fn play_from<P: Packs, O: Sink, T: Sink>(
-    script: &Script,
-    room: &mut [u8],
-    subsystem: &mut Subsystem,
-    desk: &mut Desk,
-    forms: &mut Forms,
-    packs: &mut P,
-    out: &mut O,
-    trace: &mut T,
-) -> Result<Tally, PlayFault>
-    requires good { Spells all_verbs script.now.text (lines_in script.now) script.now.count }
-    requires begins { Begins (meaning_of script.now) (spot P.tells P.held P.faults O.tells O.taken O.faults T.tells T.taken T.faults subsystem.old desk.old.gather desk.old.tally packs.old out.old trace.old []) }
-    requires room { length room.old ≡ 65024 }
-    ensures plays { PlaysOver (meaning_of script.now) result (packs_at P.tells P.held P.faults packs.old) (packs_at P.tells P.held P.faults packs.new)
-        (side O.tells O.taken O.faults out.old []) (side O.tells O.taken O.faults out.new []) (side T.tells T.taken T.faults trace.old []) (side T.tells T.taken T.faults trace.new []) }
-    ensures begun { IsBefore result → ⊥ }
-{
-    let mut venue = Outlet {
-        subsystem,
-        desk,
-        forms,
-        packs,
-        out,
-        trace,
-    };
-    play_all(script, room, &mut venue)
-}
-
 /// Plays a script over units that are set up for it, as `play` does once they are attached. `Memory` comes only before the first line
 /// is played, and `TooLong` never.
 fn play_units<P: Packs, O: Sink, T: Sink>(
@@ -170,16 +141,15 @@ fn play_units<P: Packs, O: Sink, T: Sink>(
     let noises = count_noises(script);
     let mut bench = Bench::new(alloc, u64::from(requests))?;
     let mut subsystem = Subsystem::new(alloc, units, requests, noises)?;
-    play_from(
-        script,
-        bench.room.as_mut_slice(),
-        &mut subsystem,
-        &mut bench.desk,
-        &mut bench.forms,
+    let mut venue = Outlet {
+        subsystem: &mut subsystem,
+        desk: &mut bench.desk,
+        forms: &mut bench.forms,
         packs,
         out,
         trace,
-    )
+    };
+    play_all(script, bench.room.as_mut_slice(), &mut venue)
 }
 
 /// Plays a script line by line, and a drain after its last line. The number of the drain is the number of lines plus one. The lines of

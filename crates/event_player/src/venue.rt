@@ -98,16 +98,16 @@ pub(crate) trait Venue {
 
 /// A driver, a desk with its forms, the packs and both sinks, each of which was lent.
 #[derive(Drop)]
-pub(crate) struct Outlet<'a, P: Packs, O: Sink, T: Sink> {
-    pub subsystem: &'a mut Subsystem,
-    pub desk: &'a mut Desk,
-    pub forms: &'a mut Forms,
-    pub packs: &'a mut P,
-    pub out: &'a mut O,
-    pub trace: &'a mut T,
+pub(crate) struct Outlet<'s, 'd, 'f, 'p, 'o, 't, P: Packs, O: Sink, T: Sink> {
+    pub subsystem: &'s mut Subsystem,
+    pub desk: &'d mut Desk,
+    pub forms: &'f mut Forms,
+    pub packs: &'p mut P,
+    pub out: &'o mut O,
+    pub trace: &'t mut T,
 }
 
-impl<'a, P: Packs, O: Sink, T: Sink> Venue for Outlet<'a, P, O, T> {
+impl<'s, 'd, 'f, 'p, 'o, 't, P: Packs, O: Sink, T: Sink> Venue for Outlet<'s, 'd, 'f, 'p, 'o, 't, P, O, T> {
     ghost at = { λ s. spot P.tells P.held P.faults O.tells O.taken O.faults T.tells T.taken T.faults s.subsystem.now s.desk.now.gather s.desk.now.tally
         s.packs.now s.out.now s.trace.now (s.subsystem.ghost_name ∷ s.desk.ghost_name ∷ s.forms.ghost_name ∷ s.packs.ghost_name ∷ s.out.ghost_name ∷ s.trace.ghost_name ∷ []) };
 
