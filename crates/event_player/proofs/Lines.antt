@@ -28,8 +28,8 @@ use Rattle.event_player.proofs.Spots.{keeps_none, said_keeps, stopped, turns_beh
 -- a line by its number, and by what it says
 pub line_at : {V : Type 0} {number n : ℕ} {statement : Statement} {input : Input} {result : Result V PlayFault} {old new : Spot} → number ≡ n → statement ≡ Plays input
     → PlaysAt number (Plays input) result old new → PlaysAt n statement result old new
-line_at {statement = statement} {result = result} {old = old} {new = new} is at plays =
-    subst (λ (k : ℕ). PlaysAt k statement result old new) is (subst (λ (s : Statement). PlaysAt _ s result old new) (sym at) plays)
+line_at {number = number} {statement = statement} {result = result} {old = old} {new = new} is at plays =
+    subst (λ (k : ℕ). PlaysAt k statement result old new) is (subst (λ (s : Statement). PlaysAt number s result old new) (sym at) plays)
 
 module _ {V : Type 0} {line : ℕ} (result : Result V PlayFault) {old new : Spot} (none : old.driver.world.answers ≡ []) where
   -- a request,

@@ -52,12 +52,12 @@ played_none s start script at = record {
 }
 
 -- a line more
-module _ (stored : Stored) (i : ℕ) (item : Kept) (is : item ≡ get_or stored.lines i item) (lt : i < length stored.lines) {start mid new : Spot} (so : IsPlayedTo (meaning_of stored) i start mid) where
+module _ (stored : Stored) (i : ℕ) (item : Kept) (is : item ≡ get_or stored.lines i item) (lt : i < length stored.lines) {start mid : Spot} (so : IsPlayedTo (meaning_of stored) i start mid) where
   pub may_next : IsScript (meaning_of stored) → stored.count < 2 ^ 32 → IsAtStart (meaning_of stored) start → MayPlay mid.driver (line_of (said_by stored.text item)).statement
   may_next script small at = next_may stored i item is lt mid.driver script small (so.outstanding ∙ at.outstanding) so.ready
 
-  pub played_next : {V : Type 0} {x : V} → PlaysAt item.number (line_of (said_by stored.text item)).statement (Ok x) mid new → IsPlayedTo (meaning_of stored) (i + 1) start new
-  played_next turns = record {
+  pub played_next : {V : Type 0} {x : V} {new : Spot} → PlaysAt item.number (line_of (said_by stored.text item)).statement (Ok x) mid new → IsPlayedTo (meaning_of stored) (i + 1) start new
+  played_next {new = new} turns = record {
     going = turns.goes.going;
     outstanding = turns.goes.outstanding ∙ so.outstanding;
     keeps = keeps_join so.keeps turns.keeps;
@@ -65,9 +65,9 @@ module _ (stored : Stored) (i : ℕ) (item : Kept) (is : item ≡ get_or stored.
     plays = λ t. next_plays stored i item is lt (seen start) (seen mid) (seen new) (turns.plays.plays t) (so.plays (turns.keeps.told.never_again t));
   }
 
-  pub line_stopped : {V W : Type 0} (result : Result W PlayFault) (fault : PlayFault) → IsErrAnd result (λ x. x ≡ fault)
+  pub line_stopped : {V W : Type 0} {new : Spot} (result : Result W PlayFault) (fault : PlayFault) → IsErrAnd result (λ x. x ≡ fault)
       → PlaysAt {V = V} item.number (line_of (said_by stored.text item)).statement (Err fault) mid new → PlaysTheScript (meaning_of stored) result start new
-  line_stopped result fault err turns =
+  line_stopped {new = new} result fault err turns =
       stopped_behind result fault err so.keeps turns
       (λ stops t. line_halts (meaning_of stored) i (line_of (said_by stored.text item)) fault (seen start) (seen mid) (seen new) (here_is stored i item is lt)
       (so.plays (turns.keeps.told.never_again t)) (stops t))
@@ -78,16 +78,16 @@ played_past stored i is past =
     subst (λ (n : ℕ). n ≤ i) (sym (length-map (lines_in stored) line_of ∙ length-map stored.lines (said_by stored.text))) (subst (λ (xs : List Kept). length xs ≤ i) is past)
 
 -- the drain behind the last one, and the last sending
-module _ (s : Script) (i number : ℕ) (all : length s.lines ≤ i) (last : number ≡ s.count + 1) {start mid drained new : Spot} (so : IsPlayedTo s i start mid) where
-  pub drain_stopped : {V W : Type 0} (result : Result W PlayFault) (fault : PlayFault) → IsErrAnd result (λ x. x ≡ fault)
+module _ (s : Script) (i number : ℕ) (all : length s.lines ≤ i) (last : number ≡ s.count + 1) {start mid : Spot} (so : IsPlayedTo s i start mid) where
+  pub drain_stopped : {V W : Type 0} {new : Spot} (result : Result W PlayFault) (fault : PlayFault) → IsErrAnd result (λ x. x ≡ fault)
       → TurnsOut {V = V} (PlaysAs (PlaysDrain number) (Plays Drain)) (StopsAs (StopsInput number Drain)) (Err fault) mid new → PlaysTheScript s result start new
-  drain_stopped result fault err turns =
+  drain_stopped {new = new} result fault err turns =
       stopped_behind result fault err so.keeps turns
       (λ stops t. end_halts s i number fault (seen start) (seen mid) (seen new) all last (stops t) (so.plays (turns.keeps.told.never_again t)))
 
-  module _ {V : Type 0} {x : V} (drains : TurnsOut (PlaysAs (PlaysDrain number) (Plays Drain)) (StopsAs (StopsInput number Drain)) (Ok x) mid drained) where
-    pub sending_stopped : {A W : Type 0} {e : SinkFailed} (result : Result W PlayFault) → IsErrAnd result (λ x. x ≡ faults.Sink) → Sends {T = A} true (Err e) drained new → PlaysTheScript s result start new
-    sending_stopped result err sends =
+  module _ {V : Type 0} {x : V} {drained : Spot} (drains : TurnsOut (PlaysAs (PlaysDrain number) (Plays Drain)) (StopsAs (StopsInput number Drain)) (Ok x) mid drained) where
+    pub sending_stopped : {A W : Type 0} {e : SinkFailed} {new : Spot} (result : Result W PlayFault) → IsErrAnd result (λ x. x ≡ faults.Sink) → Sends {T = A} true (Err e) drained new → PlaysTheScript s result start new
+    sending_stopped {new = new} result err sends =
         let before = keeps_join so.keeps drains.keeps in
         stopped result faults.Sink err (keeps_join before (sent_keeps sends)) (caused_behind new faults.Sink before sends.ahead.says.failed)
         (λ t.
@@ -97,8 +97,8 @@ module _ (s : Script) (i number : ℕ) (all : length s.lines ≤ i) (last : numb
         (unsent_passes drained.driver.world new.driver.world drained.packs.tells new.packs.tells drained.packs.held new.packs.held drained.tally new.tally drained.out new.out drained.lines new.lines
         (is_said sends.ahead.says)))
 
-    pub script_played : {A E W : Type 0} {y : A} (z : W) → Sends {E = E} true (Ok y) drained new → PlaysTheScript s (Ok z) start new
-    script_played z sends =
+    pub script_played : {A E W : Type 0} {y : A} {new : Spot} (z : W) → Sends {E = E} true (Ok y) drained new → PlaysTheScript s (Ok z) start new
+    script_played {new = new} z sends =
         let driver = ap (λ (x : Spot). x.driver) sends.same in
         record {
           plays = λ t.

@@ -263,7 +263,7 @@ idle_drains {A} {E} {x} line old new over idles =
 
 -- ALL THAT IS KEPT is sent.
 pub all_sent : {A E : Type 0} {x : A} (old new : Spot) → Sends {T = A} {E = E} true (Ok x) old new → IsAllSent (seen old) (seen new)
-all_sent {x = x} old new sends = record {
+all_sent {A} {E} {x} old new sends = record {
   world = ap (λ (s : Spot). s.driver.world) sends.same;
   held = ap (λ (s : Spot). s.packs.held) sends.same;
   tally = ap (λ (s : Spot). s.tally) sends.same;
@@ -271,5 +271,5 @@ all_sent {x = x} old new sends = record {
   trace = λ t. (says.again_lines t, sym (append-nil new.lines.took) ∙ ap (λ (xs : List ℕ). new.lines.took ++ xs) (sym (sends.ahead.emptied refl).1) ∙ says.whole_lines t);
 }
   where
-    says : Says old.out new.out old.lines new.lines (Ok x) []
+    says : Says {T = A} {E = E} old.out new.out old.lines new.lines (Ok x) []
     says = sends.ahead.says

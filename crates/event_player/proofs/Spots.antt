@@ -160,8 +160,3 @@ module _ {V : Type 0} {Plays : Spot → Spot → Type 0} {Stops : PlayFault → 
     caused = caused_behind new fault first turns.caused;
     keeps = keeps_join first turns.keeps;
   }
-
--- what was lent comes back as it is left
-pub turned_at : {V : Type 0} {Plays : Spot → Spot → Type 0} {Stops : PlayFault → Spot → Spot → Type 0} {result : Result V PlayFault} {old new back : Spot}
-    → TurnsOut Plays Stops result old new → new ≡ back → TurnsOut Plays Stops result old back
-turned_at {Plays = Plays} {Stops = Stops} {result = result} {old = old} turns same = subst (TurnsOut Plays Stops result old) same turns

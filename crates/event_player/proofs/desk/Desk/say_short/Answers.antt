@@ -1,4 +1,5 @@
-use Rattle.std.proofs.Common.{refl, ap, take}
+use Rattle.std.proofs.Common.{ℕ, List, [], refl, ap, subst, take}
+use Rattle.trace_lines.specs.answers.Counting.{Counts}
 use Rattle.hp_driver.specs.Subsystem.{State}
 use Rattle.event_player.proofs.Saying.{says_sent, says_unsent}
 use Rattle.event_player.proofs.desk.Desk.say_short.Goals as goal
@@ -17,10 +18,13 @@ returns-clause-says g c =
     c.in_ok-send.ensures.puts (ap (λ (s : State). s.kept) c.in_ok-send.ensures.same) (c.if-try_keep_short.ensures.full refl) c.put_short.ensures
 
 pub returns-then-try_keep_short-clause-counts : goal.returns-then-try_keep_short-clause-counts
-returns-then-try_keep_short-clause-counts g c = c.count_text.ensures.counts
+returns-then-try_keep_short-clause-counts g c =
+    subst (λ (xs : List ℕ). Counts [] (take c.args.len xs) c.args.self.now.tally c.count_text.new.self) c.as_slice.ensures c.count_text.ensures.counts
 
 pub returns-in_err-send-clause-counts : goal.returns-in_err-send-clause-counts
-returns-in_err-send-clause-counts g c = c.count_text.ensures.counts
+returns-in_err-send-clause-counts g c =
+    subst (λ (xs : List ℕ). Counts [] (take c.args.len xs) c.args.self.now.tally c.count_text.new.self) c.as_slice.ensures c.count_text.ensures.counts
 
 pub returns-clause-counts : goal.returns-clause-counts
-returns-clause-counts g c = c.count_text.ensures.counts
+returns-clause-counts g c =
+    subst (λ (xs : List ℕ). Counts [] (take c.args.len xs) c.args.self.now.tally c.count_text.new.self) c.as_slice.ensures c.count_text.ensures.counts

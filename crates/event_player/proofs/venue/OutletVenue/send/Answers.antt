@@ -1,4 +1,4 @@
-use Rattle.std.proofs.Common.{[], refl, ap, absurd}
+use Rattle.std.proofs.Common.{[], refl, ap}
 use Rattle.std.proofs.lemmas.Result.{IfOk-from_err}
 use Rattle.hp_driver.specs.Subsystem.{State}
 use Rattle.event_player.proofs.SaysLaws.{on_ok, on_err}
