@@ -180,8 +180,7 @@ module _ (packs packs' : PacksAt) (out0 out lines0 lines lines' : Side) (line : 
       → IsSaid out out' lines' sent (waiting_text mid)
       → EventStops line input playing.Sink (by_sides w packs.tells packs.held out0 lines0 tally) (by_sides w' packs'.tells packs'.held out' sent tally')
   event_unsaid w' out' sent tally' sound work none noise still comes says =
-      let acts : List Act = event_acts line input comes.tried w in
-      (
+      let acts : List Act = event_acts line input comes.tried w in (
         λ is. ap held_at (still is),
         inr (record {
           tried = comes.tried;

@@ -1,5 +1,5 @@
 -- Which events move a sector, and what such a move says.
-use Rattle.std.proofs.Common.{◌≡◌, ℕ, Bool, true, false, List, [], ◌∷◌, refl, sym, ◌∙◌, arith}
+use Rattle.std.proofs.Common.{◌≡◌, ℕ, Bool, true, false, List, [], ◌∷◌, refl, sym, arith}
 use Rattle.std.proofs.lemmas.Bool.{false≢true}
 use Rattle.disksort.specs.declared.Waiter.{Waiter}
 use Rattle.hardware_table.specs.Adapter.{next_block}

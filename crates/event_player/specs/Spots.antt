@@ -1,5 +1,5 @@
 -- WHERE A CALL OF THE PLAYER STANDS: the driver, the packs, the two sinks and the tally; and what each call comes to there.
-use Rattle.std.specs.Prelude.{◌≡◌, ◌⊎◌, ℕ, ◌≤◌, Bool, false, IsTrue, List, [], ◌++◌, Option, Result, OnOk, IfOk, IfErr, IsErrOf}
+use Rattle.std.specs.Prelude.{◌≡◌, ◌⊎◌, ℕ, ◌≤◌, Bool, false, IsTrue, List, [], Option, Result, OnOk, IfOk, IfErr, IsErrOf}
 use Rattle.pack_geometry.specs.Pack.{Pack}
 use Rattle.pack_geometry.specs.PackTable.{AreTablesOf}
 use Rattle.pack_geometry.specs.TableSpelling.{Table}

@@ -68,11 +68,7 @@ impl Bench {
 
 /// Plays the lines of a script over units that are set up for it, and a drain after the last line. The number of the drain is the
 /// number of lines plus one. `room` has a place for each byte of the longest write.
-fn play_lines<V: Venue>(
-    script: &Script,
-    room: &mut [u8],
-    venue: &mut V,
-) -> Result<Tally, PlayFault>
+fn play_lines<V: Venue>(script: &Script, room: &mut [u8], venue: &mut V) -> Result<Tally, PlayFault>
     requires good { Spells all_verbs script.now.text (lines_in script.now) script.now.count }
     requires starts { IsAtStart (meaning_of script.now) (V.at venue.old) }
     requires room { length room.old ≡ 65024 }
@@ -101,11 +97,7 @@ fn send_rest<V: Venue>(played: Result<Tally, PlayFault>, venue: &mut V)
 }
 
 /// Plays a script at a venue, and if the packs failed sends the rest.
-fn play_all<V: Venue>(
-    script: &Script,
-    room: &mut [u8],
-    venue: &mut V,
-) -> Result<Tally, PlayFault>
+fn play_all<V: Venue>(script: &Script, room: &mut [u8], venue: &mut V) -> Result<Tally, PlayFault>
     requires good { Spells all_verbs script.now.text (lines_in script.now) script.now.count }
     requires begins { Begins (meaning_of script.now) (V.at venue.old) }
     requires room { length room.old ≡ 65024 }

@@ -107,7 +107,8 @@ pub(crate) struct Outlet<'s, 'd, 'f, 'p, 'o, 't, P: Packs, O: Sink, T: Sink> {
     pub trace: &'t mut T,
 }
 
-impl<'s, 'd, 'f, 'p, 'o, 't, P: Packs, O: Sink, T: Sink> Venue for Outlet<'s, 'd, 'f, 'p, 'o, 't, P, O, T> {
+impl<'s, 'd, 'f, 'p, 'o, 't, P: Packs, O: Sink, T: Sink> Venue
+    for Outlet<'s, 'd, 'f, 'p, 'o, 't, P, O, T> {
     ghost at = { λ s. spot P.tells P.held P.faults O.tells O.taken O.faults T.tells T.taken T.faults s.subsystem.now s.desk.now.gather s.desk.now.tally
         s.packs.now s.out.now s.trace.now (s.subsystem.ghost_name ∷ s.desk.ghost_name ∷ s.forms.ghost_name ∷ s.packs.ghost_name ∷ s.out.ghost_name ∷ s.trace.ghost_name ∷ []) };
 
@@ -145,11 +146,22 @@ impl<'s, 'd, 'f, 'p, 'o, 't, P: Packs, O: Sink, T: Sink> Venue for Outlet<'s, 'd
         if let Some(byte) = self.subsystem.answer_fill(k) {
             write_fill(&mut self.forms.fill, k, byte);
             let line = &self.forms.fill;
-            return self.desk.say_short(line.front(), line.len(), self.subsystem, self.out, self.trace);
+            return self.desk.say_short(
+                line.front(),
+                line.len(),
+                self.subsystem,
+                self.out,
+                self.trace,
+            );
         }
         self.subsystem.answer_block(k, &mut self.forms.block);
         self.forms.write_block(k, size);
-        self.desk.say(self.forms.line.as_bytes(), self.subsystem, self.out, self.trace)
+        self.desk.say(
+            self.forms.line.as_bytes(),
+            self.subsystem,
+            self.out,
+            self.trace,
+        )
     }
 
     fn tally(&self) -> Tally {

@@ -1,4 +1,4 @@
-use Rattle.std.proofs.Common.{[], subst, ◌∙◌}
+use Rattle.std.proofs.Common.{[], subst}
 use Rattle.hp_driver.specs.Subsystem.{State}
 use Rattle.event_player.specs.Answering.{first_rest}
 use Rattle.event_player.specs.Spots.{SaysText}

@@ -1,4 +1,4 @@
-use Rattle.std.proofs.Common.{[], arith, refl, sym, ap, subst, ◌∙◌, ◌≡◌, ◌<◌, length, slice_index_or}
+use Rattle.std.proofs.Common.{[], arith, refl, sym, ap, subst, ◌∙◌, ◌<◌, length, slice_index_or}
 use Rattle.std.specs.Prelude.{Ok}
 use Rattle.std.proofs.lemmas.List.{take_all}
 use Rattle.hp_driver.specs.Subsystem.{State}
