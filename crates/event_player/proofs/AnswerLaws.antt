@@ -1,6 +1,6 @@
 -- Laws of the answers that wait: the blocks of a read, the text of one answer, and of all of them one after another.
-use Rattle.std.proofs.Common.{◌≡◌, ℕ, suc, ◌+◌, ◌-◌, ◌<◌, ◌≤◌, Bool, true, false, List, [], ◌∷◌, ◌++◌, length, map, take, drop, refl, sym, ap, subst, ◌∙◌, arith, append-nil, append_assoc, slice_index_or, replicate, Option, Some, None, Result, Ok, Err}
-use Rattle.std.specs.Prelude.{if◌then◌else◌, ◌==◌, IfSome, IsErr}
+use Rattle.std.proofs.Common.{◌≡◌, ◌≢◌, ℕ, ◌+◌, ◌-◌, ◌<◌, ◌≤◌, Bool, true, false, List, [], ◌∷◌, ◌++◌, length, map, take, drop, refl, sym, ap, subst, ◌∙◌, arith, append-nil, append_assoc, slice_index_or, replicate, Some, Result, Ok, Err}
+use Rattle.std.specs.Prelude.{if◌then◌else◌, ◌==◌, IsErr}
 use Rattle.std.specs.List.{flat_map}
 use Rattle.std.proofs.lemmas.Bool.{eq-eqb}
 use Rattle.std.proofs.lemmas.List.{take-append-drop}
@@ -9,26 +9,23 @@ use Rattle.outside_traits.specs.declared.traits.SinkFailed.{SinkFailed}
 use Rattle.trace_replay.specs.Moments.{Answered}
 use Rattle.main_memory.specs.Bytes.{filled, IsFill}
 use Rattle.trace_replay.specs.declared.requests.answers.Answer.{Answer}
-use Rattle.trace_replay.specs.declared.requests.answers.AnswerKind.{AnswerKind}
-use Rattle.trace_replay.specs.declared.requests.answers.AnswerKind.TheVariants.{ReadOk, WriteOk, Eof, Error}
-use Rattle.trace_replay.specs.declared.requests.answers.Cause.TheVariants.{Partition, Frames, Offline, Locked, Unforwarded, Fault}
+use Rattle.trace_replay.specs.declared.requests.answers.AnswerKind.TheVariants.{ReadOk}
 use Rattle.driver_machine.specs.declared.Made.{Made}
 use Rattle.driver_machine.specs.World.{World, held_in, block_in, bytes_in}
 use Rattle.driver_machine.specs.Acts.{Taken, after, after_all}
 use Rattle.driver_machine.specs.Lines.{answer_told}
 use Rattle.driver_machine.specs.Sound.{Sound}
 use Rattle.driver_laws.specs.answers.Waiting.{blocks_for, told_by, waiting, TakingDrops, takings, all_taken}
-use Rattle.trace_lines.specs.answers.AnswerText.{answer_text, block_text, block_texts, blocks_text}
+use Rattle.trace_lines.specs.answers.AnswerText.{answer_text, block_text, block_texts}
 use Rattle.trace_lines.specs.answers.Blocks.{AreBlocks, blocks_in, joined}
 use Rattle.trace_lines.proofs.answers.BlockLaws.{blocks_in-joined}
 use Rattle.trace_lines.proofs.answers.TextLaws.{one_more}
 use Rattle.hp_driver.specs.Subsystem.{State, IsOldest}
 use Rattle.hp_driver.proofs.ReadBlocks.{IsRead, slot_there, read_in}
 use Rattle.event_player.specs.Answering.{first_blocks, first_told, first_text, first_rest, IsFirst, IsFirstKind, HasBlock}
-use Rattle.event_player.specs.Saying.{Side, Says}
+use Rattle.event_player.specs.Spots.{Spot, SaysText}
 use Rattle.event_player.specs.Steps.{waiting_text}
-use Rattle.event_player.proofs.SaysLaws.{says_same, says_both, says_stop}
-use Rattle.event_player.proofs.Saying.{says_nothing}
+use Rattle.event_player.proofs.SaysLaws.{text_nothing, text_same, text_both, text_stop}
 
 -- THE BLOCKS OF A READ
 pub first_blocks_at : (w : World) (made : Made) (p : ℕ) → IsOldest w made → made.slot ≡ Some p → first_blocks w w.answers ≡ (held_in w p).blocks
@@ -117,24 +114,19 @@ block_texts-append k (x ∷ xs) ys =
 texts_parted : (blocks : List (List ℕ)) (k : ℕ) → block_texts 0 blocks ≡ block_texts 0 (take k blocks) ++ block_texts (0 + length (take k blocks)) (drop k blocks)
 texts_parted blocks k = ap (block_texts 0) (sym (take-append-drop k blocks)) ∙ block_texts-append 0 (take k blocks) (drop k blocks)
 
-module _ (out mid out' lines mid_lines lines' : Side) where
+module _ {old mid new : Spot} (blocks : List (List ℕ)) (k : ℕ) (result : Result (Unit {0}) SinkFailed) (lt : k < length blocks)
+    (so_far : SaysText {T = Unit {0}} {E = SinkFailed} [] (block_texts 0 (take k blocks)) (Ok tt) old mid) where
   -- the blocks below k, and one more
-  pub blocks_more : (blocks : List (List ℕ)) (k : ℕ) (result : Result (Unit {0}) SinkFailed) → k < length blocks
-      → Says {T = Unit {0}} {E = SinkFailed} out mid lines mid_lines (Ok tt) (block_texts 0 (take k blocks))
-      → Says mid out' mid_lines lines' result (block_text k (slice_index_or blocks k []))
-      → Says out out' lines lines' result (block_texts 0 (take (k + 1) blocks))
-  blocks_more blocks k result lt so_far more =
-      says_same (block_texts 0 (take (k + 1) blocks))
-      (says_both out mid out' lines mid_lines lines' (block_texts 0 (take k blocks)) (block_text k (slice_index_or blocks k [])) result so_far more) (sym (one_more blocks k lt))
+  pub blocks_more : SaysText [] (block_text k (slice_index_or blocks k [])) result mid new → SaysText [] (block_texts 0 (take (k + 1) blocks)) result old new
+  blocks_more more = text_same (block_texts 0 (take (k + 1) blocks)) (text_both result so_far more) (sym (one_more blocks k lt))
 
-  -- where one is not said, those behind it make no difference
-  pub blocks_stop : {failed : SinkFailed} (blocks : List (List ℕ)) (k : ℕ) (result : Result (Unit {0}) SinkFailed) → k < length blocks → IsErr result
-      → Says {T = Unit {0}} {E = SinkFailed} out mid lines mid_lines (Ok tt) (block_texts 0 (take k blocks))
-      → Says {T = Unit {0}} mid out' mid_lines lines' (Err failed) (block_text k (slice_index_or blocks k []))
-      → Says out out' lines lines' result (block_texts 0 blocks)
-  blocks_stop {failed} blocks k result lt e so_far more =
-      says_same (block_texts 0 blocks)
-      (says_stop (block_texts (0 + length (take (k + 1) blocks)) (drop (k + 1) blocks)) result e (blocks_more blocks k (Err failed) lt so_far more)) (sym (texts_parted blocks (k + 1)))
+-- where one is not said, those behind it make no difference
+pub blocks_stop : {old mid new : Spot} {failed : SinkFailed} (blocks : List (List ℕ)) (k : ℕ) (result : Result (Unit {0}) SinkFailed) → k < length blocks → IsErr result
+    → SaysText {T = Unit {0}} {E = SinkFailed} [] (block_texts 0 (take k blocks)) (Ok tt) old mid → SaysText {T = Unit {0}} [] (block_text k (slice_index_or blocks k [])) (Err failed) mid new
+    → SaysText [] (block_texts 0 blocks) result old new
+blocks_stop {failed = failed} blocks k result lt err so_far more =
+    text_same (block_texts 0 blocks)
+    (text_stop [] (block_texts (0 + length (take (k + 1) blocks)) (drop (k + 1) blocks)) result err (blocks_more blocks k (Err failed) lt so_far more)) (sym (texts_parted blocks (k + 1)))
 
 -- THE ANSWERS that wait: the oldest, and the others; and their texts
 told_first : (w : World) (answer : Answer) (first : IsFirst w answer) → told_by w first.made ≡ first_told w answer
@@ -161,67 +153,85 @@ taken_first w made oldest = ap (λ (answers : List Made). after_all w (takings a
 none_left : (w : World) → w.answers ≡ [] → all_taken w ≡ w
 none_left w none = ap (λ (answers : List Made). after_all w (takings answers)) none
 
--- ONE IS TAKEN, since one waits
-oldest_some : (w : World) (made : Made) → IsOldest w made → w.answers ≡ [] → ⊥
-oldest_some w made oldest none =
-    let e : made ∷ drop 1 w.answers ≡ [] = sym oldest.first ∙ none in
-    let n : suc (length (drop 1 w.answers)) ≡ 0 = ap (λ (answers : List Made). length answers) e in
-    omega (arith, n)
+-- one waits, and fewer do behind it
+pub some_waits : {w : World} {answer : Answer} → IsFirst w answer → w.answers ≢ []
+some_waits {w} first none = let e : first.made ∷ drop 1 w.answers ≡ [] = sym first.oldest.first ∙ none in cc
 
-pub is_taken : (old new : State) (answer : Answer) (result : Option Answer) → IsFirst old.world answer
-    → IfSome result (λ _. new ≡ record old { world = after old.world Taken }) → (result ≡ None → old.world.answers ≡ []) → new ≡ record old { world = after old.world Taken }
-is_taken old new answer None first taken none = absurd (oldest_some old.world first.made first.oldest (none refl))
-is_taken old new answer (Some other) first taken none = taken
+pub fewer_wait : {answer : Answer} (now mid new : Spot) → IsFirst now.driver.world answer → mid.driver ≡ now.driver
+    → new ≡ record mid { driver = record mid.driver { world = after mid.driver.world Taken } } → length new.driver.world.answers < length now.driver.world.answers
+fewer_wait now mid new first driver taking =
+    subst (λ (s : Spot). length s.driver.world.answers < length now.driver.world.answers) (sym taking)
+    (subst (λ (d : State). length (drop 1 d.world.answers) < length now.driver.world.answers) (sym driver)
+    (subst (λ (xs : List Made). length (drop 1 xs) < length xs) (sym first.oldest.first) (less (drop 1 now.driver.world.answers))))
+  where
+    less : (xs : List Made) → length xs < length (first.made ∷ xs)
+    less xs = omega arith
 
--- THE ANSWERS SO FAR: those that are taken were said, and with those that wait still they are all.
-pub record SoFar (out out' lines lines' : Side) (first s : State) : Type 0 where
-  pub front : List ℕ
-  pub says : Says {T = Unit {0}} {E = SinkFailed} out out' lines lines' (Ok tt) front
-  pub text : front ++ waiting_text s.world ≡ waiting_text first.world
-  pub all : all_taken s.world ≡ all_taken first.world
-  pub state : s ≡ record first { world = s.world; kept = s.kept }
+-- THE ANSWERS SO FAR: those that are taken were said and counted, and with those that wait still they are all.
+pub record SoFar (first now : Spot) : Type 0 where
+  pub answers : List Answered
+  pub text : List ℕ
+  pub says : SaysText {T = Unit {0}} {E = SinkFailed} answers text (Ok tt) first now
+  pub told : answers ++ waiting now.driver.world ≡ waiting first.driver.world
+  pub said : text ++ waiting_text now.driver.world ≡ waiting_text first.driver.world
+  pub all : all_taken now.driver.world ≡ all_taken first.driver.world
+  pub state : now.driver ≡ record first.driver { world = now.driver.world }
 
-module _ (drops : TakingDrops) where
-  pub none_so_far : (out lines : Side) (first : State) → SoFar out out lines lines first first
-  none_so_far out lines first = record {
-    front = [];
-    says = says_nothing out lines;
-    text = refl;
-    all = refl;
-    state = refl;
-  }
+pub none_so_far : (s : Spot) → SoFar s s
+none_so_far s = record {
+  answers = [];
+  text = [];
+  says = text_nothing s;
+  told = refl;
+  said = refl;
+  all = refl;
+  state = refl;
+}
 
-  pub one_so_far : {out mid out' lines mid_lines lines' : Side} {first s mid_s : State} {answer : Answer} (s' : State) → SoFar out mid lines mid_lines first s
-      → Sound s.world → IsFirst s.world answer → Says {T = Unit {0}} {E = SinkFailed} mid out' mid_lines lines' (Ok tt) (first_text s.world answer)
-      → mid_s ≡ record s { kept = mid_s.kept } → s' ≡ record mid_s { world = after mid_s.world Taken } → SoFar out out' lines lines' first s'
-  one_so_far {out} {mid} {out'} {lines} {mid_lines} {lines'} {first} {s} {mid_s} {answer} s' so sound is says same taking =
-      subst (λ (x : State). SoFar out out' lines lines' first x) (sym (taking ∙ ap (λ (x : State). record x { world = after x.world Taken }) same)) (record {
-        front = so.front ++ first_text s.world answer;
-        says = says_both out mid out' lines mid_lines lines' so.front (first_text s.world answer) (Ok tt) so.says says;
-        text =
-            append_assoc so.front (first_text s.world answer) (waiting_text (after s.world Taken))
-            ∙ ap (λ (text : List ℕ). so.front ++ text) (sym (text_taken drops s.world answer sound is)) ∙ so.text;
-        all = sym (taken_first s.world is.made is.oldest) ∙ so.all;
-        state = ap (λ (x : State). record x { world = after s.world Taken; kept = mid_s.kept }) so.state;
-      })
+module _ (drops : TakingDrops) {first now : Spot} (so : SoFar first now) where
+  text_more : (answer : Answer) → Sound now.driver.world → IsFirst now.driver.world answer
+      → (so.text ++ first_text now.driver.world answer) ++ waiting_text (after now.driver.world Taken) ≡ waiting_text first.driver.world
+  text_more answer sound is =
+      append_assoc so.text (first_text now.driver.world answer) (waiting_text (after now.driver.world Taken))
+      ∙ ap (λ (text : List ℕ). so.text ++ text) (sym (text_taken drops now.driver.world answer sound is)) ∙ so.said
 
-  pub so_far_stops : {out mid out' lines mid_lines lines' : Side} {first s : State} {answer : Answer} {failed : SinkFailed} (result : Result (Unit {0}) SinkFailed)
-      → SoFar out mid lines mid_lines first s → Sound s.world → IsFirst s.world answer → IsErr result
-      → Says {T = Unit {0}} mid out' mid_lines lines' (Err failed) (first_text s.world answer) → Says out out' lines lines' result (waiting_text first.world)
-  so_far_stops {out} {mid} {out'} {lines} {mid_lines} {lines'} {first} {s} {answer} {failed} result so sound is e says =
-      says_same (waiting_text first.world)
-      (says_stop (waiting_text (after s.world Taken)) result e
-      (says_both out mid out' lines mid_lines lines' so.front (first_text s.world answer) (Err failed) so.says says))
-      (append_assoc so.front (first_text s.world answer) (waiting_text (after s.world Taken))
-      ∙ ap (λ (text : List ℕ). so.front ++ text) (sym (text_taken drops s.world answer sound is)) ∙ so.text)
+  pub one_so_far : {answer : Answer} (mid new : Spot) → Sound now.driver.world → IsFirst now.driver.world answer
+      → SaysText {T = Unit {0}} {E = SinkFailed} (first_told now.driver.world answer ∷ []) (first_text now.driver.world answer) (Ok tt) now mid → mid.driver ≡ now.driver
+      → new ≡ record mid { driver = record mid.driver { world = after mid.driver.world Taken } } → SoFar first new
+  one_so_far {answer} mid new sound is said driver taking =
+      let w : World = now.driver.world in
+      let both : SaysText {T = Unit {0}} {E = SinkFailed} (so.answers ++ first_told w answer ∷ []) (so.text ++ first_text w answer) (Ok tt) first mid = text_both (Ok tt) so.says said in
+      subst (SoFar first) (sym taking)
+      (subst (λ (d : State). SoFar first (record mid { driver = record d { world = after d.world Taken } })) (sym driver) (record {
+        answers = so.answers ++ first_told w answer ∷ [];
+        text = so.text ++ first_text w answer;
+        says = record {
+          says = both.says;
+          counts = both.counts;
+          requests = both.requests;
+          same = ap (λ (s : Spot). record s { driver = record now.driver { world = after w Taken } }) both.same;
+        };
+        told =
+            append_assoc so.answers (first_told w answer ∷ []) (waiting (after w Taken))
+            ∙ ap (λ (xs : List Answered). so.answers ++ xs) (sym (told_taken drops w answer sound is)) ∙ so.told;
+        said = text_more answer sound is;
+        all = sym (taken_first w is.made is.oldest) ∙ so.all;
+        state = ap (λ (d : State). record d { world = after w Taken }) so.state;
+      }))
 
-  pub all_so_far : {out out' lines lines' : Side} {first s : State} → SoFar out out' lines lines' first s → s.world.answers ≡ []
-      → Says {T = Unit {0}} {E = SinkFailed} out out' lines lines' (Ok tt) (waiting_text first.world)
-  all_so_far {out} {out'} {lines} {lines'} {first} {s} so none =
-      says_same (waiting_text first.world) so.says
-      (sym (append-nil so.front) ∙ ap (λ (answers : List Made). so.front ++ flat_map answer_text (map (told_by s.world) answers)) (sym none) ∙ so.text)
+  pub so_far_stops : {new : Spot} {answer : Answer} {failed : SinkFailed} (result : Result (Unit {0}) SinkFailed) → Sound now.driver.world → IsFirst now.driver.world answer → IsErr result
+      → SaysText {T = Unit {0}} (first_told now.driver.world answer ∷ []) (first_text now.driver.world answer) (Err failed) now new
+      → SaysText (waiting first.driver.world) (waiting_text first.driver.world) result first new
+  so_far_stops {new} {answer} {failed} result sound is err said =
+      text_same (waiting_text first.driver.world)
+      (text_stop (waiting first.driver.world) (waiting_text (after now.driver.world Taken)) result err (text_both (Err failed) so.says said)) (text_more answer sound is)
 
-  pub state_so_far : {out out' lines lines' : Side} {first s : State} → SoFar out out' lines lines' first s → s.world.answers ≡ []
-      → s ≡ record first { world = all_taken first.world; kept = s.kept }
-  state_so_far {out} {out'} {lines} {lines'} {first} {s} so none =
-      so.state ∙ ap (λ (w : World). record first { world = w; kept = s.kept }) (sym (none_left s.world none) ∙ so.all)
+  pub all_so_far : now.driver.world.answers ≡ [] → SaysText {T = Unit {0}} {E = SinkFailed} (waiting first.driver.world) (waiting_text first.driver.world) (Ok tt) first now
+  all_so_far none =
+      let empty : waiting now.driver.world ≡ [] = ap (map (told_by now.driver.world)) none in
+      let told : so.answers ≡ waiting first.driver.world = sym (append-nil so.answers) ∙ ap (λ (xs : List Answered). so.answers ++ xs) (sym empty) ∙ so.told in
+      let said : so.text ≡ waiting_text first.driver.world = sym (append-nil so.text) ∙ ap (λ (xs : List Answered). so.text ++ flat_map answer_text xs) (sym empty) ∙ so.said in
+      text_same (waiting_text first.driver.world) (subst (λ (xs : List Answered). SaysText {T = Unit {0}} {E = SinkFailed} xs so.text (Ok tt) first now) told so.says) said
+
+  pub state_so_far : now.driver.world.answers ≡ [] → now.driver ≡ record first.driver { world = all_taken first.driver.world }
+  state_so_far none = so.state ∙ ap (λ (w : World). record first.driver { world = w }) (sym (none_left now.driver.world none) ∙ so.all)

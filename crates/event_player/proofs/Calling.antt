@@ -1,8 +1,7 @@
 -- What a call of the driver comes to, with what was sent ahead of it and what is said behind it.
-use Rattle.std.proofs.Common.{◌≡◌, ◌⊎◌, inl, inr, ℕ, Bool, true, false, IsTrue, List, [], ◌++◌, Some, None, refl, sym, ap, subst, ◌∙◌, append-nil, append_assoc}
+use Rattle.std.proofs.Common.{◌≡◌, ◌⊎◌, inl, inr, ℕ, Bool, true, false, IsTrue, List, [], ◌++◌, Option, Some, None, refl, sym, ap, subst, ◌∙◌, append-nil, append_assoc}
 use Rattle.std.specs.Prelude.{Result, Ok, Err, IsOk}
 use Rattle.std.proofs.lemmas.List.{append_cancel_right}
-use Rattle.pack_geometry.specs.Pack.{Pack}
 use Rattle.outside_traits.specs.declared.traits.SinkFailed.{SinkFailed}
 use Rattle.trace_replay.specs.requests.Requests.{Request}
 use Rattle.trace_replay.specs.Script.{Input}
@@ -12,8 +11,7 @@ use Rattle.driver_machine.specs.Acts.{Act, after_all}
 use Rattle.driver_machine.specs.Lines.{lines_of_all}
 use Rattle.driver_machine.specs.Events.{submit_acts, event_acts}
 use Rattle.driver_machine.specs.Sound.{Sound, AtWork}
-use Rattle.driver_machine.specs.Runs.{Run}
-use Rattle.driver_laws.specs.answers.Outcome.{Does, StopsAtTrace, IsFront, IsNextBlock}
+use Rattle.driver_laws.specs.answers.Outcome.{Does, StopsAtTrace, IsFront, IsNextBlock, Told, stop_in}
 use Rattle.driver_laws.specs.declared.answers.outcome.Stop.{Stop}
 use Rattle.driver_laws.specs.declared.answers.outcome.Stop.TheVariants as stop
 use Rattle.driver_laws.proofs.answers.Joined.{front_same, front_more, front_of_front}
@@ -23,159 +21,109 @@ use Rattle.driver_laws.proofs.answers.Waiting.{events_alone, submissions_alone}
 use Rattle.trace_lines.specs.answers.AnswerText.{out_text}
 use Rattle.trace_lines.specs.declared.answers.tally.Tally.{Tally}
 use Rattle.trace_lines.specs.answers.Counting.{Counts}
-use Rattle.hp_driver.specs.Subsystem.{Submits, Comes, seen, is_move, writes_by}
+use Rattle.hp_driver.specs.Subsystem.{State, Submits, Comes, seen as as_site, is_move, writes_by}
 use Rattle.script_runs.specs.declared.fault.PlayFault.TheVariants as playing
 use Rattle.script_runs.specs.Faults.{from_stop}
-use Rattle.event_player.specs.Saying.{Side, side, Says, SendsAhead}
-use Rattle.event_player.specs.Steps.{Stage, Passes, PassesAhead, PlaysActs, PlaysEvent, PlaysSubmission, waiting_text}
+use Rattle.event_player.specs.Saying.{Side, Says, SendsAhead}
+use Rattle.event_player.specs.Spots.{PacksAt, Spot, seen, tells, took, telling, held_at, SaysText, Sends, SubmitsAt, ComesAt}
+use Rattle.event_player.specs.Steps.{Stage, Passes, PassesAhead, PlaysActs, PlaysEvent, PlaysSubmission, waiting_text, by_sides}
 use Rattle.event_player.specs.Stops.{StopsActs, EventStops, SubmissionStops}
 use Rattle.event_player.proofs.Inputs.{waiting_said}
-use Rattle.event_player.proofs.Saying.{IsTold, IsSaid, is_said, by_sides, passes_all, unsent_passes, ahead_said, ahead_told, ahead_passes, all_said, all_told, none_ahead}
+use Rattle.event_player.proofs.Saying.{IsTold, IsSaid, is_said, passes_all, unsent_passes, ahead_said, ahead_told, ahead_passes, all_said, all_told, none_ahead}
 
--- ACTS AND THEIR LINES
-does_told : {O : Type 0} (tells : O → Bool) (taken : O → List ℕ) (faults : O → ℕ) (trace trace' : O) (packs : Bool) (acts : List Act) (w w' : World) (held held' : ℕ → Pack) (kept kept' : List ℕ)
-    → (IsTrue (tells trace') → IsTrue (tells trace)) → Does (record { packs = packs; trace = tells trace' }) acts (seen w held (taken trace) kept) (seen w' held' (taken trace') kept')
-    → IsTold (side tells taken faults trace kept) (side tells taken faults trace' kept') (trace_text (lines_of_all w acts))
-does_told tells taken faults trace trace' packs acts w w' held held' kept kept' again does = record { again = again; sent = does.sent; whole = does.text }
+-- lines that were told, of which a front was sent
+abbrev not_sent : Side → Side → List ℕ → Side
+not_sent lines lines' text = record lines' { took = lines.took; kept = lines.kept ++ text }
 
--- behind which the answers that wait are said and counted
-plays_acts : (acts : List Act) (w mid : World) (packs packs' : Bool) (held held' : ℕ → Pack) (tally tally' : Tally) (out lines out' lines' : Side)
-    → Sound w → AtWork w → Run w acts → mid ≡ after_all w acts
-    → (IsTrue out'.tells → out'.took ++ out'.kept ≡ (out.took ++ out.kept) ++ waiting_text mid) → (IsTrue lines'.tells → lines'.took ++ lines'.kept ≡ (lines.took ++ lines.kept) ++ trace_text (lines_of_all w acts))
-    → Counts (waiting mid) (waiting_text mid) tally tally'
-    → PlaysActs acts (by_sides w packs held out lines tally) (by_sides (all_taken mid) packs' held' out' lines' tally')
-plays_acts acts w mid packs packs' held held' tally tally' out lines out' lines' sound work run world said told counts = record {
-  sound = sound;
-  work = work;
-  run = run;
-  world = ap all_taken world;
-  out = λ t. said t ∙ ap (λ (x : World). (out.took ++ out.kept) ++ waiting_text x) world;
-  trace = told;
-  tally = subst (λ (x : World). Counts (waiting x) (waiting_text x) tally tally') world counts;
-}
-
--- A CALL THAT STOPPED at the trace: some acts were done, of whose lines a front was sent, and nothing is said.
-abbrev not_sent : {O : Type 0} (tells : O → Bool) (taken : O → List ℕ) (faults : O → ℕ) (trace trace' : O) (kept text : List ℕ) → Side
-not_sent tells taken faults trace trace' kept text = record { tells = tells trace'; took = taken trace; kept = kept ++ text; faults = faults trace' }
-
-front_told : {O : Type 0} (tells : O → Bool) (taken : O → List ℕ) (faults : O → ℕ) (trace trace' : O) (kept text : List ℕ) → (IsTrue (tells trace') → IsTrue (tells trace))
-    → IsTold (side tells taken faults trace kept) (not_sent tells taken faults trace trace' kept text) text
-front_told tells taken faults trace trace' kept text again = record {
+front_told : (lines lines' : Side) (text : List ℕ) → (IsTrue lines'.tells → IsTrue lines.tells) → IsTold lines (not_sent lines lines' text) text
+front_told lines lines' text again = record {
   again = again;
-  sent = λ t. front_same (taken trace);
-  whole = λ t. sym (append_assoc (taken trace) kept text);
+  sent = λ t. front_same lines.took;
+  whole = λ t. sym (append_assoc lines.took lines.kept text);
 }
 
-front_said : {O : Type 0} (tells : O → Bool) (taken : O → List ℕ) (faults : O → ℕ) (trace trace' : O) (kept kept' text : List ℕ) (out : Side)
-    → (IsTrue (tells trace') → IsFront (taken trace) (taken trace')) → (IsTrue (tells trace') → IsFront (taken trace') ((taken trace ++ kept) ++ text))
-    → IsSaid out out (not_sent tells taken faults trace trace' kept text) (side tells taken faults trace' kept') []
-front_said tells taken faults trace trace' kept kept' text out sent front = record {
+front_said : (lines lines' : Side) (text : List ℕ) (out : Side) → (IsTrue lines'.tells → IsFront lines.took lines'.took) → (IsTrue lines'.tells → IsFront lines'.took ((lines.took ++ lines.kept) ++ text))
+    → IsSaid out out (not_sent lines lines' text) lines' []
+front_said lines lines' text out sent front = record {
   again = λ t. t;
   again_lines = λ t. t;
   front = λ t. record { least = front_same out.took; most = front_more out.took (out.kept ++ []) };
-  front_lines = λ t. record { least = sent t; most = subst (IsFront (taken trace')) (append_assoc (taken trace) kept text) (front t) };
+  front_lines = λ t. record { least = sent t; most = subst (IsFront lines'.took) (append_assoc lines.took lines.kept text) (front t) };
   lines_first = inl (λ t. refl);
 }
 
--- AN EVENT, before which text was sent
-module _ {O Q : Type 0} (holds : Q → Bool) (held : Q → ℕ → Pack) (tells : O → Bool) (taken : O → List ℕ) (faults : O → ℕ) (packs packs' : Q) (trace trace' : O) (line : ℕ) (input : Input) (w mid : World) (kept kept' : List ℕ)
-    (out0 out lines0 : Side) (tally : Tally) (ahead : Result (Unit {0}) SinkFailed) (done : IsOk ahead)
-    (sends : SendsAhead (writes_by w input) out0 out lines0 (side tells taken faults trace kept) ahead) (again : IsTrue (tells trace') → IsTrue (tells trace)) where
+-- THE ACTS OF A CALL, before which text was sent, with their lines
+module _ (writes : Bool) (acts : List Act) (w mid : World) (packs packs' : PacksAt) (out0 out lines0 lines lines' : Side) (tally : Tally) (ahead : Result (Unit {0}) SinkFailed) (done : IsOk ahead)
+    (sends : SendsAhead writes out0 out lines0 lines ahead) (again : IsTrue lines'.tells → IsTrue lines.tells) where
   abbrev before : Stage
-  before = by_sides w (holds packs) (held packs) out0 lines0 tally
+  before = by_sides w packs.tells packs.held out0 lines0 tally
 
-  abbrev lines : Side
-  lines = side tells taken faults trace kept
+  abbrev told : Told
+  told = record { packs = packs'.tells; trace = lines'.tells }
 
-  abbrev lines' : Side
-  lines' = side tells taken faults trace' kept'
+  abbrev behind : World → Side → Side → Tally → Stage
+  behind w' out' sent tally' = by_sides w' packs'.tells packs'.held out' sent tally'
 
-  module _ (sound : Sound w) (work : AtWork w) (none : w.answers ≡ []) (comes : Comes holds held tells taken packs packs' trace trace' line input w mid kept kept' None) where
-    abbrev acts : List Act
-    acts = event_acts line input comes.tried w
+  module _ (does : Does told acts (as_site w packs.held lines.took lines.kept) (as_site mid packs'.held lines'.took lines'.kept)) where
+    abbrev text : List ℕ
+    text = trace_text (lines_of_all w acts)
 
-    does : Does (record { packs = holds packs'; trace = tells trace' }) acts (seen w (held packs) (taken trace) kept) (seen mid (held packs') (taken trace') kept')
-    does = comes.outcome
+    told_all : IsTold lines lines' text
+    told_all = record { again = again; sent = does.sent; whole = does.text }
 
-    told : IsTold lines lines' (trace_text (lines_of_all w acts))
-    told = does_told tells taken faults trace trace' (holds packs') acts w mid (held packs) (held packs') kept kept' again does
+    module _ (out' sent : Side) (tally' : Tally) where
+      abbrev new : Stage
+      new = behind (all_taken mid) out' sent tally'
 
-    -- behind it the answers that wait are said and counted,
-    pub event_done : (out' sent : Side) (tally' : Tally) {A E : Type 0} (result : Result A E) → IsOk result → Says out out' lines' sent result (waiting_text mid)
-        → Counts (waiting mid) (waiting_text mid) tally tally' → PlaysEvent line input before (by_sides (all_taken mid) (holds packs') (held packs') out' sent tally')
-    event_done out' sent tally' result ok says counts = record {
-      passes = record {
-        sent = λ on. passes_for (whole.sent on);
-        kept = λ off. passes_for (whole.kept off);
-      };
-      leaves = comes.leaves;
-      tried = comes.tried;
-      may = comes.may refl;
-      reads = comes.reads refl;
-      packs = does.does.packs;
-      plays = plays_acts acts w mid (holds packs) (holds packs') (held packs) (held packs') tally tally' out0 lines0 out' sent sound work does.does.run does.does.world said_all told_all counts;
-    }
-      where
-        whole : PassesAhead (writes_by w input) ((out0.took ++ out0.kept) ++ waiting_text mid) ((lines0.took ++ lines0.kept) ++ trace_text (lines_of_all w acts)) before
-            (by_sides (all_taken mid) (holds packs') (held packs') out' sent tally')
-        whole = ahead_passes (writes_by w input) out0 out lines0 lines ahead done sends w (all_taken mid) (holds packs) (holds packs') (held packs) (held packs') tally tally' out' lines' sent (waiting_text mid)
-            (trace_text (lines_of_all w acts)) told (is_said says)
+      passed : (w' : World) → IsSaid out out' lines' sent (waiting_text mid) → PassesAhead writes ((out0.took ++ out0.kept) ++ waiting_text mid) ((lines0.took ++ lines0.kept) ++ text) before (behind w' out' sent tally')
+      passed w' says = ahead_passes writes out0 out lines0 lines ahead done sends w w' packs.tells packs'.tells packs.held packs'.held tally tally' out' lines' sent (waiting_text mid) text told_all says
 
-        said_all : IsTrue out'.tells → out'.took ++ out'.kept ≡ (out0.took ++ out0.kept) ++ waiting_text mid
-        said_all = all_said (writes_by w input) out0 out lines0 lines ahead done sends w (all_taken mid) (holds packs) (holds packs') (held packs) (held packs') tally tally' out' lines' sent (waiting_text mid)
-            (trace_text (lines_of_all w acts)) told result says ok
+      -- behind which the answers that wait are said and counted,
+      module _ {A E : Type 0} (result : Result A E) (ok : IsOk result) (says : Says out out' lines' sent result (waiting_text mid)) where
+        said_whole : IsTrue out'.tells → out'.took ++ out'.kept ≡ (out0.took ++ out0.kept) ++ waiting_text mid
+        said_whole = all_said writes out0 out lines0 lines ahead done sends w (all_taken mid) packs.tells packs'.tells packs.held packs'.held tally tally' out' lines' sent (waiting_text mid) text told_all result says ok
 
-        told_all : IsTrue sent.tells → sent.took ++ sent.kept ≡ (lines0.took ++ lines0.kept) ++ trace_text (lines_of_all w acts)
-        told_all = all_told (writes_by w input) out0 out lines0 lines ahead done sends w (all_taken mid) (holds packs) (holds packs') (held packs) (held packs') tally tally' out' lines' sent (waiting_text mid)
-            (trace_text (lines_of_all w acts)) told result says ok
+        told_whole : IsTrue sent.tells → sent.took ++ sent.kept ≡ (lines0.took ++ lines0.kept) ++ text
+        told_whole = all_told writes out0 out lines0 lines ahead done sends w (all_taken mid) packs.tells packs'.tells packs.held packs'.held tally tally' out' lines' sent (waiting_text mid) text told_all result says ok
 
-        passes_for : {from_out from_lines : List ℕ}
-            → Passes from_out from_lines ((out0.took ++ out0.kept) ++ waiting_text mid) ((lines0.took ++ lines0.kept) ++ trace_text (lines_of_all w acts)) before (by_sides (all_taken mid) (holds packs') (held packs') out' sent tally')
-            → Passes from_out from_lines (out'.took ++ out'.kept) (sent.took ++ sent.kept) before (by_sides (all_taken mid) (holds packs') (held packs') out' sent tally')
-        passes_for = passes_all said_all told_all
-
-    -- or were to be.
-    pub event_unsaid : (new : World) (out' sent : Side) (tally' : Tally) → (is_move input ≡ false → held packs' ≡ held packs) → AllFlip w.book.live → IsSaid out out' lines' sent (waiting_text mid)
-        → EventStops line input playing.Sink before (by_sides new (holds packs') (held packs') out' sent tally')
-    event_unsaid new out' sent tally' still noise says = (
-      still,
-      inr (record {
-        tried = comes.tried;
-        noise = noise;
-        leaves = comes.leaves;
-        stops = record {
-          done = acts;
-          left = [];
-          all = sym (append-nil acts);
+        acts_played : Sound w → AtWork w → Counts (waiting mid) (waiting_text mid) tally tally' → PlaysActs acts before new
+        acts_played sound work counts = record {
+          sound = sound;
+          work = work;
           run = does.does.run;
-          reads = does.does.reads;
-          packs = does.does.packs;
-          text = waiting_text mid;
-          says = subst (λ (text : List ℕ). IsFront text (out_text (lines_of_all w acts)))
-              (sym (ap waiting_text does.does.world ∙ waiting_said w acts (events_alone w line input comes.tried sound work (comes.may refl) none))) (front_same (out_text (lines_of_all w acts)));
-          passes = ahead_passes (writes_by w input) out0 out lines0 lines ahead done sends w new (holds packs) (holds packs') (held packs) (held packs') tally tally' out' lines' sent (waiting_text mid)
-              (trace_text (lines_of_all w acts)) told says;
-        };
-      }),
-    )
+          world = ap all_taken does.does.world;
+          out = λ t. said_whole t ∙ ap (λ (x : World). (out0.took ++ out0.kept) ++ waiting_text x) does.does.world;
+          trace = told_whole;
+          tally = subst (λ (x : World). Counts (waiting x) (waiting_text x) tally tally') does.does.world counts;
+        }
 
-  -- A STOP of the call itself
-  pub event_halted : (new : World) (tally' : Tally) (halt : Stop) → (is_move input ≡ false → held packs' ≡ held packs) → AllFlip w.book.live
-      → Comes holds held tells taken packs packs' trace trace' line input w mid kept kept' (Some halt)
-      → EventStops line input (from_stop halt) before (by_sides new (holds packs') (held packs') out lines' tally')
-  event_halted new tally' stop.Sink still noise comes = (
-    still,
-    inr (record {
-      tried = comes.tried;
-      noise = noise;
-      leaves = comes.leaves;
-      stops = halted comes.outcome;
-    }),
-  )
-    where
-      halted : StopsAtTrace (record { packs = holds packs'; trace = tells trace' }) (event_acts line input comes.tried w) (seen w (held packs) (taken trace) kept) (seen mid (held packs') (taken trace') kept')
-          → StopsActs (writes_by w input) (event_acts line input comes.tried w) before (by_sides new (holds packs') (held packs') out lines' tally')
-      halted is = record {
+        acts_passed : PassesAhead writes new.said new.taken before new
+        acts_passed = record { sent = λ on. whole ((passed (all_taken mid) (is_said says)).sent on); kept = λ off. whole ((passed (all_taken mid) (is_said says)).kept off) }
+          where
+            whole : {from_out from_lines : List ℕ} → Passes from_out from_lines ((out0.took ++ out0.kept) ++ waiting_text mid) ((lines0.took ++ lines0.kept) ++ text) before new
+                → Passes from_out from_lines new.said new.taken before new
+            whole = passes_all said_whole told_whole
+
+      -- or were to be.
+      acts_unsaid : (w' : World) → waiting_text (after_all w acts) ≡ out_text (lines_of_all w acts) → IsSaid out out' lines' sent (waiting_text mid) → StopsActs writes acts before (behind w' out' sent tally')
+      acts_unsaid w' alone says = record {
+        done = acts;
+        left = [];
+        all = sym (append-nil acts);
+        run = does.does.run;
+        reads = does.does.reads;
+        packs = does.does.packs;
+        text = waiting_text mid;
+        says = subst (λ (x : List ℕ). IsFront x (out_text (lines_of_all w acts))) (sym (ap waiting_text does.does.world ∙ alone)) (front_same (out_text (lines_of_all w acts)));
+        passes = passed w' says;
+      }
+
+  -- The trace failed: some acts were done, of whose lines a front was sent, and nothing is said.
+  acts_halted : (w' : World) (tally' : Tally) → StopsAtTrace told acts (as_site w packs.held lines.took lines.kept) (as_site mid packs'.held lines'.took lines'.kept)
+      → StopsActs writes acts before (behind w' out lines' tally')
+  acts_halted w' tally' is =
+      let text : List ℕ = trace_text (lines_of_all w is.done) in
+      record {
         done = is.done;
         left = is.left;
         all = is.all;
@@ -184,141 +132,226 @@ module _ {O Q : Type 0} (holds : Q → Bool) (held : Q → ℕ → Pack) (tells 
         packs = is.does.packs;
         text = [];
         says = record { rest = out_text (lines_of_all w is.done); whole = refl };
-        passes = ahead_passes (writes_by w input) out0 out lines0 lines ahead done sends w new (holds packs) (holds packs') (held packs) (held packs') tally tally' out
-            (not_sent tells taken faults trace trace' kept (trace_text (lines_of_all w is.done))) lines' [] (trace_text (lines_of_all w is.done))
-            (front_told tells taken faults trace trace' kept (trace_text (lines_of_all w is.done)) again)
-            (front_said tells taken faults trace trace' kept kept' (trace_text (lines_of_all w is.done)) out is.sent
-            (λ t. front_of_front (taken trace') (taken trace' ++ kept') ((taken trace ++ kept) ++ trace_text (lines_of_all w is.done)) (front_more (taken trace') kept') (is.front t)));
+        passes = ahead_passes writes out0 out lines0 lines ahead done sends w w' packs.tells packs'.tells packs.held packs'.held tally tally' out (not_sent lines lines' text) lines' [] text
+            (front_told lines lines' text again)
+            (front_said lines lines' text out is.sent (λ t. front_of_front lines'.took (lines'.took ++ lines'.kept) ((lines.took ++ lines.kept) ++ text) (front_more lines'.took lines'.kept) (is.front t)));
       }
-  event_halted new tally' stop.Store still noise comes =
+
+  -- The packs failed, and the trace took no more.
+  none_passed : (w' : World) (tally' : Tally) → lines'.kept ≡ lines.kept → (IsTrue lines'.tells → lines'.took ++ lines'.kept ≡ lines.took ++ lines.kept)
+      → PassesAhead writes (out0.took ++ out0.kept) (lines0.took ++ lines0.kept) before (behind w' out lines' tally')
+  none_passed w' tally' unsent same = record { sent = λ on. whole (nothing.sent on); kept = λ off. whole (nothing.kept off) }
+    where
+      same_took : IsTrue lines'.tells → lines'.took ≡ lines.took
+      same_took t = append_cancel_right lines'.took lines.took lines.kept (ap (λ (xs : List ℕ). lines'.took ++ xs) (sym unsent) ∙ same t)
+
+      nothing : PassesAhead writes ((out0.took ++ out0.kept) ++ []) ((lines0.took ++ lines0.kept) ++ []) before (behind w' out lines' tally')
+      nothing = ahead_passes writes out0 out lines0 lines ahead done sends w w' packs.tells packs'.tells packs.held packs'.held tally tally' out (not_sent lines lines' []) lines' [] []
+          (front_told lines lines' [] again)
+          (front_said lines lines' [] out (λ t. subst (IsFront lines.took) (sym (same_took t)) (front_same lines.took))
+          (λ t. subst (IsFront lines'.took) (sym (append-nil (lines.took ++ lines.kept))) (subst (λ (xs : List ℕ). IsFront xs (lines.took ++ lines.kept)) (sym (same_took t)) (front_more lines.took lines.kept))))
+
+      whole : {from_out from_lines : List ℕ} → Passes from_out from_lines ((out0.took ++ out0.kept) ++ []) ((lines0.took ++ lines0.kept) ++ []) before (behind w' out lines' tally')
+          → Passes from_out from_lines (out0.took ++ out0.kept) (lines0.took ++ lines0.kept) before (behind w' out lines' tally')
+      whole = passes_all (λ t. sym (append-nil (out0.took ++ out0.kept))) (λ t. sym (append-nil (lines0.took ++ lines0.kept)))
+
+-- AN EVENT
+module _ (packs packs' : PacksAt) (out0 out lines0 lines lines' : Side) (line : ℕ) (input : Input) (w mid : World) (tally : Tally) (ahead : Result (Unit {0}) SinkFailed) (done : IsOk ahead)
+    (sends : SendsAhead (writes_by w input) out0 out lines0 lines ahead) (again : IsTrue lines'.tells → IsTrue lines.tells) where
+  abbrev comes_with : Option Stop → Type 0
+  comes_with halt = Comes telling held_at tells took packs packs' lines lines' line input w mid lines.kept lines'.kept halt
+
+  pub event_done : (out' sent : Side) (tally' : Tally) {A E : Type 0} (result : Result A E) → Sound w → AtWork w → comes_with None → IsOk result → Says out out' lines' sent result (waiting_text mid)
+      → Counts (waiting mid) (waiting_text mid) tally tally'
+      → PlaysEvent line input (by_sides w packs.tells packs.held out0 lines0 tally) (by_sides (all_taken mid) packs'.tells packs'.held out' sent tally')
+  event_done out' sent tally' result sound work comes ok says counts =
+      let acts : List Act = event_acts line input comes.tried w in
+      record {
+        passes = acts_passed (writes_by w input) acts w mid packs packs' out0 out lines0 lines lines' tally ahead done sends again comes.outcome out' sent tally' result ok says;
+        leaves = comes.leaves;
+        tried = comes.tried;
+        may = comes.may refl;
+        reads = comes.reads refl;
+        packs = comes.outcome.does.packs;
+        plays = acts_played (writes_by w input) acts w mid packs packs' out0 out lines0 lines lines' tally ahead done sends again comes.outcome out' sent tally' result ok says sound work counts;
+      }
+
+  pub event_unsaid : (w' : World) (out' sent : Side) (tally' : Tally) → Sound w → AtWork w → w.answers ≡ [] → AllFlip w.book.live → (is_move input ≡ false → packs' ≡ packs) → comes_with None
+      → IsSaid out out' lines' sent (waiting_text mid)
+      → EventStops line input playing.Sink (by_sides w packs.tells packs.held out0 lines0 tally) (by_sides w' packs'.tells packs'.held out' sent tally')
+  event_unsaid w' out' sent tally' sound work none noise still comes says =
+      let acts : List Act = event_acts line input comes.tried w in (
+        λ is. ap held_at (still is),
+        inr (record {
+          tried = comes.tried;
+          noise = noise;
+          leaves = comes.leaves;
+          stops = acts_unsaid (writes_by w input) acts w mid packs packs' out0 out lines0 lines lines' tally ahead done sends again comes.outcome out' sent tally' w'
+              (waiting_said w acts (events_alone w line input comes.tried sound work (comes.may refl) none)) says;
+        }),
+      )
+
+  pub event_halted : (w' : World) (tally' : Tally) (halt : Stop) → AllFlip w.book.live → (is_move input ≡ false → packs' ≡ packs) → comes_with (Some halt)
+      → EventStops line input (from_stop halt) (by_sides w packs.tells packs.held out0 lines0 tally) (by_sides w' packs'.tells packs'.held out lines' tally')
+  event_halted w' tally' stop.Sink noise still comes = (
+    λ is. ap held_at (still is),
+    inr (record {
+      tried = comes.tried;
+      noise = noise;
+      leaves = comes.leaves;
+      stops = acts_halted (writes_by w input) (event_acts line input comes.tried w) w mid packs packs' out0 out lines0 lines lines' tally ahead done sends again w' tally' comes.outcome;
+    }),
+  )
+  event_halted w' tally' stop.Store noise still comes =
       let failed = comes.before refl in
       record {
         move = comes.moves refl;
         packs = λ t. packs_by (writes_by w input) refl t (failed.packs t);
         out = λ t. ahead_said (writes_by w input) out0 out lines0 lines ahead done sends t;
         trace = λ t. failed.text t ∙ ahead_told (writes_by w input) out0 out lines0 lines ahead done sends (again t);
-        passes = record { sent = λ on. none_passes (nothing.sent on); kept = λ off. none_passes (nothing.kept off) };
+        passes = none_passed (writes_by w input) [] w mid packs packs' out0 out lines0 lines lines' tally ahead done sends again w' tally' (comes.unsent refl) failed.text;
       }
     where
-      packs_by : (b : Bool) → writes_by w input ≡ b → IsTrue (holds packs') → (held packs' ≡ held packs) ⊎ IsNextBlock w (held packs) (held packs')
-          → (held packs' ≡ held packs) ⊎ ((writes_by w input ≡ true) × IsNextBlock w (held packs) (held packs'))
+      packs_by : (b : Bool) → writes_by w input ≡ b → IsTrue packs'.tells → (packs'.held ≡ packs.held) ⊎ IsNextBlock w packs.held packs'.held
+          → (packs'.held ≡ packs.held) ⊎ ((writes_by w input ≡ true) × IsNextBlock w packs.held packs'.held)
       packs_by b is t (inl same) = inl same
       packs_by true is t (inr next) = inr (is, next)
       packs_by false is t (inr next) = inl (comes.leaves is t)
 
-      -- the trace took no more
-      same_took : IsTrue (tells trace') → taken trace' ≡ taken trace
-      same_took t = append_cancel_right (taken trace') (taken trace) kept (ap (λ (xs : List ℕ). taken trace' ++ xs) (sym (comes.unsent refl)) ∙ (comes.before refl).text t)
-
-      nothing : PassesAhead (writes_by w input) ((out0.took ++ out0.kept) ++ []) ((lines0.took ++ lines0.kept) ++ []) before (by_sides new (holds packs') (held packs') out lines' tally')
-      nothing = ahead_passes (writes_by w input) out0 out lines0 lines ahead done sends w new (holds packs) (holds packs') (held packs) (held packs') tally tally' out
-          (not_sent tells taken faults trace trace' kept []) lines' [] [] (front_told tells taken faults trace trace' kept [] again)
-          (front_said tells taken faults trace trace' kept kept' [] out (λ t. subst (IsFront (taken trace)) (sym (same_took t)) (front_same (taken trace)))
-          (λ t. subst (IsFront (taken trace')) (sym (append-nil (taken trace ++ kept))) (subst (λ (xs : List ℕ). IsFront xs (taken trace ++ kept)) (sym (same_took t)) (front_more (taken trace) kept))))
-
-      none_passes : {from_out from_lines : List ℕ} → Passes from_out from_lines ((out0.took ++ out0.kept) ++ []) ((lines0.took ++ lines0.kept) ++ []) before (by_sides new (holds packs') (held packs') out lines' tally')
-          → Passes from_out from_lines (out0.took ++ out0.kept) (lines0.took ++ lines0.kept) before (by_sides new (holds packs') (held packs') out lines' tally')
-      none_passes = passes_all (λ t. sym (append-nil (out0.took ++ out0.kept))) (λ t. sym (append-nil (lines0.took ++ lines0.kept)))
-
 -- THE SENDING that was to come before it failed.
-pub event_unsent : {A E : Type 0} (line : ℕ) (input : Input) (w new : World) (packs : Bool) (held : ℕ → Pack) (out0 out lines0 lines : Side) (tally tally' : Tally) (failed : E)
+pub event_unsent : {A E : Type 0} (line : ℕ) (input : Input) (w new : World) (packs : PacksAt) (out0 out lines0 lines : Side) (tally tally' : Tally) (failed : E)
     → SendsAhead {T = A} (writes_by w input) out0 out lines0 lines (Err failed)
-    → EventStops line input playing.Sink (by_sides w packs held out0 lines0 tally) (by_sides new packs held out lines tally')
-event_unsent line input w new packs held out0 out lines0 lines tally tally' failed sends = (
+    → EventStops line input playing.Sink (by_sides w packs.tells packs.held out0 lines0 tally) (by_sides new packs.tells packs.held out lines tally')
+event_unsent line input w new packs out0 out lines0 lines tally tally' failed sends = (
   λ still. refl,
-  inl (record { writes = sends.stopped; held = refl; passes = unsent_passes w new packs packs held held tally tally' out0 out lines0 lines (is_said sends.says) }),
+  inl (record { writes = sends.stopped; held = refl; passes = unsent_passes w new packs.tells packs.tells packs.held packs.held tally tally' out0 out lines0 lines (is_said sends.says) }),
 )
 
--- A SUBMISSION
-module _ {O : Type 0} (tells : O → Bool) (taken : O → List ℕ) (faults : O → ℕ) (trace trace' : O) (line : ℕ) (r : Request) (w mid : World) (kept kept' : List ℕ) (out : Side)
-    (tally : Tally) (packs : Bool) (held : ℕ → Pack) (again : IsTrue (tells trace') → IsTrue (tells trace)) where
-  abbrev asked : Stage
-  asked = by_sides w packs held out (side tells taken faults trace kept) tally
+-- A SUBMISSION, ahead of which nothing is sent
+module _ (packs : PacksAt) (out lines lines' : Side) (line : ℕ) (r : Request) (w mid : World) (tally : Tally) (again : IsTrue lines'.tells → IsTrue lines.tells) where
+  abbrev submits_with : Option Stop → Type 0
+  submits_with halt = Submits tells took lines lines' line r w mid lines.kept lines'.kept halt
 
-  module _ (sound : Sound w) (work : AtWork w) (submits : Submits tells taken trace trace' line r w mid kept kept' None) where
-    abbrev its : List Act
-    its = submit_acts r line submits.slot submits.held w
+  none_sent : SendsAhead {T = Unit {0}} {E = SinkFailed} false out out lines lines (Ok tt)
+  none_sent = none_ahead out lines
 
-    submits_does : Does (record { packs = true; trace = tells trace' }) its (seen w held (taken trace) kept) (seen mid held (taken trace') kept')
-    submits_does = submits.outcome true held
+  pub submission_done : (out' sent : Side) (tally' : Tally) {A E : Type 0} (result : Result A E) → Sound w → AtWork w → submits_with None → IsOk result → Says out out' lines' sent result (waiting_text mid)
+      → Counts (waiting mid) (waiting_text mid) tally tally'
+      → PlaysSubmission line r (by_sides w packs.tells packs.held out lines tally) (by_sides (all_taken mid) packs.tells packs.held out' sent tally')
+  submission_done out' sent tally' result sound work submits ok says counts =
+      let acts : List Act = submit_acts r line submits.slot submits.held w in
+      let all : Does (record { packs = true; trace = lines'.tells }) acts (as_site w packs.held lines.took lines.kept) (as_site mid packs.held lines'.took lines'.kept) = submits.outcome true packs.held in
+      record {
+        slot = submits.slot;
+        held = submits.held;
+        may = submits.may;
+        is = submits.is;
+        packs = all.does.packs refl;
+        same = refl;
+        passes = (acts_passed false acts w mid packs packs out out lines lines lines' tally (Ok tt) refl none_sent again (submits.outcome packs.tells packs.held) out' sent tally' result ok says).kept refl;
+        plays = acts_played false acts w mid packs packs out out lines lines lines' tally (Ok tt) refl none_sent again (submits.outcome packs.tells packs.held) out' sent tally' result ok says sound work counts;
+      }
 
-    submits_told : IsTold (side tells taken faults trace kept) (side tells taken faults trace' kept') (trace_text (lines_of_all w its))
-    submits_told = does_told tells taken faults trace trace' true its w mid held held kept kept' again submits_does
+  pub submission_unsaid : (w' : World) (out' sent : Side) (tally' : Tally) → Sound w → AtWork w → submits_with None → IsSaid out out' lines' sent (waiting_text mid)
+      → SubmissionStops line r playing.Sink (by_sides w packs.tells packs.held out lines tally) (by_sides w' packs.tells packs.held out' sent tally')
+  submission_unsaid w' out' sent tally' sound work submits says =
+      let acts : List Act = submit_acts r line submits.slot submits.held w in
+      record {
+        slot = submits.slot;
+        held = submits.held;
+        may = submits.may;
+        is = submits.is;
+        same = refl;
+        stops = acts_unsaid false acts w mid packs packs out out lines lines lines' tally (Ok tt) refl none_sent again (submits.outcome packs.tells packs.held) out' sent tally' w'
+            (waiting_said w acts (submissions_alone w line submits.slot r submits.held sound work submits.may)) says;
+      }
 
-    pub submits_plays : (out' sent : Side) (tally' : Tally) {A E : Type 0} (result : Result A E) → IsOk result → Says out out' (side tells taken faults trace' kept') sent result (waiting_text mid)
-        → Counts (waiting mid) (waiting_text mid) tally tally' → PlaysSubmission line r asked (by_sides (all_taken mid) packs held out' sent tally')
-    submits_plays out' sent tally' result ok says counts = record {
-      slot = submits.slot;
-      held = submits.held;
-      may = submits.may;
-      is = submits.is;
-      packs = submits_does.does.packs refl;
-      same = refl;
-      passes = passes_all said_all told_all
-          ((ahead_passes false out out (side tells taken faults trace kept) (side tells taken faults trace kept) (Ok tt) refl (none_ahead {F = Unit {0}} out (side tells taken faults trace kept))
-          w (all_taken mid) packs packs held held tally tally' out' (side tells taken faults trace' kept') sent (waiting_text mid) (trace_text (lines_of_all w its)) submits_told (is_said says)).kept refl);
-      plays = plays_acts its w mid packs packs held held tally tally' out (side tells taken faults trace kept) out' sent sound work submits_does.does.run submits_does.does.world said_all told_all counts;
-    }
-      where
-        said_all : IsTrue out'.tells → out'.took ++ out'.kept ≡ (out.took ++ out.kept) ++ waiting_text mid
-        said_all = all_said false out out (side tells taken faults trace kept) (side tells taken faults trace kept) (Ok tt) refl (none_ahead {F = Unit {0}} out (side tells taken faults trace kept))
-            w (all_taken mid) packs packs held held tally tally' out' (side tells taken faults trace' kept') sent (waiting_text mid) (trace_text (lines_of_all w its)) submits_told result says ok
-
-        told_all : IsTrue sent.tells → sent.took ++ sent.kept ≡ (taken trace ++ kept) ++ trace_text (lines_of_all w its)
-        told_all = all_told false out out (side tells taken faults trace kept) (side tells taken faults trace kept) (Ok tt) refl (none_ahead {F = Unit {0}} out (side tells taken faults trace kept))
-            w (all_taken mid) packs packs held held tally tally' out' (side tells taken faults trace' kept') sent (waiting_text mid) (trace_text (lines_of_all w its)) submits_told result says ok
-
-    pub submission_unsaid : (new : World) (out' sent : Side) (tally' : Tally) → IsSaid out out' (side tells taken faults trace' kept') sent (waiting_text mid)
-        → SubmissionStops line r playing.Sink asked (by_sides new packs held out' sent tally')
-    submission_unsaid new out' sent tally' says = record {
-      slot = submits.slot;
-      held = submits.held;
-      may = submits.may;
-      is = submits.is;
-      same = refl;
-      stops = record {
-        done = its;
-        left = [];
-        all = sym (append-nil its);
-        run = submits_does.does.run;
-        reads = λ t. submits_does.does.reads refl;
-        packs = λ t. submits_does.does.packs refl;
-        text = waiting_text mid;
-        says = subst (λ (text : List ℕ). IsFront text (out_text (lines_of_all w its)))
-            (sym (ap waiting_text submits_does.does.world ∙ waiting_said w its (submissions_alone w line submits.slot r submits.held sound work submits.may))) (front_same (out_text (lines_of_all w its)));
-        passes = ahead_passes false out out (side tells taken faults trace kept) (side tells taken faults trace kept) (Ok tt) refl (none_ahead {F = Unit {0}} out (side tells taken faults trace kept))
-            w new packs packs held held tally tally' out' (side tells taken faults trace' kept') sent (waiting_text mid) (trace_text (lines_of_all w its)) submits_told says;
-      };
-    }
-
-  pub submission_halted : (new : World) (tally' : Tally) → Submits tells taken trace trace' line r w mid kept kept' (Some stop.Sink)
-      → SubmissionStops line r playing.Sink asked (by_sides new packs held out (side tells taken faults trace' kept') tally')
-  submission_halted new tally' submits = record {
+  pub submission_halted : (w' : World) (tally' : Tally) → submits_with (Some stop.Sink)
+      → SubmissionStops line r playing.Sink (by_sides w packs.tells packs.held out lines tally) (by_sides w' packs.tells packs.held out lines' tally')
+  submission_halted w' tally' submits = record {
     slot = submits.slot;
     held = submits.held;
     may = submits.may;
     is = submits.is;
     same = refl;
-    stops = halted (submits.outcome true held);
+    stops = acts_halted false (submit_acts r line submits.slot submits.held w) w mid packs packs out out lines lines lines' tally (Ok tt) refl none_sent again w' tally' (submits.outcome packs.tells packs.held);
   }
-    where
-      acts : List Act
-      acts = submit_acts r line submits.slot submits.held w
 
-      halted : StopsAtTrace (record { packs = true; trace = tells trace' }) acts (seen w held (taken trace) kept) (seen mid held (taken trace') kept')
-          → StopsActs false acts asked (by_sides new packs held out (side tells taken faults trace' kept') tally')
-      halted is = record {
-        done = is.done;
-        left = is.left;
-        all = is.all;
-        run = is.does.run;
-        reads = λ t. is.does.reads refl;
-        packs = λ t. is.does.packs refl;
-        text = [];
-        says = record { rest = out_text (lines_of_all w is.done); whole = refl };
-        passes = ahead_passes false out out (side tells taken faults trace kept) (side tells taken faults trace kept) (Ok tt) refl (none_ahead {F = Unit {0}} out (side tells taken faults trace kept))
-            w new packs packs held held tally tally' out (not_sent tells taken faults trace trace' kept (trace_text (lines_of_all w is.done))) (side tells taken faults trace' kept') [] (trace_text (lines_of_all w is.done))
-            (front_told tells taken faults trace trace' kept (trace_text (lines_of_all w is.done)) again)
-            (front_said tells taken faults trace trace' kept kept' (trace_text (lines_of_all w is.done)) out is.sent
-            (λ t. front_of_front (taken trace') (taken trace' ++ kept') ((taken trace ++ kept) ++ trace_text (lines_of_all w is.done)) (front_more (taken trace') kept') (is.front t)));
-      }
+-- ---- THE SAME at the spots between the calls
+module _ {T A E : Type 0} {line : ℕ} {r : Request} {old mid new : Spot} (sound : Sound old.driver.world) (work : AtWork old.driver.world) where
+  asked_said : {result : Result A E} {x : T} → SubmitsAt line r (Ok x) old mid → SaysText (waiting mid.driver.world) (waiting_text mid.driver.world) result mid new
+      → Says old.out new.out mid.lines new.lines result (waiting_text mid.driver.world)
+  asked_said {result} submits said = subst (λ (s : Spot). Says s.out new.out mid.lines new.lines result (waiting_text mid.driver.world)) submits.same said.says
+
+  asked_left : {result : Result A E} {x : T} → SubmitsAt line r (Ok x) old mid → SaysText (waiting mid.driver.world) (waiting_text mid.driver.world) result mid new
+      → new ≡ record old { driver = new.driver; out = new.out; lines = new.lines; tally = new.tally }
+  asked_left submits said = said.same ∙ ap (λ (s : Spot). record s { driver = new.driver; out = new.out; lines = new.lines; tally = new.tally }) submits.same
+
+  pub asked_done : {x : T} {y : A} → SubmitsAt line r (Ok x) old mid → SaysText {E = E} (waiting mid.driver.world) (waiting_text mid.driver.world) (Ok y) mid new
+      → new.driver ≡ record mid.driver { world = all_taken mid.driver.world } → PlaysSubmission line r (seen old) (seen new)
+  asked_done {x} {y} submits said taken =
+      subst (λ (s : Spot). PlaysSubmission line r (seen old) (seen s))
+      (sym (asked_left submits said ∙ ap (λ (d : State). record old { driver = d; out = new.out; lines = new.lines; tally = new.tally }) taken))
+      (submission_done old.packs old.out old.lines mid.lines line r old.driver.world mid.driver.world old.tally submits.again new.out new.lines new.tally (Ok y) sound work submits.does refl
+      (asked_said submits said) (subst (λ (s : Spot). Counts (waiting mid.driver.world) (waiting_text mid.driver.world) s.tally new.tally) submits.same said.counts))
+
+  pub asked_unsaid : {x : T} {e : E} → SubmitsAt line r (Ok x) old mid → SaysText {T = A} (waiting mid.driver.world) (waiting_text mid.driver.world) (Err e) mid new
+      → SubmissionStops line r playing.Sink (seen old) (seen new)
+  asked_unsaid submits said =
+      subst (λ (s : Spot). SubmissionStops line r playing.Sink (seen old) (seen s)) (sym (asked_left submits said))
+      (submission_unsaid old.packs old.out old.lines mid.lines line r old.driver.world mid.driver.world old.tally submits.again new.driver.world new.out new.lines new.tally sound work submits.does
+      (is_said (asked_said submits said)))
+
+pub asked_halted : {T : Type 0} {line : ℕ} {r : Request} {old new : Spot} {e : SinkFailed} → SubmitsAt {T = T} line r (Err e) old new → SubmissionStops line r playing.Sink (seen old) (seen new)
+asked_halted {line = line} {r = r} {old = old} {new = new} submits =
+    subst (λ (s : Spot). SubmissionStops line r playing.Sink (seen old) (seen s)) (sym submits.same)
+    (submission_halted old.packs old.out old.lines new.lines line r old.driver.world new.driver.world old.tally submits.again new.driver.world old.tally submits.does)
+
+-- an event, ahead of which text was sent
+pub came_unsent : {A E : Type 0} {line : ℕ} {input : Input} {old ahead : Spot} {failed : E} → Sends {T = A} (writes_by old.driver.world input) (Err failed) old ahead
+    → EventStops line input playing.Sink (seen old) (seen ahead)
+came_unsent {line = line} {input = input} {old = old} {ahead = ahead} {failed = failed} sends =
+    subst (λ (s : Spot). EventStops line input playing.Sink (seen old) (seen s)) (sym sends.same)
+    (event_unsent line input old.driver.world old.driver.world old.packs old.out ahead.out old.lines ahead.lines old.tally old.tally failed sends.ahead)
+
+module _ {line : ℕ} {input : Input} {old ahead mid : Spot} {unit : Unit {0}} (sends : Sends {E = SinkFailed} (writes_by old.driver.world input) (Ok unit) old ahead) where
+  came : {result : Result (Unit {0}) Stop} → ComesAt line input result ahead mid
+      → Comes telling held_at tells took old.packs mid.packs ahead.lines mid.lines line input old.driver.world mid.driver.world ahead.lines.kept mid.lines.kept (stop_in result)
+  came {result} comes =
+      subst (λ (s : Spot). Comes telling held_at tells took s.packs mid.packs ahead.lines mid.lines line input s.driver.world mid.driver.world ahead.lines.kept mid.lines.kept (stop_in result)) sends.same comes.does
+
+  came_left : {result : Result (Unit {0}) Stop} → ComesAt line input result ahead mid → mid ≡ record old { driver = mid.driver; packs = mid.packs; out = ahead.out; lines = mid.lines }
+  came_left comes = comes.same ∙ ap (λ (s : Spot). record s { driver = mid.driver; packs = mid.packs; lines = mid.lines }) sends.same
+
+  still_held : {result : Result (Unit {0}) Stop} → ComesAt line input result ahead mid → is_move input ≡ false → mid.packs ≡ old.packs
+  still_held comes is = comes.still is ∙ ap (λ (s : Spot). s.packs) sends.same
+
+  pub came_halted : {halt : Stop} → AllFlip old.driver.world.book.live → ComesAt line input (Err halt) ahead mid → EventStops line input (from_stop halt) (seen old) (seen mid)
+  came_halted {halt} noise comes =
+      subst (λ (s : Spot). EventStops line input (from_stop halt) (seen old) (seen s)) (sym (came_left comes))
+      (event_halted old.packs mid.packs old.out ahead.out old.lines ahead.lines mid.lines line input old.driver.world mid.driver.world old.tally (Ok unit) refl sends.ahead comes.again_lines
+      mid.driver.world old.tally halt noise (still_held comes) (came comes))
+
+  module _ {A E : Type 0} {new : Spot} {done : Unit {0}} (sound : Sound old.driver.world) (work : AtWork old.driver.world) (comes : ComesAt line input (Ok done) ahead mid) where
+    came_said : {result : Result A E} → SaysText (waiting mid.driver.world) (waiting_text mid.driver.world) result mid new → Says ahead.out new.out mid.lines new.lines result (waiting_text mid.driver.world)
+    came_said {result} said = subst (λ (s : Spot). Says s.out new.out mid.lines new.lines result (waiting_text mid.driver.world)) comes.same said.says
+
+    answered_left : {result : Result A E} → SaysText (waiting mid.driver.world) (waiting_text mid.driver.world) result mid new
+        → new ≡ record old { driver = new.driver; packs = mid.packs; out = new.out; lines = new.lines; tally = new.tally }
+    answered_left said = said.same ∙ ap (λ (s : Spot). record s { driver = new.driver; out = new.out; lines = new.lines; tally = new.tally }) (came_left comes)
+
+    pub came_done : {y : A} → old.driver.world.answers ≡ [] → SaysText {E = E} (waiting mid.driver.world) (waiting_text mid.driver.world) (Ok y) mid new
+        → new.driver ≡ record mid.driver { world = all_taken mid.driver.world } → PlaysEvent line input (seen old) (seen new)
+    came_done {y} none said taken =
+        subst (λ (s : Spot). PlaysEvent line input (seen old) (seen s))
+        (sym (answered_left said ∙ ap (λ (d : State). record old { driver = d; packs = mid.packs; out = new.out; lines = new.lines; tally = new.tally }) taken))
+        (event_done old.packs mid.packs old.out ahead.out old.lines ahead.lines mid.lines line input old.driver.world mid.driver.world old.tally (Ok unit) refl sends.ahead comes.again_lines
+        new.out new.lines new.tally (Ok y) sound work (came comes) refl (came_said said)
+        (subst (λ (s : Spot). Counts (waiting mid.driver.world) (waiting_text mid.driver.world) s.tally new.tally) (came_left comes) said.counts))
+
+    pub came_unsaid : {e : E} → old.driver.world.answers ≡ [] → AllFlip old.driver.world.book.live → SaysText {T = A} (waiting mid.driver.world) (waiting_text mid.driver.world) (Err e) mid new
+        → EventStops line input playing.Sink (seen old) (seen new)
+    came_unsaid none noise said =
+        subst (λ (s : Spot). EventStops line input playing.Sink (seen old) (seen s)) (sym (answered_left said))
+        (event_unsaid old.packs mid.packs old.out ahead.out old.lines ahead.lines mid.lines line input old.driver.world mid.driver.world old.tally (Ok unit) refl sends.ahead comes.again_lines
+        new.driver.world new.out new.lines new.tally sound work none noise (still_held comes) (came comes) (is_said (came_said said)))

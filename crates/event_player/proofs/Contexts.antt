@@ -1,33 +1,24 @@
 -- Where a call begins: at a line of the script, at the line of a drain, and behind an event of a drain.
-use Rattle.std.proofs.Common.{◌≡◌, inl, inr, ℕ, ◌<◌, Bool, false, IsTrue, List, [], ◌∷◌, ◌++◌, Option, Some, None, refl, sym, ap, subst, ◌∙◌, append-nil, append_assoc}
+use Rattle.std.proofs.Common.{◌≡◌, ℕ, ◌<◌, false, IsTrue, List, [], ◌∷◌, ◌++◌, Option, Some, None, refl, sym, ap, subst, ◌∙◌, append-nil, append_assoc}
 use Rattle.std.proofs.lemmas.Bool.{false≢true}
 use Rattle.pack_geometry.specs.Pack.{Pack}
 use Rattle.pack_geometry.specs.TableSpelling.{Table}
 use Rattle.trace_replay.specs.requests.Requests.{Request, IsRequest}
 use Rattle.trace_replay.specs.Moments.{Moment, Played, Idle}
 use Rattle.trace_replay.specs.Script as says
-use Rattle.trace_replay.specs.Script.{Script, Input, Line, Numbered, drives_of}
-use Rattle.trace_replay.specs.Packs.{surface_of}
-use Rattle.trace_replay.specs.Replay.{Replay, WorkMay, Follows, after_moment, after_moments}
+use Rattle.trace_replay.specs.Script.{Script, Input, Line, Numbered}
+use Rattle.trace_replay.specs.Replay.{Replay, Follows, after_moments}
 use Rattle.trace_replay.specs.Runs.{start_of}
 use Rattle.trace_replay.specs.Text.{moment_text}
 use Rattle.driver_laws.specs.rules.Drains.{IsOf}
-use Rattle.driver_machine.specs.Acts.{Act, Tried}
+use Rattle.driver_machine.specs.Acts.{Act}
 use Rattle.driver_machine.specs.Lines.{lines_of_all}
 use Rattle.driver_machine.specs.Events.{submit_acts, event_acts, next_event}
-use Rattle.driver_machine.specs.Runs.{Works, MayCome}
-use Rattle.driver_laws.proofs.invariant.Next.{next_can}
-use Rattle.driver_laws.proofs.invariant.Calls.{event_works}
-use Rattle.driver_laws.proofs.invariant.Sound.{sound_after}
 use Rattle.driver_laws.specs.answers.Outcome.{IsFront}
 use Rattle.driver_laws.specs.answers.Packs.{packs_after_all}
 use Rattle.driver_laws.proofs.answers.Joined.{front_same}
 use Rattle.script_runs.specs.StopsPasses.{ShowsAll}
 use Rattle.script_runs.specs.StopsPasses.{with_call}
-use Rattle.script_runs.proofs.StopsPasses.{lines_play_nothing}
-use Rattle.script_runs.proofs.StopsPasses.{GoesOn, drain_begins, drain_goes_on, drain_between}
-use Rattle.script_runs.proofs.Passes.{scripts_can_start}
-use Rattle.driver_laws.proofs.rules.Consistency.{moments_consistent}
 use Rattle.script_runs.proofs.StopsPasses.{drained_shows}
 use Rattle.trace_lines.specs.answers.AnswerText.{said_text}
 use Rattle.hp_driver.specs.Subsystem.{IsThere}
@@ -41,7 +32,7 @@ use Rattle.event_player.specs.Steps.{Stage, Passes, IsCut, IsAhead}
 use Rattle.event_player.specs.Stops.{HasTold, IsNext, HasDrainedTold, EventStops, SubmissionStops, StopsSubmission, StopsAt}
 use Rattle.event_player.proofs.Going.{event_goes, submission_goes, drain_empty, drain_first, drain_more}
 use Rattle.event_player.proofs.Ahead.{IsOpened, cut_more, opened_ahead, unopened_ahead, rule_opened}
-use Rattle.event_player.proofs.Wholes.{Whole, whole_run, whole_drained, drained_drains}
+use Rattle.event_player.proofs.Wholes.{Whole, whole_run, whole_drained}
 use Rattle.event_player.proofs.Moves.{move_is}
 use Rattle.event_player.proofs.Inputs.{with_said, line_quiet}
 use Rattle.event_player.proofs.Draining.{first_quiet, later_quiet}

@@ -1,7 +1,6 @@
 pub mod CountLaws
 pub mod Passes
 pub mod Reaching
-pub mod TallyLaws
 pub mod Texts
 pub mod Ahead
 pub mod Going
@@ -21,4 +20,6 @@ pub mod Contexts
 pub mod Halting
 pub mod Saying
 pub mod Calling
-pub mod Causing
+pub mod Spots
+pub mod Lines
+pub mod Played

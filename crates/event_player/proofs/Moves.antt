@@ -1,5 +1,5 @@
 -- Which events move a sector, and what such a move says.
-use Rattle.std.proofs.Common.{◌≡◌, ℕ, Bool, true, false, List, [], ◌∷◌, refl, sym, ap, ◌∙◌, arith}
+use Rattle.std.proofs.Common.{◌≡◌, ℕ, Bool, true, false, List, [], ◌∷◌, refl, sym, arith}
 use Rattle.std.proofs.lemmas.Bool.{false≢true}
 use Rattle.disksort.specs.declared.Waiter.{Waiter}
 use Rattle.hardware_table.specs.Adapter.{next_block}
@@ -16,11 +16,7 @@ use Rattle.driver_machine.specs.Runs.{Run, MayCome}
 use Rattle.driver_laws.specs.answers.Packs.{ReadAll}
 use Rattle.script_runs.specs.StopsPasses.{IsReadOf}
 use Rattle.script_runs.specs.StopsPasses.{AllFlip}
-use Rattle.script_runs.proofs.StopsPasses.{IsNoMove}
-use Rattle.hp_driver.specs.declared.drain.Event.{Event}
-use Rattle.hp_driver.specs.declared.drain.Event.TheVariants as event
-use Rattle.hp_driver.specs.Inputs.{input_of}
-use Rattle.hp_driver.specs.Subsystem.{IsThere, is_move, writes_by, writes_next}
+use Rattle.hp_driver.specs.Subsystem.{IsThere, is_move, writes_by}
 use Rattle.hp_driver.proofs.Moves.{tried_by_rules, read_from}
 use Rattle.script_runs.specs.Ahead.{SaysOneSector}
 use Rattle.event_player.proofs.OneAct.{IsShort, short_or}

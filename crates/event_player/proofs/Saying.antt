@@ -1,5 +1,5 @@
 -- What the two sinks took of a call, from what was sent ahead of it, what it told, and what was said behind it.
-use Rattle.std.proofs.Common.{◌≡◌, ◌⊎◌, inl, inr, ℕ, ◌≤◌, Bool, true, false, IsTrue, List, [], ◌++◌, refl, sym, ap, subst, ◌∙◌, arith, append-nil, append_assoc}
+use Rattle.std.proofs.Common.{◌≡◌, ◌⊎◌, inl, inr, ℕ, ◌≤◌, Bool, true, false, IsTrue, List, [], ◌++◌, refl, sym, ap, subst, ◌∙◌, arith, append-nil, append_assoc, None}
 use Rattle.std.specs.Prelude.{Result, Ok, Err, OnOk, OnErr, IsOk, IsErr}
 use Rattle.std.proofs.lemmas.Bool.{false≢true}
 use Rattle.outside_traits.specs.Causes.{Rose}
@@ -7,40 +7,29 @@ use Rattle.outside_traits.specs.Puts.{Puts}
 use Rattle.outside_traits.specs.declared.traits.SinkFailed.{SinkFailed}
 use Rattle.outside_traits.specs.Gathers.{Gathers}
 use Rattle.pack_geometry.specs.Pack.{Pack}
-use Rattle.trace_replay.specs.Moments.{Played}
+use Rattle.trace_replay.specs.Moments.{Answered, Idle, Played}
 use Rattle.trace_replay.specs.Script.{Input}
+use Rattle.trace_replay.specs.Text.{moment_text}
 use Rattle.driver_machine.specs.World.{World}
+use Rattle.hp_driver.specs.Subsystem.{State}
+use Rattle.driver_machine.specs.Events.{next_event}
 use Rattle.driver_laws.specs.answers.Outcome.{IsFront}
 use Rattle.driver_laws.proofs.answers.Joined.{front_same, front_more, front_of_front}
 use Rattle.trace_lines.specs.answers.AnswerText.{said_text}
 use Rattle.trace_lines.specs.declared.answers.tally.Tally.{Tally}
 use Rattle.script_runs.specs.Ahead.{IsBetween}
 use Rattle.event_player.specs.Saying.{Side, side, Says, SendsAhead}
-use Rattle.event_player.specs.Steps.{Stage, Passes, PassesAhead}
+use Rattle.event_player.specs.Spots.{Spot, seen, SaysText, Sends, IdlesAt}
+use Rattle.event_player.specs.Steps.{Stage, Passes, PassesAhead, PlaysDrain, by_sides}
 use Rattle.event_player.proofs.Ahead.{between_by, IsOpened}
+use Rattle.event_player.proofs.SaysLaws.{says_nothing}
+use Rattle.event_player.proofs.Draining.{drain_nothing}
+use Rattle.event_player.proofs.Inputs.{with_said, at_said}
 use Rattle.event_player.proofs.Whole.{IsAllSent}
 
 err_left : {T E : Type 0} (A B : Type 0) (result : Result T E) → OnErr result A → OnErr result (A ⊎ B)
 err_left A B (Ok x) a = tt
 err_left A B (Err e) a = inl a
-
--- NOTHING is said, where nothing waits,
-pub says_nothing : {E : Type 0} (out lines : Side) → Says {T = Unit {0}} {E = E} out out lines lines (Ok tt) []
-says_nothing out lines = record {
-  again = λ t. t;
-  again_lines = λ t. t;
-  front = λ t. record { least = front_same out.took; most = front_more out.took (out.kept ++ []) };
-  front_lines = λ t. record { least = front_same lines.took; most = front_more lines.took lines.kept };
-  whole = λ t. ap (λ (text : List ℕ). out.took ++ text) (sym (append-nil out.kept));
-  whole_lines = λ t. refl;
-  lines_first = inl (λ t. refl);
-  later = least out.faults;
-  later_lines = least lines.faults;
-  failed = tt;
-}
-  where
-    least : (n : ℕ) → n ≤ n
-    least n = omega arith
 
 module _ {O T : Type 0} (tells : O → Bool) (took : O → List ℕ) (faults : O → ℕ) (trace_tells : T → Bool) (trace_took : T → List ℕ) (trace_faults : T → ℕ) where
   -- A TEXT IS KEPT where it fits,
@@ -91,6 +80,10 @@ module _ {O T : Type 0} (tells : O → Bool) (took : O → List ℕ) (faults : O
       least : (n : ℕ) → n ≤ n
       least n = omega arith
 
+-- the driver keeps nothing once it sent its lines
+pub driver_sent : {s : Spot} {d : State} → s.driver ≡ d → s ≡ record s { driver = d }
+driver_sent {s} is = ap (λ (d : State). record s { driver = d }) is
+
 -- WHAT A CALL TELLS: its lines are put behind those that are kept, and some are sent.
 pub record IsTold (lines lines' : Side) (text : List ℕ) : Type 0 where
   pub again : IsTrue lines'.tells → IsTrue lines.tells
@@ -107,21 +100,6 @@ pub record IsSaid (out out' lines lines' : Side) (text : List ℕ) : Type 0 wher
 
 pub is_said : {A E : Type 0} {out out' lines lines' : Side} {result : Result A E} {text : List ℕ} → Says out out' lines lines' result text → IsSaid out out' lines lines' text
 is_said says = record { again = says.again; again_lines = says.again_lines; front = says.front; front_lines = says.front_lines; lines_first = says.lines_first }
-
--- A STAGE by its two sinks
-abbrev pub by_sides : World → Bool → (ℕ → Pack) → Side → Side → Tally → Stage
-by_sides w packs_tell held out lines tally = record {
-  world = w;
-  packs_tell = packs_tell;
-  held = held;
-  out_tells = out.tells;
-  said = out.took ++ out.kept;
-  out_took = out.took;
-  trace_tells = lines.tells;
-  taken = lines.took ++ lines.kept;
-  trace_took = lines.took;
-  tally = tally;
-}
 
 -- OF A CALL, told and then said, the sinks took so much,
 module _ (w : World) (packs : Bool) (held : ℕ → Pack) (tally : Tally) (old : Stage) (said_from told_from said told : List ℕ) (out out' lines mid lines' : Side) (text line_text : List ℕ)
@@ -240,37 +218,58 @@ unsent_passes w new packs packs' held held' tally tally' out out' lines lines' s
     passes_all (λ t. sym (append-nil (out.took ++ out.kept))) (λ t. refl) (said_passes w new packs packs' held held' tally tally' out out' lines lines' [] says)
 
 -- A LINE OF THE SCRIPT is said.
-pub opened_said : {A E : Type 0} {x : A} (line : ℕ) (input : Input) (w : World) (packs : Bool) (held : ℕ → Pack) (tally tally' : Tally) (out out' lines lines' : Side)
-    → Says {T = A} {E = E} out out' lines lines' (Ok x) (said_text (Played line input)) → IsOpened line input (by_sides w packs held out lines tally) (by_sides w packs held out' lines' tally')
-opened_said line input w packs held tally tally' out out' lines lines' says = record {
-  passes = passes_all whole says.whole_lines (said_passes w w packs packs held held tally tally' out out' lines lines' (said_text (Played line input)) (is_said says));
+pub opened_said : {A E : Type 0} {x : A} (line : ℕ) (input : Input) (old now : Spot) → SaysText {T = A} {E = E} [] (said_text (Played line input)) (Ok x) old now → now.driver ≡ old.driver
+    → IsOpened line input (seen old) (with_said (seen old) (seen now))
+opened_said line input old now said driver = record {
+  passes = passes_all whole said.says.whole_lines (said_passes old.driver.world old.driver.world old.packs.tells old.packs.tells old.packs.held old.packs.held old.tally now.tally old.out now.out old.lines now.lines
+      (said_text (Played line input)) (is_said said.says));
   held = refl;
   out = whole;
-  trace = says.whole_lines;
+  trace = said.says.whole_lines;
 }
   where
-    whole : IsTrue out'.tells → out'.took ++ out'.kept ≡ (out.took ++ out.kept) ++ said_text (Played line input)
-    whole t = says.whole t ∙ sym (append_assoc out.took out.kept (said_text (Played line input)))
+    whole : IsTrue now.out.tells → now.out.took ++ now.out.kept ≡ (old.out.took ++ old.out.kept) ++ said_text (Played line input)
+    whole t = said.says.whole t ∙ sym (append_assoc old.out.took old.out.kept (said_text (Played line input)))
 
--- A LINE IS TOLD, of which nothing is said.
-pub told_passes : {O A E : Type 0} (tells : O → Bool) (taken : O → List ℕ) (faults : O → ℕ) (trace trace' : O) (kept kept' text : List ℕ) (result : Result A E) (w new : World) (packs packs' : Bool) (held held' : ℕ → Pack)
-    (tally tally' : Tally) (out : Side) → Gathers tells taken faults trace trace' kept kept' result text
-    → Passes out.took (taken trace) (out.took ++ out.kept) ((taken trace ++ kept) ++ text) (by_sides w packs held out (side tells taken faults trace kept) tally) (by_sides new packs' held' out (side tells taken faults trace' kept') tally')
-told_passes tells taken faults trace trace' kept kept' text result w new packs packs' held held' tally tally' out gathers = record {
-  again = λ t. t;
-  again_trace = gathers.never_again;
-  out = λ t. record { least = front_same out.took; most = front_more out.took out.kept };
-  trace = λ t. subst (λ (xs : List ℕ). IsBetween (taken trace) xs (taken trace')) (sym (append_assoc (taken trace) kept text)) (between_by (taken trace) (taken trace') (kept ++ text) (gathers.front t));
-  lines_first = inl (λ t. refl);
-}
+pub stage_said : {A E : Type 0} {answers : List Answered} {text : List ℕ} {result : Result A E} (old now : Spot) → SaysText answers text result old now → now.driver ≡ old.driver → seen now ≡ with_said (seen old) (seen now)
+stage_said old now said driver = at_said (seen old) (seen now) (ap (λ (s : State). s.world) driver) (ap (λ (s : Spot). s.packs.held) said.same) (ap (λ (s : Spot). s.packs.tells) said.same)
+
+-- A LINE IS TOLD that a drain found nothing, of which nothing is said.
+module _ {A E : Type 0} (line : ℕ) (result : Result A E) (old new : Spot) (idles : IdlesAt line result old new) where
+  same_out : new.out ≡ old.out
+  same_out = ap (λ (s : Spot). s.out) idles.same
+
+  pub idle_passes : Passes (seen old).out_took (seen old).trace_took (seen old).said ((seen old).taken ++ moment_text (Idle line)) (seen old) (seen new)
+  idle_passes = record {
+    again = subst (λ (o : Side). IsTrue o.tells → IsTrue old.out.tells) (sym same_out) (λ t. t);
+    again_trace = idles.gathers.never_again;
+    out = λ t. subst (λ (o : Side). IsBetween old.out.took (old.out.took ++ old.out.kept) o.took) (sym same_out) (record { least = front_same old.out.took; most = front_more old.out.took old.out.kept });
+    trace = λ t. subst (λ (xs : List ℕ). IsBetween old.lines.took xs new.lines.took) (sym (append_assoc old.lines.took old.lines.kept (moment_text (Idle line))))
+        (between_by old.lines.took new.lines.took (old.lines.kept ++ moment_text (Idle line)) (idles.gathers.front t));
+    lines_first = inl (λ t. ap (λ (o : Side). o.took) same_out);
+  }
+
+-- A drain found nothing: it is played.
+pub idle_drains : {A E : Type 0} {x : A} (line : ℕ) (old new : Spot) → next_event old.driver.world ≡ None → IdlesAt {T = A} {E = E} line (Ok x) old new → PlaysDrain line (seen old) (seen new)
+idle_drains {A} {E} {x} line old new over idles =
+    drain_nothing line (seen old) (seen new) over (ap (λ (s : Spot). s.driver.world) idles.same) (ap (λ (s : Spot). s.packs.held) idles.same) (ap (λ (s : Spot). s.tally) idles.same)
+    unsaid told (passes_all unsaid told (idle_passes line (Ok x) old new idles))
+  where
+    unsaid : IsTrue new.out.tells → new.out.took ++ new.out.kept ≡ old.out.took ++ old.out.kept
+    unsaid t = ap (λ (s : Spot). s.out.took ++ s.out.kept) idles.same
+
+    told : IsTrue new.lines.tells → new.lines.took ++ new.lines.kept ≡ (old.lines.took ++ old.lines.kept) ++ moment_text (Idle line)
+    told t = idles.gathers.bytes t ∙ sym (append_assoc old.lines.took old.lines.kept (moment_text (Idle line)))
 
 -- ALL THAT IS KEPT is sent.
-pub all_sent : {A E : Type 0} {x : A} (w new : World) (packs : Bool) (held : ℕ → Pack) (tally tally' : Tally) (out out' lines lines' : Side) → Says {T = A} {E = E} out out' lines lines' (Ok x) []
-    → out'.kept ≡ [] → lines'.kept ≡ [] → new ≡ w → tally' ≡ tally → IsAllSent (by_sides w packs held out lines tally) (by_sides new packs held out' lines' tally')
-all_sent w new packs held tally tally' out out' lines lines' says none none_lines world same = record {
-  world = world;
-  held = refl;
-  tally = same;
-  out = λ t. (says.again t, sym (append-nil out'.took) ∙ ap (λ (xs : List ℕ). out'.took ++ xs) (sym none) ∙ says.whole t ∙ ap (λ (xs : List ℕ). out.took ++ xs) (append-nil out.kept));
-  trace = λ t. (says.again_lines t, sym (append-nil lines'.took) ∙ ap (λ (xs : List ℕ). lines'.took ++ xs) (sym none_lines) ∙ says.whole_lines t);
+pub all_sent : {A E : Type 0} {x : A} (old new : Spot) → Sends {T = A} {E = E} true (Ok x) old new → IsAllSent (seen old) (seen new)
+all_sent {A} {E} {x} old new sends = record {
+  world = ap (λ (s : Spot). s.driver.world) sends.same;
+  held = ap (λ (s : Spot). s.packs.held) sends.same;
+  tally = ap (λ (s : Spot). s.tally) sends.same;
+  out = λ t. (says.again t, sym (append-nil new.out.took) ∙ ap (λ (xs : List ℕ). new.out.took ++ xs) (sym (sends.ahead.emptied refl).0) ∙ says.whole t ∙ ap (λ (xs : List ℕ). old.out.took ++ xs) (append-nil old.out.kept));
+  trace = λ t. (says.again_lines t, sym (append-nil new.lines.took) ∙ ap (λ (xs : List ℕ). new.lines.took ++ xs) (sym (sends.ahead.emptied refl).1) ∙ says.whole_lines t);
 }
+  where
+    says : Says {T = A} {E = E} old.out new.out old.lines new.lines (Ok x) []
+    says = sends.ahead.says

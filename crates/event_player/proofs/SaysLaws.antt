@@ -6,9 +6,33 @@ use Rattle.outside_traits.specs.Causes.{Rose}
 use Rattle.outside_traits.specs.declared.traits.SinkFailed.{SinkFailed}
 use Rattle.outside_traits.proofs.GatherLaws.{rose_more}
 use Rattle.driver_laws.specs.answers.Outcome.{IsFront}
-use Rattle.driver_laws.proofs.answers.Joined.{front_of_front}
+use Rattle.driver_laws.proofs.answers.Joined.{front_same, front_more, front_of_front}
 use Rattle.script_runs.specs.Ahead.{IsBetween}
+use Rattle.std.proofs.lemmas.Result.{IfOk-from_err, on_ok_weaker}
+use Rattle.trace_replay.specs.Moments.{Answered}
+use Rattle.trace_lines.specs.answers.Counting.{Counts}
+use Rattle.trace_lines.specs.declared.answers.tally.Tally.{Tally}
+use Rattle.trace_lines.proofs.answers.CountLaws.{counts_none, counts_both, counts_same}
 use Rattle.event_player.specs.Saying.{Side, Says}
+use Rattle.event_player.specs.Spots.{Spot, SaysText}
+
+-- NOTHING is said, where nothing waits,
+pub says_nothing : {E : Type 0} (out lines : Side) → Says {T = Unit {0}} {E = E} out out lines lines (Ok tt) []
+says_nothing out lines = record {
+  again = λ t. t;
+  again_lines = λ t. t;
+  front = λ t. record { least = front_same out.took; most = front_more out.took (out.kept ++ []) };
+  front_lines = λ t. record { least = front_same lines.took; most = front_more lines.took lines.kept };
+  whole = λ t. ap (λ (text : List ℕ). out.took ++ text) (sym (append-nil out.kept));
+  whole_lines = λ t. refl;
+  lines_first = inl (λ t. refl);
+  later = least out.faults;
+  later_lines = least lines.faults;
+  failed = tt;
+}
+  where
+    least : (n : ℕ) → n ≤ n
+    least n = omega arith
 
 -- the same text by another name
 pub says_same : {T E : Type 0} {out out' lines lines' : Side} {result : Result T E} {text : List ℕ} (other : List ℕ) → Says out out' lines lines' result text → text ≡ other
@@ -110,4 +134,58 @@ says_stop {out = out} {out' = out'} {x = x} y (Err other) e says = record {
   later = says.later;
   later_lines = says.later_lines;
   failed = says.failed;
+}
+
+-- ---- TEXTS THAT ARE COUNTED, where they are said
+pub text_nothing : {E : Type 0} (s : Spot) → SaysText {T = Unit {0}} {E = E} [] [] (Ok tt) s s
+text_nothing s = record { says = says_nothing s.out s.lines; counts = counts_none s.tally s.tally refl; requests = refl; same = refl }
+
+pub text_same : {T E : Type 0} {a : List Answered} {x : List ℕ} {result : Result T E} {old new : Spot} (y : List ℕ) → SaysText a x result old new → x ≡ y → SaysText a y result old new
+text_same {T} {E} {a} {x} {result} {old} {new} y said is = subst (λ z. SaysText a z result old new) is said
+
+pub text_both : {T E : Type 0} {a b : List Answered} {x y : List ℕ} {old mid new : Spot} (result : Result T E) → SaysText {T = Unit {0}} {E = SinkFailed} a x (Ok tt) old mid → SaysText b y result mid new
+    → SaysText (a ++ b) (x ++ y) result old new
+text_both {T} {E} {a} {b} {x} {y} {old} {mid} {new} result first next = record {
+  says = says_both old.out mid.out new.out old.lines mid.lines new.lines x y result first.says next.says;
+  counts = on_ok_weaker result (λ counts. counts_both old.tally mid.tally new.tally a b x y first.counts counts) next.counts;
+  requests = next.requests ∙ first.requests;
+  same = next.same ∙ ap (λ (s : Spot). record s { driver = new.driver; out = new.out; lines = new.lines; tally = new.tally }) first.same;
+}
+
+-- where one was not said, what is to come behind it makes no difference
+pub text_stop : {A B E F : Type 0} {a : List Answered} {x : List ℕ} {old new : Spot} {failed : F} (b : List Answered) (y : List ℕ) (result : Result A E) → IsErr result → SaysText {T = B} a x (Err failed) old new
+    → SaysText b (x ++ y) result old new
+text_stop {a = a} {x = x} {old = old} {new = new} b y result err said = record {
+  says = says_stop y result err said.says;
+  counts = IfOk-from_err result (λ _. Counts b (x ++ y) old.tally new.tally) err;
+  requests = said.requests;
+  same = said.same;
+}
+
+-- ---- WHAT THE DESK COUNTS AND SAYS
+pub on_ok : {T E : Type 0} (P : Type 0) (result : Result T E) → P → OnOk result P
+on_ok P (Ok x) p = p
+on_ok P (Err e) p = tt
+
+pub on_err : {T E : Type 0} (P : Type 0) (result : Result T E) → P → OnErr result P
+on_err P (Ok x) p = tt
+on_err P (Err e) p = p
+
+pub text_at : {T E : Type 0} {x : List ℕ} {old new : Spot} (y : List ℕ) (result : Result T E) → Says old.out new.out old.lines new.lines result x → Counts [] x old.tally new.tally
+    → new.tally.requests ≡ old.tally.requests → new ≡ record old { driver = new.driver; out = new.out; lines = new.lines; tally = new.tally } → x ≡ y → SaysText [] y result old new
+text_at {x = x} {old = old} {new = new} y result says counts requests same is = record {
+  says = says_same y says is;
+  counts = on_ok (Counts [] y old.tally new.tally) result (counts_same old.tally new.tally [] [] x y counts refl is);
+  requests = requests;
+  same = same;
+}
+
+-- and of an answer that was counted before its line is said
+pub text_counted : {T E : Type 0} {answer : Answered} {x : List ℕ} {result : Result T E} {old new : Spot} {tally : Tally} → Counts (answer ∷ []) [] old.tally tally → tally.requests ≡ old.tally.requests
+    → SaysText [] x result (record old { tally = tally }) new → SaysText (answer ∷ []) x result old new
+text_counted {answer = answer} {x = x} {result = result} {old = old} {new = new} {tally = tally} itself same said = record {
+  says = said.says;
+  counts = on_ok_weaker result (λ counts. counts_both old.tally tally new.tally (answer ∷ []) [] [] x itself counts) said.counts;
+  requests = said.requests ∙ same;
+  same = said.same;
 }

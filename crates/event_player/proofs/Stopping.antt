@@ -1,10 +1,9 @@
 -- A call that stopped behind a run so far leaves what playing leaves.
-use Rattle.std.proofs.Common.{◌≡◌, ◌⊎◌, inl, inr, ℕ, ◌≤◌, Bool, true, false, IsTrue, List, [], ◌∷◌, ◌++◌, ◌*◌, length, drop, Option, refl, sym, ap, subst, arith, ◌∙◌, append-nil, append_assoc}
+use Rattle.std.proofs.Common.{◌≡◌, ◌⊎◌, inl, inr, ℕ, Bool, true, false, IsTrue, List, [], ◌∷◌, ◌++◌, ◌*◌, drop, Option, refl, sym, ap, subst, ◌∙◌, append-nil, append_assoc}
 use Rattle.std.proofs.lemmas.Bool.{false≢true}
 use Rattle.pack_geometry.specs.Pack.{Pack}
 use Rattle.pack_geometry.specs.TableSpelling.{Table}
-use Rattle.trace_replay.specs.Moments.{Moment, Played, Told, Idle, played}
-use Rattle.trace_replay.specs.Script as says
+use Rattle.trace_replay.specs.Moments.{Moment, played}
 use Rattle.trace_replay.specs.Script.{Script, Input, Numbered, drives_of, inputs_of}
 use Rattle.trace_replay.specs.Replay.{Follows, after_moments}
 use Rattle.trace_replay.specs.Runs.{start_of}
@@ -23,7 +22,7 @@ use Rattle.script_runs.specs.StopsPasses.{ShowsAll}
 use Rattle.script_runs.proofs.StopsPasses.{lines_play_nothing, next_blocks_show}
 use Rattle.script_runs.proofs.Passes.{event_fronts}
 use Rattle.trace_lines.specs.answers.AnswerText.{out_text}
-use Rattle.hp_driver.specs.Subsystem.{IsThere, is_move, writes_by, writes_next}
+use Rattle.hp_driver.specs.Subsystem.{IsThere, is_move, writes_by}
 use Rattle.script_runs.specs.Writing.{WriteNothing}
 use Rattle.script_runs.specs.Ahead.{SaysOneSector, AreBehind}
 use Rattle.script_runs.specs.StopsPasses.{IsTorn}
@@ -36,7 +35,7 @@ use Rattle.event_player.proofs.Reaching.{ask_parts, left_stays}
 use Rattle.event_player.proofs.OneAct.{front_short}
 use Rattle.event_player.proofs.Ahead.{cut_more, nothing_more}
 use Rattle.event_player.proofs.Wholes.{Whole}
-use Rattle.event_player.proofs.Moves.{one_of, IsMoveOf, move_of, still_may, move_is, writes_move}
+use Rattle.event_player.proofs.Moves.{one_of, IsMoveOf, move_of, still_may, writes_move}
 use Rattle.driver_laws.proofs.rules.Fronts.{played_append}
 
 -- WHERE A CALL BEGINS: behind moments that follow, with the packs that they leave.

@@ -1,7 +1,7 @@
 -- The answer text of the lines that acts tell is that of their answers.
 use Rattle.std.proofs.Common.{◌≡◌, ℕ, List, [], ◌∷◌, ◌++◌, refl, ap}
 use Rattle.std.specs.List.{flat_map}
-use Rattle.trace_replay.specs.Moments.{Deed, Search, Seek, Recal, Offset, Centre, Clear, Pack, Transfer, Arrive, Sector, Intr, Try, Attn, End, Moment, Played, Told, Idle, played, answers_in}
+use Rattle.trace_replay.specs.Moments.{Deed, End, Moment, Played, Told, Idle, played, answers_in}
 use Rattle.trace_lines.specs.answers.AnswerText.{answer_text, out_text}
 
 told_said : (line unit id : ℕ) (deed : Deed) (ms : List Moment) → out_text ms ≡ flat_map answer_text (answers_in ms)

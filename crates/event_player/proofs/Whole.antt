@@ -1,5 +1,5 @@
 -- A script from its first line to its end.
-use Rattle.std.proofs.Common.{◌≡◌, inl, inr, ℕ, zero, suc, ◌+◌, ◌^◌, ◌<◌, ◌≤◌, true, false, IsTrue, List, [], ◌∷◌, ◌++◌, length, map, take, drop, get_or, Option, None, refl, sym, ap, subst, arith, ◌∙◌, add-one, drop-cons}
+use Rattle.std.proofs.Common.{◌≡◌, inl, inr, ℕ, zero, suc, ◌+◌, ◌^◌, ◌<◌, ◌≤◌, true, IsTrue, List, [], ◌∷◌, ◌++◌, length, map, take, drop, get_or, Option, None, refl, sym, ap, subst, arith, ◌∙◌, add-one, drop-cons}
 use Rattle.std.specs.Prelude.{is_some, min, unwrap_or}
 use Rattle.std.proofs.lemmas.List.{take_more, take_all, drop_all, take-append-drop, length-map, length-replicate, get_or-map, get_or_past}
 use Rattle.std.proofs.lemmas.Bool.{cases_lt, false≢true}
@@ -30,8 +30,6 @@ use Rattle.driver_laws.proofs.answers.Starts.{starts_with_none, starts_with_room
 use Rattle.driver_laws.proofs.answers.Ids.{starts_of_none}
 use Rattle.trace_lines.specs.answers.Counting.{CountsAll, tally_by}
 use Rattle.trace_lines.proofs.answers.CountLaws.{counts_none, counts_more}
-use Rattle.hp_driver.specs.UnitSetup.{UnitSetup}
-use Rattle.hp_driver.specs.Setups.{setups_of}
 use Rattle.hp_driver.specs.Subsystem.{State}
 use Rattle.script_runs.specs.Steps.{AreUnits, tables_in, AreSetFor}
 use Rattle.event_player.specs.Plays.{Plays as IsPlayed, Tallied}
@@ -296,31 +294,3 @@ starts_ready s setups outstanding noises set count = record {
   where
     few : (n k : ℕ) → n ≡ min k 16384 → n ≤ 65536
     few n k is = omega (arith, is)
-
--- THE WHOLE PLAY, of a world that was made of units that are set up
-pub new_is : (units slice : List UnitSetup) (requests noises : ℕ) (state : State) → slice ≡ units
-    → state ≡ record { world = new_world (setups_of slice) (min requests 16384) noises; outstanding = requests; failed = false; kept = [] }
-    → state.world ≡ new_world (setups_of units) (min requests 16384) noises
-new_is units slice requests noises state same is =
-    ap (λ (s : State). s.world) is ∙ ap (λ (us : List UnitSetup). new_world (setups_of us) (min requests 16384) noises) same
-
-pub ready_for : (s : Script) (units slice : List UnitSetup) (requests noises : ℕ) (state : State) → slice ≡ units → AreSetFor s (tables_in (setups_of units)) (setups_of units)
-    → noises ≡ counted one_noise s.lines → state ≡ record { world = new_world (setups_of slice) (min requests 16384) noises; outstanding = requests; failed = false; kept = [] }
-    → Ready s 0 0 0 [] state.world
-ready_for s units slice requests noises state same set count is =
-    subst (Ready s 0 0 0 []) (sym (new_is units slice requests noises state same is)) (starts_ready s (setups_of units) requests noises set count)
-
-pub whole_for : (s : Script) (units slice : List UnitSetup) (requests noises : ℕ) (state : State) (held : ℕ → Pack) (said taken : List ℕ) (old new : Stage) → IsScript s → slice ≡ units
-    → AreSetFor s (tables_in (setups_of units)) (setups_of units) → AreTablesOf (drives_of s) held (tables_in (setups_of units)) → old.held ≡ held
-    → state ≡ record { world = new_world (setups_of slice) (min requests 16384) noises; outstanding = requests; failed = false; kept = [] } → old.world ≡ state.world
-    → old.tally ≡ tally_by (counted one_request s.lines) [] [] → old.said ≡ said → old.taken ≡ taken → ((tables : ℕ → Option Table) → PlaysScript s tables old new)
-    → Tallied s held new.held new.out_tells said new.out_took new.trace_tells taken new.trace_took new.tally
-whole_for s units slice requests noises state held said taken old new script same set read same_held is world none_yet said_is taken_is goes =
-    let tables : ℕ → Option Table = tables_in (setups_of units) in
-    let run : HasRun s tables old.held old.held 0 [] old.world [] =
-    subst (λ (w : World). HasRun s tables old.held old.held 0 [] w []) (sym (world ∙ new_is units slice requests noises state same is))
-    (starts_run s (setups_of units) (min requests 16384) noises old.held set) in
-    subst (λ (xs : List ℕ). Tallied s held new.held new.out_tells said new.out_took new.trace_tells xs new.trace_took new.tally) taken_is
-    (subst (λ (xs : List ℕ). Tallied s held new.held new.out_tells xs new.out_took new.trace_tells old.taken new.trace_took new.tally) said_is
-    (subst (λ (h : ℕ → Pack). Tallied s h new.held new.out_tells old.said new.out_took new.trace_tells old.taken new.trace_took new.tally) same_held
-    (tally_whole s tables old new script (subst (λ (h : ℕ → Pack). AreTablesOf (drives_of s) h tables) (sym same_held) read) none_yet (goes tables run))))

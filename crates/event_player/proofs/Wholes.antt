@@ -41,13 +41,6 @@ drained_surface s = by_test (s.event.drains && (is_no_line (next_wish s) && nat_
     by_test true e = refl
     by_test false e = refl
 
-pub drained_drains : (s : Replay) → (drained s).event.drains ≡ s.event.drains
-drained_drains s = by_test (s.event.drains && (is_no_line (next_wish s) && nat_lt 0 s.outstanding)) (record s.event { between = true; act = act_drained s }) refl
-  where
-    by_test : (b : Bool) (e : Event) → e.drains ≡ s.event.drains → (if b then record s { event = e } else s).event.drains ≡ s.event.drains
-    by_test true e is = is
-    by_test false e is = refl
-
 pub whole_drained : (script : Script) (tables : ℕ → Option Table) (first held : ℕ → Pack) (line : ℕ) (done : List Line) (w : World) (moments : List Moment)
     → HasDrained script tables first held line done w moments → Whole script tables first held moments
 whole_drained script tables first held line done w moments run =

@@ -7,7 +7,7 @@ use Rattle.driver_machine.specs.declared.Made.{Made}
 use Rattle.driver_machine.specs.World.{World}
 use Rattle.driver_machine.specs.Lines.{answer_told}
 use Rattle.driver_laws.specs.answers.Waiting.{blocks_for}
-use Rattle.trace_lines.specs.answers.AnswerText.{answer_text, blocks_text}
+use Rattle.trace_lines.specs.answers.AnswerText.{answer_line, answer_text, blocks_text}
 use Rattle.hp_driver.specs.Subsystem.{IsOldest, Reads}
 
 -- the blocks that its request has
@@ -21,6 +21,9 @@ first_told w answer = record { line = answer.at; id = answer.id; answer = answer
 
 abbrev pub first_text : World → Answer → List ℕ
 first_text w answer = answer_text (first_told w answer)
+
+abbrev pub first_line : World → Answer → List ℕ
+first_line w answer = answer_line answer.at answer.id (answer_told answer.kind (first_blocks w w.answers))
 
 abbrev pub first_rest : World → AnswerKind → List ℕ
 first_rest w kind = blocks_text (answer_told kind (first_blocks w w.answers))

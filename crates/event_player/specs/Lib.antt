@@ -6,6 +6,7 @@ pub mod Steps
 pub mod Calls
 pub mod Answering
 pub mod Stops
+pub mod Spots
 pub use Rattle.script_runs.specs.declared.fault.PlayFault
 pub use Rattle.script_runs.specs.Lengths
 pub use Rattle.script_runs.specs.Faults

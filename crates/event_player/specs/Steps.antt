@@ -1,9 +1,8 @@
 -- What playing does line by line: the acts of a call with the answers behind them, and how a run goes on.
-use Rattle.std.specs.Prelude.{◌≡◌, ◌≢◌, ◌⊎◌, ℕ, ◌+◌, ◌-◌, ◌^◌, ◌<◌, ◌≤◌, Bool, true, false, IsTrue, List, [], ◌∷◌, ◌++◌, length, Option, Some, None, Result, IsErrOf}
+use Rattle.std.specs.Prelude.{◌≡◌, ◌≢◌, ◌⊎◌, ℕ, ◌+◌, ◌-◌, ◌^◌, ◌<◌, ◌≤◌, Bool, true, false, IsTrue, List, [], ◌∷◌, ◌++◌, length, Option, Some, None}
 use Rattle.std.specs.List.{flat_map}
 use Rattle.pack_geometry.specs.Pack.{Pack}
 use Rattle.pack_geometry.specs.TableSpelling.{Table}
-use Rattle.outside_traits.specs.Causes.{Rose}
 use Rattle.script_lines.specs.declared.statement.Statement as Told
 use Rattle.script_lines.specs.declared.statement.Statement.TheVariants as says
 use Rattle.script_reader.specs.Formed.{IsWritten}
@@ -37,10 +36,9 @@ use Rattle.trace_lines.specs.declared.answers.tally.Tally.{Tally}
 use Rattle.trace_lines.specs.answers.Counting.{Counts, CountsAll}
 use Rattle.hp_driver.specs.Subsystem.{State, IsThere, writes_by}
 use Rattle.script_runs.specs.Ahead.{IsBetween, WritesAhead, TellsAhead}
-use Rattle.script_runs.specs.declared.fault.PlayFault.{PlayFault}
-use Rattle.script_runs.specs.declared.fault.PlayFault.TheVariants as faults
 use Rattle.script_runs.specs.Steps.{AreUnits}
 use Rattle.event_player.specs.Playing.{HasRun, counted, one_request, one_noise, one_fault}
+use Rattle.event_player.specs.Saying.{Side}
 
 -- THE ANSWERS THAT WAIT: their text
 abbrev pub waiting_text : World → List ℕ
@@ -60,17 +58,18 @@ pub record Stage : Type 0 where
   pub trace_took : List ℕ
   pub tally : Tally
 
-abbrev pub stage : {P O T : Type 0} → (P → Bool) → (P → ℕ → Pack) → (O → Bool) → (O → List ℕ) → (T → Bool) → (T → List ℕ) → State → P → O → T → List ℕ → Tally → Stage
-stage packs_tell held out_tells took trace_tells taken s packs out trace gathered tally = record {
-  world = s.world;
-  packs_tell = packs_tell packs;
-  held = held packs;
-  out_tells = out_tells out;
-  said = took out ++ gathered;
-  out_took = took out;
-  trace_tells = trace_tells trace;
-  taken = taken trace ++ s.kept;
-  trace_took = taken trace;
+-- by its two sinks
+abbrev pub by_sides : World → Bool → (ℕ → Pack) → Side → Side → Tally → Stage
+by_sides w packs_tell held out lines tally = record {
+  world = w;
+  packs_tell = packs_tell;
+  held = held;
+  out_tells = out.tells;
+  said = out.took ++ out.kept;
+  out_took = out.took;
+  trace_tells = lines.tells;
+  taken = lines.took ++ lines.kept;
+  trace_took = lines.took;
   tally = tally;
 }
 
@@ -240,13 +239,3 @@ IsNoEvent statement = ⊥
 abbrev pub HasData : Said → Type 0
 HasData (says.Write request content) = IsWritten request.count content
 HasData statement = Unit {0}
-
--- Playing stops only where the packs or a sink failed, whose count of faults then rose; no count falls.
-pub record HasCauses {T : Type 0} (packs packs_after out out_after trace trace_after : ℕ) (result : Result T PlayFault) : Type 0 where
-  pub later : packs ≤ packs_after
-  pub later_out : out ≤ out_after
-  pub later_trace : trace ≤ trace_after
-  pub store : IsErrOf result faults.Store → Rose packs packs_after
-  pub sink : IsErrOf result faults.Sink → Rose out out_after ⊎ Rose trace trace_after
-  pub memory : IsErrOf result faults.Memory → ⊥
-  pub too_long : (unit long : ℕ) → IsErrOf result (faults.TooLong unit long) → ⊥

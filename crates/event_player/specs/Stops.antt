@@ -9,7 +9,7 @@ use Rattle.trace_replay.specs.Script.{Script, Input, Line, Numbered, Statement, 
 use Rattle.trace_replay.specs.Replay.{after_moments}
 use Rattle.trace_replay.specs.Runs.{start_of}
 use Rattle.trace_replay.specs.Text.{trace_text}
-use Rattle.driver_machine.specs.World.{World, Held, unit_at}
+use Rattle.driver_machine.specs.World.{Held, unit_at}
 use Rattle.driver_machine.specs.Acts.{Act, Tried}
 use Rattle.driver_machine.specs.Lines.{lines_of_all}
 use Rattle.driver_machine.specs.Events.{refusal_of, submit_acts, event_acts}

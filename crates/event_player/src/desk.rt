@@ -1,5 +1,6 @@
-// Where answers are written: what is gathered for their sink, and what is counted of them.
-ghost use Rattle.std.specs.Prelude.{◌≡◌, [], IfOk, OnOk};
+// Where answers are written: what is gathered for their sink, what is counted of them, and the lines of blocks.
+ghost use Rattle.std.specs.Prelude.{◌≡◌, ◌≤◌, [], IfOk, take};
+ghost use Rattle.trace_lines.specs.answers.AnswerText.{block_text};
 ghost use Rattle.trace_lines.specs.answers.Counting.{Counts, tally_by};
 ghost use Rattle.event_player.specs.Saying.{side, Says};
 
@@ -12,15 +13,12 @@ use trace_lines::answers::{BlockLine, FillLine, Tally};
 /// How many bytes of answers are gathered at most.
 const ANSWER_ROOM: u32 = 32_768;
 
-/// The text that is gathered for a sink, the tally of the run so far, and room for a block of 512 bytes and for its line, of either
-/// form. Up to 32,768 bytes of answers are gathered before they are sent.
+/// The text that is gathered for a sink, and the tally of the run so far. Up to 32,768 bytes of answers are gathered before they are
+/// sent.
 #[derive(Drop)]
 pub struct Desk {
     pub gather: Gather,
     pub tally: Tally,
-    pub block: [u8; 512],
-    pub line: BlockLine,
-    pub fill: FillLine,
 }
 
 impl Desk {
@@ -32,32 +30,7 @@ impl Desk {
     {
         let gather = Gather::new(alloc, ANSWER_ROOM)?;
         let tally = Tally::new(requests);
-        let line = BlockLine::new();
-        let fill = FillLine::new();
-        Ok(Desk {
-            gather,
-            tally,
-            block: [0; 512],
-            line,
-            fill,
-        })
-    }
-
-    /// Sends all text that is kept, the lines first.
-    pub fn send<O: Sink, T: Sink>(
-        &mut self,
-        subsystem: &mut Subsystem,
-        out: &mut O,
-        trace: &mut T,
-    ) -> Result<(), SinkFailed>
-        ensures says { Says (side O.tells O.taken O.faults out.old self.old.gather) (side O.tells O.taken O.faults out.new self.new.gather)
-            (side T.tells T.taken T.faults trace.old subsystem.old.kept) (side T.tells T.taken T.faults trace.new subsystem.new.kept) result [] }
-        ensures emptied { OnOk result ((self.new.gather ≡ []) × (subsystem.new.kept ≡ [])) }
-        ensures same { subsystem.new ≡ record subsystem.old { kept = subsystem.new.kept } }
-        ensures tally { self.new.tally ≡ self.old.tally }
-    {
-        subsystem.send(trace)?;
-        self.gather.flush(out)
+        Ok(Desk { gather, tally })
     }
 
     /// Counts a text, and keeps it. If the text does not fit, all lines are sent first, and then the text that was kept.
@@ -82,49 +55,63 @@ impl Desk {
         self.gather.put(text, out)
     }
 
-    /// Counts the line of a block, and says the line as [`Desk::say`] does.
-    pub fn say_line<O: Sink, T: Sink>(
+    /// Counts the first `len` bytes, and says them as [`Desk::say`] does.
+    pub fn say_short<O: Sink, T: Sink>(
         &mut self,
+        text: &[u8; 64],
+        len: usize,
         subsystem: &mut Subsystem,
         out: &mut O,
         trace: &mut T,
     ) -> Result<(), SinkFailed>
+        requires { len ≤ 64 }
         ensures says { Says (side O.tells O.taken O.faults out.old self.old.gather) (side O.tells O.taken O.faults out.new self.new.gather)
-            (side T.tells T.taken T.faults trace.old subsystem.old.kept) (side T.tells T.taken T.faults trace.new subsystem.new.kept) result self.old.line }
-        ensures counts { Counts [] self.old.line self.old.tally self.new.tally }
+            (side T.tells T.taken T.faults trace.old subsystem.old.kept) (side T.tells T.taken T.faults trace.new subsystem.new.kept) result (take len text.now) }
+        ensures counts { Counts [] (take len text.now) self.old.tally self.new.tally }
         ensures requests { self.new.tally.requests ≡ self.old.tally.requests }
         ensures same { subsystem.new ≡ record subsystem.old { kept = subsystem.new.kept } }
     {
-        self.tally.count_text(self.line.as_bytes());
-        if self.gather.try_keep(self.line.as_bytes()) {
+        self.tally.count_text(&text.as_slice()[..len]);
+        if self.gather.try_keep_short(text, len) {
             return Ok(());
         }
         subsystem.send(trace)?;
-        self.gather.put(self.line.as_bytes(), out)
+        self.gather.put_short(text, len, out)
+    }
+}
+
+/// The first bytes of a block.
+fn front(bytes: &[u8; 512], size: u32) -> &[u8]
+    requires { size ≤ 512 }
+    ensures { result.now ≡ take size bytes.now }
+{
+    &bytes.as_slice()[..size as usize]
+}
+
+/// Room for a block of 512 bytes and for its line, of either form.
+#[derive(Drop)]
+pub struct Forms {
+    pub block: [u8; 512],
+    pub line: BlockLine,
+    pub fill: FillLine,
+}
+
+impl Forms {
+    /// Creates forms on which nothing is written.
+    pub fn new() -> Forms {
+        Forms {
+            block: [0; 512],
+            line: BlockLine::new(),
+            fill: FillLine::new(),
+        }
     }
 
-    /// Counts the line of a block whose bytes are all the same, and says the line as [`Desk::say`] does.
-    pub fn say_fill<O: Sink, T: Sink>(
-        &mut self,
-        subsystem: &mut Subsystem,
-        out: &mut O,
-        trace: &mut T,
-    ) -> Result<(), SinkFailed>
-        ensures says { Says (side O.tells O.taken O.faults out.old self.old.gather) (side O.tells O.taken O.faults out.new self.new.gather)
-            (side T.tells T.taken T.faults trace.old subsystem.old.kept) (side T.tells T.taken T.faults trace.new subsystem.new.kept) result self.old.fill }
-        ensures counts { Counts [] self.old.fill self.old.tally self.new.tally }
-        ensures requests { self.new.tally.requests ≡ self.old.tally.requests }
-        ensures same { subsystem.new ≡ record subsystem.old { kept = subsystem.new.kept } }
+    /// Writes the line of block `k`, which has the first `size` bytes of the block.
+    pub fn write_block(&mut self, k: u32, size: u32)
+        requires some { 1 ≤ size }
+        requires few { size ≤ 512 }
+        ensures { self.new.line ≡ block_text k (take size self.old.block) }
     {
-        self.tally.count_text(self.fill.as_bytes());
-        if self
-            .gather
-            .try_keep_short(self.fill.front(), self.fill.len())
-        {
-            return Ok(());
-        }
-        subsystem.send(trace)?;
-        self.gather
-            .put_short(self.fill.front(), self.fill.len(), out)
+        self.line.write(k, front(&self.block, size));
     }
 }

@@ -24,6 +24,7 @@ mod desk;
 mod drains;
 pub mod play;
 mod player;
+mod venue;
 
 pub use hp_driver::UnitSetup;
 pub use script_reader::{ReadFault, Script, ScriptKind, read_script};

@@ -1,7 +1,6 @@
 // A script is played to its end.
-ghost use Rattle.std.specs.Prelude.{◌≡◌, ◌≤◌, ℕ, [], length, IsTrue, Result, Ok, IfOk, IfErr, IsErrOf, vec_len, Option};
+ghost use Rattle.std.specs.Prelude.{◌≡◌, ℕ, [], length, IsTrue, IfOk, IfErr, IsErrOf, vec_len};
 ghost use Rattle.pack_geometry.specs.PackTable.{AreTablesOf};
-ghost use Rattle.pack_geometry.specs.TableSpelling.{Table};
 ghost use Rattle.script_reader.specs.Grammar.{Spells};
 ghost use Rattle.script_reader.specs.Stored.{lines_in};
 ghost use Rattle.script_lines.specs.Words.{all_verbs};
@@ -14,16 +13,17 @@ ghost use Rattle.event_player.specs.Plays.{Tallied};
 ghost use Rattle.script_runs.specs.Lengths.{IsTooLong};
 ghost use Rattle.script_runs.specs.Faults.{IsPlaying, IsBefore, IsLongFor, AreUntouched, HaveTold, Rise};
 ghost use Rattle.event_player.specs.Playing.{counted, one_request};
-ghost use Rattle.event_player.specs.Calls.{MayGoOn, IsPlayed};
-ghost use Rattle.event_player.specs.Steps.{stage, Ready, PlaysScript, HasCauses};
-ghost use Rattle.event_player.specs.Stops.{StopsScript, Leaves};
-ghost use Rattle.script_runs.specs.declared.fault.PlayFault.TheVariants.{TooLong, Store};
-ghost use Rattle.script_runs.specs.Stops.{took, TakesRest};
+ghost use Rattle.event_player.specs.Saying.{side};
+ghost use Rattle.event_player.specs.Spots.{Begins, IsAtStart, PlaysOver, PlaysTheScript, SendsRest, emptied, packs_at};
+ghost use Rattle.event_player.specs.Stops.{Leaves};
+ghost use Rattle.script_runs.specs.declared.fault.PlayFault.TheVariants.{Store};
+ghost use Rattle.script_runs.specs.Stops.{took};
 
 use crate::counting::{count_noises, count_requests};
-use crate::desk::Desk;
+use crate::desk::{Desk, Forms};
 use crate::drains::drain;
 use crate::player::play_line;
+use crate::venue::{Outlet, Venue};
 use hp_driver::{Subsystem, UnitSetup};
 use outside_traits::traits::{Packs, Sink};
 use script_reader::meaning::meaning_law;
@@ -43,11 +43,12 @@ fn bytes(alloc: Global, size: usize) -> Result<Vec<u8>, AllocError>
     vec![in alloc; 0; size]
 }
 
-/// A desk, and the room for the bytes of the longest write.
+/// A desk with its forms, and the room for the bytes of the longest write.
 #[derive(Drop)]
 struct Bench {
     room: Vec<u8>,
     desk: Desk,
+    forms: Forms,
 }
 
 impl Bench {
@@ -60,68 +61,54 @@ impl Bench {
     {
         let room = bytes(alloc, MOST_BYTES)?;
         let desk = Desk::new(alloc, requests)?;
-        Ok(Bench { room, desk })
+        let forms = Forms::new();
+        Ok(Bench { room, desk, forms })
     }
 }
 
 /// Plays the lines of a script over units that are set up for it, and a drain after the last line. The number of the drain is the
 /// number of lines plus one. `room` has a place for each byte of the longest write.
-fn play_lines<P: Packs, O: Sink, T: Sink>(
-    script: &Script,
-    subsystem: &mut Subsystem,
-    room: &mut [u8],
-    desk: &mut Desk,
-    packs: &mut P,
-    out: &mut O,
-    trace: &mut T,
-) -> Result<Tally, PlayFault>
+fn play_lines<V: Venue>(script: &Script, room: &mut [u8], venue: &mut V) -> Result<Tally, PlayFault>
     requires good { Spells all_verbs script.now.text (lines_in script.now) script.now.count }
-    requires may { MayGoOn subsystem.old }
-    requires ready { Ready (meaning_of script.now) 0 0 0 [] subsystem.old.world }
-    requires outstanding { subsystem.old.outstanding ≡ counted one_request (meaning_of script.now).lines }
+    requires starts { IsAtStart (meaning_of script.now) (V.at venue.old) }
     requires room { length room.old ≡ 65024 }
-    requires kept { desk.old.gather ≡ [] }
-    requires sent { subsystem.old.kept ≡ [] }
-    ensures played { IsPlayed (λ old new. (tables : ℕ → Option Table) → PlaysScript (meaning_of script.now) tables old new)
-        (λ fault old new. (tables : ℕ → Option Table) → StopsScript (meaning_of script.now) tables fault old new)
-        (stage P.tells P.held O.tells O.taken T.tells T.taken subsystem.old packs.old out.old trace.old desk.old.gather desk.old.tally)
-        (stage P.tells P.held O.tells O.taken T.tells T.taken subsystem.new packs.new out.new trace.new desk.new.gather desk.new.tally) result }
-    ensures told { IfOk result (λ tally. tally ≡ desk.new.tally) }
-    ensures causes { HasCauses (P.faults packs.old) (P.faults packs.new) (O.faults out.old) (O.faults out.new) (T.faults trace.old) (T.faults trace.new) result }
+    ensures turns { PlaysTheScript (meaning_of script.now) result (V.at venue.old) (V.at venue.new) }
+    ensures tally { IfOk result (λ tally. tally ≡ (V.at venue.new).tally) }
 {
     meaning_law();
     read_back_law();
     let number = u64::from(script.count()) + 1;
-    let lines = script.lines();
-    for (i, line) in lines.iter().enumerate() {
-        play_line(script, subsystem, line, room, desk, packs, out, trace)?;
+    for line in script.lines() {
+        play_line(script, line, room, venue)?;
     }
-    drain(subsystem, number, desk, packs, out, trace)?;
-    desk.send(subsystem, out, trace)?;
-    Ok(desk.tally)
+    drain(venue, number)?;
+    venue.send()?;
+    Ok(venue.tally())
 }
 
 /// If the packs failed, sends all that is kept, lines first, whatever comes of it.
-fn send_rest<O: Sink, T: Sink>(
-    played: Result<Tally, PlayFault>,
-    subsystem: &mut Subsystem,
-    desk: &mut Desk,
-    out: &mut O,
-    trace: &mut T,
-)
-    ensures lines { IsErrOf played Store → TakesRest (took T.tells T.taken T.faults trace.old trace.new) [] subsystem.old.kept }
-    ensures answers { IsErrOf played Store → TakesRest (took O.tells O.taken O.faults out.old out.new) [] desk.old.gather }
-    ensures same { (IsErrOf played Store → ⊥) → (out.new ≡ out.old) × (trace.new ≡ trace.old) }
-    ensures never_again { IsTrue (O.tells out.new) → IsTrue (O.tells out.old) }
-    ensures never_again_trace { IsTrue (T.tells trace.new) → IsTrue (T.tells trace.old) }
-    ensures later { O.faults out.old ≤ O.faults out.new }
-    ensures later_trace { T.faults trace.old ≤ T.faults trace.new }
-    ensures tally { desk.new.tally ≡ desk.old.tally }
+fn send_rest<V: Venue>(played: Result<Tally, PlayFault>, venue: &mut V)
+    ensures sends { IsErrOf played Store → SendsRest (V.at venue.old) (V.at venue.new) }
+    ensures same { (IsErrOf played Store → ⊥) → V.at venue.new ≡ V.at venue.old }
 {
     if let Err(PlayFault::Store) = played {
-        let _ = subsystem.send(trace);
-        let _ = desk.gather.flush(out);
+        venue.send_rest();
     }
+}
+
+/// Plays a script at a venue, and if the packs failed sends the rest.
+fn play_all<V: Venue>(script: &Script, room: &mut [u8], venue: &mut V) -> Result<Tally, PlayFault>
+    requires good { Spells all_verbs script.now.text (lines_in script.now) script.now.count }
+    requires begins { Begins (meaning_of script.now) (V.at venue.old) }
+    requires room { length room.old ≡ 65024 }
+    ensures plays { PlaysOver (meaning_of script.now) result (V.at venue.old).packs (V.at venue.new).packs (emptied (V.at venue.old).out) (emptied (V.at venue.new).out) (emptied (V.at venue.old).lines) (emptied (V.at venue.new).lines) }
+    ensures begun { IsBefore result → ⊥ }
+    ensures loans { (V.at venue.new).loans ≡ (V.at venue.old).loans }
+{
+    meaning_law();
+    let played = play_lines(script, room, venue);
+    send_rest(played, venue);
+    played
 }
 
 /// Plays a script over units that are set up for it, as `play` does once they are attached. `Memory` comes only before the first line
@@ -137,14 +124,8 @@ fn play_units<P: Packs, O: Sink, T: Sink>(
     requires good { Spells all_verbs script.now.text (lines_in script.now) script.now.count }
     requires set { AreSetFor (meaning_of script.now) (tables_in (setups_of units.now)) (setups_of units.now) }
     requires tables { IsTrue (P.tells packs.old) → AreTablesOf (drives_of (meaning_of script.now)) (P.held packs.old) (tables_in (setups_of units.now)) }
-    ensures tallied { IfOk result (λ tally. IsTrue (P.tells packs.new) → Tallied (meaning_of script.now) (P.held packs.old) (P.held packs.new)
-        (O.tells out.new) (O.taken out.old) (O.taken out.new) (T.tells trace.new) (T.taken trace.old) (T.taken trace.new) tally) }
-    ensures requests { IfOk result (λ tally. tally.requests ≡ counted one_request (meaning_of script.now).lines) }
-    ensures stopped { IfErr result (λ fault. IsTrue (P.tells packs.new) → Leaves fault (meaning_of script.now) (P.held packs.old) (P.held packs.new) (P.failed_at packs.new)
-        (took O.tells O.taken O.faults out.old out.new) (took T.tells T.taken T.faults trace.old trace.new)) }
-    ensures too_long { (unit n : ℕ) → ¬ (IsErrOf result (TooLong unit n)) }
-    ensures told { HaveTold (P.tells packs.old) (P.tells packs.new) (O.tells out.old) (O.tells out.new) (T.tells trace.old) (T.tells trace.new) }
-    ensures causes { Rise (P.faults packs.old) (P.faults packs.new) (O.faults out.old) (O.faults out.new) (T.faults trace.old) (T.faults trace.new) result }
+    ensures plays { PlaysOver (meaning_of script.now) result (packs_at P.tells P.held P.faults packs.old) (packs_at P.tells P.held P.faults packs.new)
+        (side O.tells O.taken O.faults out.old []) (side O.tells O.taken O.faults out.new []) (side T.tells T.taken T.faults trace.old []) (side T.tells T.taken T.faults trace.new []) }
     ensures untouched { IsBefore result → AreUntouched (P.tells packs.new) (P.held packs.old) (P.held packs.new) out.old out.new trace.old trace.new }
 {
     meaning_law();
@@ -152,17 +133,15 @@ fn play_units<P: Packs, O: Sink, T: Sink>(
     let noises = count_noises(script);
     let mut bench = Bench::new(alloc, u64::from(requests))?;
     let mut subsystem = Subsystem::new(alloc, units, requests, noises)?;
-    let played = play_lines(
-        script,
-        &mut subsystem,
-        bench.room.as_mut_slice(),
-        &mut bench.desk,
+    let mut venue = Outlet {
+        subsystem: &mut subsystem,
+        desk: &mut bench.desk,
+        forms: &mut bench.forms,
         packs,
         out,
         trace,
-    );
-    send_rest(played, &mut subsystem, &mut bench.desk, out, trace);
-    played
+    };
+    play_all(script, bench.room.as_mut_slice(), &mut venue)
 }
 
 /// Plays a script line by line, and a drain after its last line. The number of the drain is the number of lines plus one. The lines of

@@ -1,8 +1,7 @@
 // What a line of a script does.
-ghost use Rattle.std.specs.Prelude.{◌≡◌, ◌⊎◌, ◌*◌, ◌≤◌, ℕ, List, [], IsTrue, length, take, OnOk, OnErr, IfSome, IfNone};
+ghost use Rattle.std.specs.Prelude.{◌≡◌, ◌≤◌, ℕ, List, [], length, take, IfSome, IfNone};
 ghost use Rattle.std.specs.Box.{box_value};
 ghost use Rattle.hardware_table.specs.Noise.{LiveNoise};
-ghost use Rattle.outside_traits.specs.Causes.{Rose};
 ghost use Rattle.script_reader.specs.Formed.{IsWritten};
 ghost use Rattle.script_lines.specs.declared.statement.Span.{Span};
 ghost use Rattle.script_reader.specs.Stored.{seen, digits_at};
@@ -11,48 +10,30 @@ ghost use Rattle.script_reader.specs.Meaning.{statement_of, written_of};
 ghost use Rattle.trace_replay.specs.Moments.{Played};
 ghost use Rattle.trace_replay.specs.Script.{Noise as NoiseInput, Plays};
 ghost use Rattle.trace_lines.specs.answers.AnswerText.{said_text};
-ghost use Rattle.trace_lines.specs.answers.Counting.{Counts};
 ghost use Rattle.hp_driver.specs.Inputs.{input_of};
-ghost use Rattle.event_player.specs.Saying.{side, Says};
-ghost use Rattle.event_player.specs.Calls.{MayGoOn, KeepsGoing, IsPlayed};
-ghost use Rattle.event_player.specs.Steps.{stage, IsNoEvent, PlaysLine, Brings, MayPlay, HasData, HasCauses};
-ghost use Rattle.event_player.specs.Stops.{StopsLine};
+ghost use Rattle.event_player.specs.Calls.{MayGoOn};
+ghost use Rattle.event_player.specs.Spots.{SaysText, PlaysAt};
+ghost use Rattle.event_player.specs.Steps.{IsNoEvent, MayPlay, HasData};
 
 use crate::calls::{ask, happen};
-use crate::desk::Desk;
 use crate::drains::drain;
+use crate::venue::Venue;
 use fire_code::{Noise, class_of};
-use hp_driver::{Event, Request, Subsystem};
-use outside_traits::traits::{Packs, Sink, SinkFailed};
+use hp_driver::{Event, Request};
+use outside_traits::traits::SinkFailed;
 use script_reader::meaning::meaning_law;
 use script_reader::{Content, Request as Asked, Script, Span, Statement, Stored};
 use script_runs::PlayFault;
 use trace_lines::answers::noise_line;
 
 /// Says the class of noise that is armed at a line, and counts what it says.
-fn say_noise<O: Sink, T: Sink>(
-    number: u64,
-    noise: &Noise,
-    subsystem: &mut Subsystem,
-    desk: &mut Desk,
-    out: &mut O,
-    trace: &mut T,
-) -> Result<(), SinkFailed>
-    ensures says { (live : LiveNoise) → live.places ≡ noise.now
-        → Says (side O.tells O.taken O.faults out.old desk.old.gather) (side O.tells O.taken O.faults out.new desk.new.gather)
-        (side T.tells T.taken T.faults trace.old subsystem.old.kept) (side T.tells T.taken T.faults trace.new subsystem.new.kept) result (said_text (Played number (NoiseInput live))) }
-    ensures counts { (live : LiveNoise) → live.places ≡ noise.now → Counts [] (said_text (Played number (NoiseInput live))) desk.old.tally desk.new.tally }
-    ensures never_again { IsTrue (O.tells out.new) → IsTrue (O.tells out.old) }
-    ensures never_again_trace { IsTrue (T.tells trace.new) → IsTrue (T.tells trace.old) }
-    ensures later { O.faults out.old ≤ O.faults out.new }
-    ensures later_trace { T.faults trace.old ≤ T.faults trace.new }
-    ensures failed { OnErr result (Rose (O.faults out.old) (O.faults out.new) ⊎ Rose (T.faults trace.old) (T.faults trace.new)) }
-    ensures requests { desk.new.tally.requests ≡ desk.old.tally.requests }
-    ensures same { subsystem.new ≡ record subsystem.old { kept = subsystem.new.kept } }
+fn say_noise<V: Venue>(venue: &mut V, number: u64, noise: &Noise) -> Result<(), SinkFailed>
+    ensures says { (live : LiveNoise) → live.places ≡ noise.now → SaysText [] (said_text (Played number (NoiseInput live))) result (V.at venue.old) (V.at venue.new) }
+    ensures driver { (V.at venue.new).driver ≡ (V.at venue.old).driver }
 {
     let _ = noise.places();
     let line = noise_line(number, class_of(noise));
-    desk.say(line.as_bytes(), subsystem, out, trace)
+    venue.say(line.as_bytes())
 }
 
 /// A request as the driver takes it.
@@ -141,38 +122,25 @@ fn event_of(statement: &Statement<Span, Box<Noise>>) -> Option<Event>
 }
 
 /// A line that is no such event: a request, noise, a drain, or one that declares a drive, which does nothing.
-fn play_other<P: Packs, O: Sink, T: Sink>(
+fn play_other<V: Venue>(
     script: &Script,
-    subsystem: &mut Subsystem,
     line: &Stored,
     room: &mut [u8],
-    desk: &mut Desk,
-    packs: &mut P,
-    out: &mut O,
-    trace: &mut T,
+    venue: &mut V,
 ) -> Result<(), PlayFault>
     requires no_event { IsNoEvent line.now.statement }
-    requires ready { MayGoOn subsystem.old }
-    requires may { MayPlay subsystem.old (statement_of (seen script.now.text line.now).statement) }
+    requires ready { MayGoOn (V.at venue.old).driver }
+    requires may { MayPlay (V.at venue.old).driver (statement_of (seen script.now.text line.now).statement) }
     requires data { HasData (seen script.now.text line.now).statement }
     requires room { length room.old ≡ 65024 }
-    ensures played { IsPlayed (PlaysLine line.now.number (statement_of (seen script.now.text line.now).statement)) (StopsLine line.now.number (statement_of (seen script.now.text line.now).statement))
-        (stage P.tells P.held O.tells O.taken T.tells T.taken subsystem.old packs.old out.old trace.old desk.old.gather desk.old.tally)
-        (stage P.tells P.held O.tells O.taken T.tells T.taken subsystem.new packs.new out.new trace.new desk.new.gather desk.new.tally) result }
-    ensures brings { OnOk result (Brings (statement_of (seen script.now.text line.now).statement) subsystem.old.world subsystem.new.world) }
-    ensures goes { OnOk result (KeepsGoing subsystem.old subsystem.new) }
-    ensures causes { HasCauses (P.faults packs.old) (P.faults packs.new) (O.faults out.old) (O.faults out.new) (T.faults trace.old) (T.faults trace.new) result }
+    ensures { PlaysAt line.now.number (statement_of (seen script.now.text line.now).statement) result (V.at venue.old) (V.at venue.new) }
 {
     let number = u64::from(line.number);
     match &line.statement {
-        Statement::Read { request } => {
-            let request = request_for(request, false);
-            ask(subsystem, number, request, &[], desk, out, trace)
-        }
+        Statement::Read { request } => ask(venue, number, request_for(request, false), &[]),
         Statement::Write { request, content } => {
             let size = put_data(script, request, content, room);
-            let request = request_for(request, true);
-            ask(subsystem, number, request, &room[..size], desk, out, trace)
+            ask(venue, number, request_for(request, true), &room[..size])
         }
         Statement::Noise {
             unit,
@@ -180,16 +148,16 @@ fn play_other<P: Packs, O: Sink, T: Sink>(
             span,
             places,
         } => {
-            say_noise(number, places, subsystem, desk, out, trace)?;
+            say_noise(venue, number, places)?;
             let event = Event::Noise {
                 unit: *unit,
                 block: *block,
                 noise: places.copy(),
                 span: *span,
             };
-            happen(subsystem, number, event, desk, packs, out, trace)
+            happen(venue, number, event)
         }
-        Statement::Drain => drain(subsystem, number, desk, packs, out, trace),
+        Statement::Drain => drain(venue, number),
         _ => Ok(()),
     }
 }
@@ -198,32 +166,20 @@ fn play_other<P: Packs, O: Sink, T: Sink>(
 /// case says the answers afterwards. A line that declares a drive does nothing. `room` has a place for each byte of the longest write,
 /// 65,024 of them. Fails with `Store` if a call of the packs failed, and with `Sink` if a call of a sink failed, whose count of faults
 /// then rose; never with `Memory` or `TooLong`.
-pub fn play_line<P: Packs, O: Sink, T: Sink>(
+pub(crate) fn play_line<V: Venue>(
     script: &Script,
-    subsystem: &mut Subsystem,
     line: &Stored,
     room: &mut [u8],
-    desk: &mut Desk,
-    packs: &mut P,
-    out: &mut O,
-    trace: &mut T,
+    venue: &mut V,
 ) -> Result<(), PlayFault>
-    requires ready { MayGoOn subsystem.old }
-    requires may { MayPlay subsystem.old (statement_of (seen script.now.text line.now).statement) }
+    requires ready { MayGoOn (V.at venue.old).driver }
+    requires may { MayPlay (V.at venue.old).driver (statement_of (seen script.now.text line.now).statement) }
     requires data { HasData (seen script.now.text line.now).statement }
     requires room { length room.old ≡ 65024 }
-    ensures played { IsPlayed (PlaysLine line.now.number (statement_of (seen script.now.text line.now).statement)) (StopsLine line.now.number (statement_of (seen script.now.text line.now).statement))
-        (stage P.tells P.held O.tells O.taken T.tells T.taken subsystem.old packs.old out.old trace.old desk.old.gather desk.old.tally)
-        (stage P.tells P.held O.tells O.taken T.tells T.taken subsystem.new packs.new out.new trace.new desk.new.gather desk.new.tally) result }
-    ensures brings { OnOk result (Brings (statement_of (seen script.now.text line.now).statement) subsystem.old.world subsystem.new.world) }
-    ensures goes { OnOk result (KeepsGoing subsystem.old subsystem.new) }
-    ensures causes { HasCauses (P.faults packs.old) (P.faults packs.new) (O.faults out.old) (O.faults out.new) (T.faults trace.old) (T.faults trace.new) result }
+    ensures { PlaysAt line.now.number (statement_of (seen script.now.text line.now).statement) result (V.at venue.old) (V.at venue.new) }
 {
     match event_of(&line.statement) {
-        Some(event) => {
-            let number = u64::from(line.number);
-            happen(subsystem, number, event, desk, packs, out, trace)
-        }
-        None => play_other(script, subsystem, line, room, desk, packs, out, trace),
+        Some(event) => happen(venue, u64::from(line.number), event),
+        None => play_other(script, line, room, venue),
     }
 }

@@ -14,7 +14,6 @@ use Rattle.script_runs.specs.Stops.{Took, took}
 use Rattle.script_reader.specs.Meaning.{meaning_of}
 use Rattle.event_player.specs.Plays.{Tallied}
 use Rattle.event_player.specs.Stops.{Leaves}
-use Rattle.event_player.proofs.Halting.{err_is}
 use Rattle.event_player.proofs.play.play.Goals as goal
 
 -- ---- THE UNITS WERE NOT ATTACHED: the fault is handed on
@@ -24,6 +23,10 @@ err_same is = cc
 fault_is : (result : Result Tally PlayFault) (fault other : PlayFault) → IsErrAnd result (λ x. x ≡ fault) → IsErrOf result other → fault ≡ other
 fault_is (Ok x) fault other is e = absurd is
 fault_is (Err f) fault other is e = sym is ∙ err_same e
+
+err_is : (Q : PlayFault → Type 0) (result : Result Tally PlayFault) (fault : PlayFault) → IsErrAnd result (λ x. x ≡ fault) → Q fault → IfErr result Q
+err_is Q (Ok value) fault is holds = tt
+err_is Q (Err other) fault is holds = subst Q (sym is) holds
 
 no_tally : (Q : Tally → Type 0) (result : Result Tally PlayFault) (fault : PlayFault) → IsErrAnd result (λ x. x ≡ fault) → IfOk result Q
 no_tally Q (Ok x) fault is = absurd is
@@ -80,10 +83,10 @@ tallied_at : (told : Type 0) (Of : (ℕ → Pack) → Tally → Type 0) (h first
 tallied_at told Of h first (Ok x) same is = λ t. subst (λ (held : ℕ → Pack). Of held x) (same t) (is t)
 tallied_at told Of h first (Err f) same is = tt
 
-stopped_at : (told : Type 0) (Of : (ℕ → Pack) → PlayFault → Type 0) (h first : ℕ → Pack) (result : Result Tally PlayFault) → (told → h ≡ first)
-    → IfErr result (λ fault. told → Of h fault) → IfErr result (λ fault. told → Of first fault)
-stopped_at told Of h first (Ok x) same is = tt
-stopped_at told Of h first (Err f) same is = λ t. subst (λ (held : ℕ → Pack). Of held f) (same t) (is t)
+stopped_at : (told : Type 0) (Of : (ℕ → Pack) → PackCall → PlayFault → Type 0) (h first : ℕ → Pack) (call : PackCall) (result : Result Tally PlayFault) → (told → h ≡ first)
+    → IfErr result (λ fault. told → (call : PackCall) → Of h call fault) → IfErr result (λ fault. told → Of first call fault)
+stopped_at told Of h first call (Ok x) same is = tt
+stopped_at told Of h first call (Err f) same is = λ t. subst (λ (held : ℕ → Pack). Of held call f) (same t) (is t call)
 
 long_never : (script : Script) (tells : Bool) (packs : ℕ → Pack) (result : Result Tally PlayFault)
     → ((unit n : ℕ) → IsErrOf result (faults.TooLong unit n) → ⊥) → IfErr result (IsLongFor script tells packs)
@@ -111,7 +114,7 @@ rises_from first p p' o o' t t' result le rise = record {
 pub returns : goal.returns
 returns g c =
     let units = c.in_ok-units.ensures in
-    let plays = c.play_units.ensures in
+    let plays = c.play_units.ensures.plays in
     let told = plays.told in
     let script : Script = meaning_of c.args.script.now in
     let attached : ℕ → Pack = g.P.Packs.held c.attach_units.new.packs in
@@ -123,13 +126,13 @@ returns g c =
       tallied = tallied_at (IsTrue (g.P.Packs.tells c.play_units.new.packs)) (λ h tally. Tallied script h left out.tells out.before out.after trace.tells trace.before trace.after tally)
           attached first c.play_units.result (λ t. units.same (told.never_again t)) plays.tallied;
       requests = plays.requests;
-      stopped = stopped_at (IsTrue (g.P.Packs.tells c.play_units.new.packs)) (λ h fault. Leaves fault script h left (g.P.Packs.failed_at c.play_units.new.packs) out trace)
-          attached first c.play_units.result (λ t. units.same (told.never_again t)) plays.stopped;
+      stopped = stopped_at (IsTrue (g.P.Packs.tells c.play_units.new.packs)) (λ h call fault. Leaves fault script h left call out trace)
+          attached first _ c.play_units.result (λ t. units.same (told.never_again t)) plays.stopped;
       fits = λ playing t. units.fits (told.never_again t);
       too_long = long_never _ _ _ c.play_units.result plays.too_long;
       told = record { never_again = λ t. units.never_again (told.never_again t); never_again_out = λ t. told.never_again_out t; never_again_trace = λ t. told.never_again_trace t };
       causes = rises_from _ _ _ _ _ _ _ c.play_units.result units.later plays.causes;
       untouched = λ before.
-          let stay = plays.untouched before in
+          let stay = c.play_units.ensures.untouched before in
           record { same = λ t. stay.same t ∙ units.same (told.never_again t); silent = stay.silent; untraced = stay.untraced };
     }
