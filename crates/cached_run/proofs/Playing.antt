@@ -96,13 +96,13 @@ plays_cut {line} {r} blocks {old} {new} (Err why) stop is up a = subst (λ (z : 
 })
 
 -- or its answer was not written,
-module _ {line : ℕ} {r : Request} (blocks : List (List ℕ)) {how : AnswerKind} {old mid new : Place} {E : Type 0} (up : IsSetUp (world_at old) r.unit) (a : Answers line r blocks (Ok how) old mid) (only : OnlySays mid new) where
+module _ (line : ℕ) (r : Request) (blocks : List (List ℕ)) (how : AnswerKind) (old mid new : Place) {E : Type 0} (up : IsSetUp (world_at old) r.unit) (a : Answers line r blocks (Ok how) old mid) (only : OnlySays mid new) where
   puts_at : (result : Result (Unit {0}) E) → Puts (λ (p : Place). p.out_tells) (λ (p : Place). p.said) (λ (p : Place). p.out_faults) mid new result (said_text line r.id how blocks)
       → Puts (λ (p : Place). p.out_tells) (λ (p : Place). p.said) (λ (p : Place). p.out_faults) (record old { cache = mid.cache; spot = mid.spot }) new result (said_text line r.id how blocks)
   puts_at result puts = subst (λ (z : Place). Puts (λ (p : Place). p.out_tells) (λ (p : Place). p.said) (λ (p : Place). p.out_faults) z new result (said_text line r.id how blocks)) a.silent puts
 
   pub plays_unsaid : (result : Result (Unit {0}) PlayFault) (failed : E) → IsErrAnd result (λ x. x ≡ fault.Sink)
-      → Puts (λ (p : Place). p.out_tells) (λ (p : Place). p.said) (λ (p : Place). p.out_faults) mid new (Err {T = Unit {0}} failed) (said_text line r.id how blocks) → Plays (plays_at line r) result old new
+      → Puts {T = Unit {0}} {E = E} (λ (p : Place). p.out_tells) (λ (p : Place). p.said) (λ (p : Place). p.out_faults) mid new (Err failed) (said_text line r.id how blocks) → Plays (plays_at line r) result old new
   plays_unsaid (Ok value) failed is puts = absurd is
   plays_unsaid (Err why) failed is puts =
       let p = puts_at (Err failed) puts in
@@ -119,7 +119,7 @@ module _ {line : ℕ} {r : Request} (blocks : List (List ℕ)) {how : AnswerKind
       })
 
   -- or it was
-  pub plays_said : (value : Unit {0}) → Puts (λ (p : Place). p.out_tells) (λ (p : Place). p.said) (λ (p : Place). p.out_faults) mid new (Ok {E = E} value) (said_text line r.id how blocks)
+  pub plays_said : (value : Unit {0}) → Puts {T = Unit {0}} {E = E} (λ (p : Place). p.out_tells) (λ (p : Place). p.said) (λ (p : Place). p.out_faults) mid new (Ok value) (said_text line r.id how blocks)
       → Plays (plays_at line r) (Ok tt) old new
   plays_said value puts =
       let p = puts_at (Ok value) puts in

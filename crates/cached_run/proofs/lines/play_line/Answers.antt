@@ -17,8 +17,8 @@ play_request-requires-clause-may g c = record {
 pub returns-in-Read-clause-plays : goal.returns-in-Read-clause-plays
 returns-in-Read-clause-plays g c = line_plays c.args.line.now c.from-number.result (says.Read c.in-Read.asked) c.in-Read.is c.from-number.ensures c.play_request.ensures.plays
 
-pub play_request-in-Write-requires-clause-may : goal.play_request-in-Write-requires-clause-may
-play_request-in-Write-requires-clause-may g c = record {
+pub play_request-requires-in-Write-clause-may : goal.play_request-requires-in-Write-clause-may
+play_request-requires-in-Write-clause-may g c = record {
   line_is = numbered_so c.args.line.now c.from-number.result (says.Write c.in-Write.asked c.in-Write.fill) c.in-Write.is c.from-number.ensures c.requires.line;
   may = c.requires.may;
   ask = may_as c.args.line.now c.from-number.result (says.Write c.in-Write.asked c.in-Write.fill) c.in-Write.is c.from-number.ensures (g.S.Scene.at c.args.scene.now).spot.driver.world c.requires.ask;
