@@ -62,15 +62,15 @@ pub(crate) trait Scene {
 
 /// A cache, a driver, packs, a sink for the answers and a trace, each of which was lent.
 #[derive(Drop)]
-pub(crate) struct Stand<'a, P: Packs, O: Sink, T: Sink> {
-    pub(crate) cache: &'a mut Cache,
-    pub(crate) subsystem: &'a mut Subsystem,
-    pub(crate) packs: &'a mut P,
-    pub(crate) out: &'a mut O,
-    pub(crate) trace: &'a mut T,
+pub(crate) struct Stand<'c, 's, 'p, 'o, 't, P: Packs, O: Sink, T: Sink> {
+    pub(crate) cache: &'c mut Cache,
+    pub(crate) subsystem: &'s mut Subsystem,
+    pub(crate) packs: &'p mut P,
+    pub(crate) out: &'o mut O,
+    pub(crate) trace: &'t mut T,
 }
 
-impl<'a, P: Packs, O: Sink, T: Sink> Scene for Stand<'a, P, O, T> {
+impl<'c, 's, 'p, 'o, 't, P: Packs, O: Sink, T: Sink> Scene for Stand<'c, 's, 'p, 'o, 't, P, O, T> {
     ghost at = { λ s. record { cache = s.cache.now; spot = spot P.tells P.held P.faults T.tells T.taken T.faults s.subsystem.now s.packs.now s.trace.now;
         out_tells = O.tells s.out.now; said = O.taken s.out.now; out_faults = O.faults s.out.now } };
 
