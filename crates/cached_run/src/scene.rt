@@ -74,7 +74,7 @@ impl<'c, 's, 'p, 'o, 't, P: Packs, O: Sink, T: Sink> Scene for Stand<'c, 's, 'p,
     ghost at = { λ s. record { cache = s.cache.now; spot = spot P.tells P.held P.faults T.tells T.taken T.faults s.subsystem.now s.packs.now s.trace.now;
         out_tells = O.tells s.out.now; said = O.taken s.out.now; out_faults = O.faults s.out.now } };
 
-    ghost loans = { λ s. s.packs.ghost_name ∷ s.out.ghost_name ∷ s.trace.ghost_name ∷ [] };
+    ghost loans = { λ s. s.cache.ghost_name ∷ s.subsystem.ghost_name ∷ s.packs.ghost_name ∷ s.out.ghost_name ∷ s.trace.ghost_name ∷ [] };
 
     fn kind(&self, unit: u8) -> DriveKind {
         self.subsystem.kind(unit)
