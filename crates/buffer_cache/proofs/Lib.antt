@@ -6,5 +6,5 @@ mod Stays
 mod Turns
 mod Wholes
 mod Tills
-pub mod Serving
+mod Serving
 pub mod Passes

@@ -2,5 +2,6 @@
 pub use Rattle.blocking_io.proofs.FrontsBlocks.{first_is, none_unusable}
 pub use Rattle.blocking_io.proofs.FrontsPasses.{new_is_quiet}
 pub use Rattle.blocking_io.proofs.Joined.{sessions_join, stops_join}
-pub use Rattle.blocking_io.proofs.Sites.{keeps_err, keeps_join, keeps_none, kind_stays, left_over, map_long, on_err, others_none, others_over}
+pub use Rattle.blocking_io.proofs.Sites.{kind_stays, left_over, map_long, others_none, others_over}
+pub use Rattle.blocking_io.proofs.Spots.{keeps_join, keeps_none, still}
 pub use Rattle.driver_laws.proofs.shown.Start.{starts}

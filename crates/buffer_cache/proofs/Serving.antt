@@ -5,30 +5,26 @@ use Rattle.trace_replay.specs.requests.Requests.{Request}
 use Rattle.driver_laws.specs.declared.answers.outcome.Stop.{Stop}
 use Rattle.driver_laws.specs.declared.rules.cached.Entry.{Entry}
 use Rattle.driver_laws.specs.rules.Entries.{State, put, written_back}
-use Rattle.blocking_io.specs.Spots.{Keeps as KeepsSpot}
-use Rattle.blocking_io.proofs.Spots.{keeps_none}
-use Rattle.pack_geometry.specs.Pack.{Pack}
-use Rattle.buffer_cache.specs.Passes.{Keeps, Spot, Stage, seen, setup_at, spot}
-use Rattle.buffer_cache.specs.Passes.{State as Driver}
+use Rattle.buffer_cache.specs.Passes.{Keeps, Spot, Stage, seen, setup_at}
 use Rattle.buffer_cache.specs.Asks.{AsksTill}
 use Rattle.buffer_cache.specs.Calls.{Holds, IfTold, MayUse, RefusesOnce, Serves, SyncsOrStops, stop_of}
 use Rattle.buffer_cache.specs.declared.fault.CacheFault.{CacheFault}
 use Rattle.buffer_cache.specs.declared.fault.CacheFault.TheVariants as fault
-use Rattle.buffer_cache.proofs.Passes.{others_none}
+use Rattle.buffer_cache.proofs.Passes.{keeps_none, others_none}
 use Rattle.buffer_cache.proofs.Tills.{no_stop, on_stopped}
 use Rattle.buffer_cache.proofs.Wholes.{never_stopped, stop_is}
 
 -- it stopped
 pub served_stopped : {A : Type 0} {does : Stage → Stage → Type 0} {line unit block : ℕ} {from : Option (List ℕ)} {asks : Stage → List Request} {s s' : State} {old new : Spot} (result : Result A CacheFault) (stop : Stop)
     → IsErrAnd result (λ x. x ≡ fault.Stop stop) → IfTold s (seen old) (seen new) (Holds unit block from s (seen old) (seen new)) → RefusesOnce s s'
-    → IfTold s (seen old) (seen new) (AsksTill stop line (asks (seen old)) (seen old) (seen new)) → KeepsSpot old new (Some stop) → Serves does line unit block from asks result s s' old new
+    → IfTold s (seen old) (seen new) (AsksTill stop line (asks (seen old)) (seen old) (seen new)) → Keeps old new (Some stop) → Serves does line unit block from asks result s s' old new
 served_stopped {line = line} {asks = asks} {s = s} {old = old} {new = new} result stop is holds refused till keeps = record {
   done = λ e. never_stopped result stop is e;
   holds = holds;
   may = λ e. never_stopped result stop is e;
   refused = refused;
   till = on_stopped (λ z. IfTold s (seen old) (seen new) (AsksTill z line (asks (seen old)) (seen old) (seen new))) result stop is till;
-  keeps = subst (KeepsSpot old new) (sym (stop_is result stop is)) keeps;
+  keeps = subst (Keeps old new) (sym (stop_is result stop is)) keeps;
 }
 
 -- it was an entry, and nothing was called
@@ -40,7 +36,7 @@ served_here {here = here} none does may refused = record {
   may = λ e. may;
   refused = inl refused;
   till = λ stop e. no_stop stop (sym none ∙ e);
-  keeps = subst (KeepsSpot here here) (sym none) (keeps_none here may.ready);
+  keeps = subst (Keeps here here) (sym none) (keeps_none here may.ready);
 }
 
 -- it was none, and is served as it is where what was lent is left
@@ -61,7 +57,7 @@ module _ {A : Type 0} (does : State → Stage → Stage → Type 0) (line unit b
 
 -- ---- a sync that stopped
 pub sync_stopped : {line : ℕ} {s s' : State} {old new : Spot} (result : Result (Unit {0}) Stop) (stop : Stop) → IsErrAnd result (λ x. x ≡ stop) → IfTold s (seen old) (seen new) (Holds 0 0 None s (seen old) (seen new))
-    → s'.refused ≡ s.refused → AsksTill stop line (written_back s.entries) (seen old) (seen new) → KeepsSpot old new (Some stop) → SyncsOrStops line result s s' old new
+    → s'.refused ≡ s.refused → AsksTill stop line (written_back s.entries) (seen old) (seen new) → Keeps old new (Some stop) → SyncsOrStops line result s s' old new
 sync_stopped (Ok value) stop is holds refused till keeps = absurd is
 sync_stopped {line = line} {s = s} {old = old} {new = new} (Err other) stop is holds refused till keeps = record {
   done = tt;
@@ -69,20 +65,7 @@ sync_stopped {line = line} {s = s} {old = old} {new = new} (Err other) stop is h
   may = tt;
   refused = refused;
   till = subst (λ z. AsksTill z line (written_back s.entries) (seen old) (seen new)) (sym is) till;
-  keeps = subst (λ z. KeepsSpot old new (Some z)) (sym is) keeps;
-}
-
--- what is kept where a call stands is kept of its arguments
-pub keeps_of : {O Q : Type 0} (holds : Q → Bool) (held : Q → ℕ → Pack) (packs_faults : Q → ℕ) (tells : O → Bool) (taken : O → List ℕ) (faults : O → ℕ) (s s' : Driver) (packs packs' : Q) (trace trace' : O) {stop : Option Stop}
-    → KeepsSpot (spot holds held packs_faults tells taken faults s packs trace) (spot holds held packs_faults tells taken faults s' packs' trace') stop
-    → Keeps holds packs_faults tells faults s s' packs packs' trace trace' stop
-keeps_of holds held packs_faults tells taken faults s s' packs packs' trace trace' k = record {
-  ready = k.ready;
-  units = k.units;
-  outstanding = k.outstanding;
-  never_again = k.never_again;
-  never_again_trace = k.never_again_trace;
-  causes = k.causes;
+  keeps = subst (λ z. Keeps old new (Some z)) (sym is) keeps;
 }
 
 -- ---- memory refuses once at the most

@@ -3,8 +3,6 @@ use Rattle.std.proofs.Common.{◌≡◌, ℕ, Bool, true, false, IsTrue, List, [
 use Rattle.std.specs.Prelude.{if◌then◌else◌, Result, Ok, Err, IsErrAnd}
 use Rattle.std.proofs.lemmas.Option.{none-some}
 use Rattle.driver_laws.specs.declared.answers.outcome.Stop.{Stop}
-use Rattle.buffer_cache.specs.Passes.{State as Driver}
-use Rattle.buffer_cache.specs.Passes.{Keeps}
 use Rattle.driver_laws.specs.rules.Rest.{HasTables}
 use Rattle.buffer_cache.specs.Passes.{Stage}
 use Rattle.buffer_cache.specs.Passes.{setup_at}
@@ -129,9 +127,3 @@ stop_is (Err other) stop is = ap (λ (x : CacheFault). stop_of {A = Unit {0}} (E
 
 pub never_stopped : {A B : Type 0} (result : Result A CacheFault) (stop : Stop) → IsErrAnd result (λ x. x ≡ fault.Stop stop) → stop_of result ≡ None → B
 never_stopped result stop is none = absurd (none-some stop (sym none ∙ stop_is result stop is))
-
-pub keeps_stopped : {A O Q : Type 0} (holds : Q → Bool) (packs_faults : Q → ℕ) (tells : O → Bool) (faults : O → ℕ) (old new : Driver) (packs packs' : Q) (trace trace' : O) (result : Result A CacheFault) (stop : Stop)
-    → IsErrAnd result (λ x. x ≡ fault.Stop stop) → Keeps holds packs_faults tells faults old new packs packs' trace trace' (Some stop)
-    → Keeps holds packs_faults tells faults old new packs packs' trace trace' (stop_of result)
-keeps_stopped holds packs_faults tells faults old new packs packs' trace trace' result stop is k =
-    subst (λ z. Keeps holds packs_faults tells faults old new packs packs' trace trace' z) (sym (stop_is result stop is)) k

@@ -1,135 +1,106 @@
 -- What a line asks for: how it is answered, and what it leaves.
-use Rattle.std.proofs.Common.{◌≡◌, ℕ, ◌+◌, ◌≤◌, List, [], length, None, Some, sym, ap, ◌∙◌, subst}
-use Rattle.pack_geometry.specs.declared.DriveKind.{DriveKind}
+use Rattle.std.proofs.Common.{◌≡◌, ℕ, ◌+◌, ◌≤◌, List, [], length, Option, None, Some, refl, sym, ap, ◌∙◌, subst}
+use Rattle.std.specs.Prelude.{Result, Ok, Err, IsErrAnd, option_map}
 use Rattle.partitions.specs.declared.Part.TheVariants.{C}
 use Rattle.partitions.specs.declared.Admission.TheVariants.{Inside, Eof, Outside}
 use Rattle.partitions.specs.Partitions.{admission, first_of}
+use Rattle.trace_replay.specs.requests.Requests.{Request}
 use Rattle.trace_replay.specs.declared.requests.answers.AnswerKind.{AnswerKind}
 use Rattle.trace_replay.specs.declared.requests.answers.AnswerKind.TheVariants as answer
 use Rattle.trace_replay.specs.declared.requests.answers.Cause.TheVariants as cause
-use Rattle.buffer_cache.specs.Passes.{Stage}
-use Rattle.buffer_cache.specs.Passes.{map_at}
-use Rattle.driver_laws.specs.rules.Requests.{Map}
-use Rattle.driver_laws.specs.rules.Entries.{State}
-use Rattle.driver_laws.specs.rules.Contents.{cached}
 use Rattle.driver_laws.specs.declared.answers.outcome.Stop.{Stop}
-use Rattle.buffer_cache.specs.Calls.{IfTold}
+use Rattle.buffer_cache.proofs.Passes.{keeps_none}
+use Rattle.buffer_cache.specs.Passes.{Keeps}
+use Rattle.buffer_cache.specs.Passes.{kind_at, seen}
+use Rattle.buffer_cache.specs.Calls.{IfTold, MayUse}
 use Rattle.script_reader.specs.declared.cached.statement.Asked.{Asked}
-use Rattle.cached_run.specs.Answers.{Replacement, replaced_with}
+use Rattle.script_reader.specs.cached.Meaning.{filled, one_filled}
+use Rattle.cached_run.specs.Answers.{replaced_with}
 use Rattle.cached_run.specs.Sessions.{blocks_at, calls_with}
-use Rattle.cached_run.specs.Leaving.{IsCalled, IsCutIn, Leaves, Makes, AreRead, Does, usable_in, tried_in, touches, spread}
-use Rattle.script_reader.specs.cached.Meaning.{request_of, filled, one_filled}
-use Rattle.cached_run.specs.Saying.{kind_by, IsSaid}
+use Rattle.cached_run.specs.Leaving.{Does, IsCalled, IsCutIn, Leaves, Makes, touches, tried_in, usable_in}
+use Rattle.cached_run.specs.Saying.{kind_by, GivesAmong, IsSaid}
+use Rattle.cached_run.specs.Places.{AreMoved, Answers, MovesAll, Place, asked_with, contents_at, moved, whole_by, world_at}
 use Rattle.cached_run.proofs.Calls.{called_none}
+use Rattle.cached_run.proofs.Keepings.{setup_none}
 use Rattle.cached_run.proofs.Leavings.{leaves_none, makes_none}
-use Rattle.cached_run.proofs.Sayings.{outside_said, eof_said, asked_read, asked_write, spread_is, touches_read, touches_write, none_outside, none_eof}
+use Rattle.cached_run.proofs.Sayings.{outside_said, eof_said, asked_read, asked_write, none_read, spread_is, touches_read, touches_write, none_outside, none_eof, read_among, wrote_among}
 
--- ---- A READ
-abbrev pub ReadAs : DriveKind → (line : ℕ) → Asked → AnswerKind → List (List ℕ) → (s s' : State) → (old new : Stage) → Type 0
-ReadAs kind line a how lines s s' old new = IfTold s old new (Does (λ contents. calls_with kind (contents a.unit) line (request_of a None)) [] (λ contents. IsSaid kind (contents a.unit) (request_of a None) how lines) s s' old new)
+-- ---- its partition refuses it
+module _ (line : ℕ) (r : Request) (lines : List (List ℕ)) (here : Place) (may : MayUse here.cache here.spot.driver) where
+  refused : (how : AnswerKind) → calls_with (kind_at (world_at here) r.unit) (contents_at here r.unit) line r ≡ [] → [] ≡ replaced_with (kind_at (world_at here) r.unit) (contents_at here r.unit) r
+      → IsSaid (kind_at (world_at here) r.unit) (contents_at here r.unit) r how lines → Answers line r lines (Ok how) here here
+  refused how none list said = record {
+    done = λ t tables fit. record {
+      calls = subst (λ z. IsCalled z here.cache here.cache (seen here.spot) (seen here.spot)) (sym none) (called_none here.cache (seen here.spot));
+      leaves = leaves_none (replaced_with (kind_at (world_at here) r.unit) (contents_at here r.unit) r) here.cache (seen here.spot);
+      makes = subst (λ z. Makes z here.cache here.cache (seen here.spot) (seen here.spot)) list (makes_none here.cache (seen here.spot) fit);
+      says = said;
+    };
+    left = tt;
+    cut = tt;
+    setup = setup_none (seen here.spot);
+    may = may;
+    keeps = keeps_none here.spot may.ready;
+    silent = refl;
+  }
 
-pub read_outside : (kind : DriveKind) (line : ℕ) (a : Asked) (lines : List (List ℕ)) (s : State) (here : Stage) → admission kind C a.block a.count ≡ Outside → ReadAs kind line a (answer.Error cause.Partition 0) lines s s here here
-read_outside kind line a lines s here met t tables fit = record {
-  calls = subst (λ z. IsCalled z s s here here) (sym (ap (λ z. blocks_at z (cached s.entries (map_at here) a.unit) line (first_of kind C + a.block) (request_of a None)) met)) (called_none s here);
-  leaves = leaves_none [] s here;
-  makes = makes_none s here fit;
-  says = outside_said kind (cached s.entries (map_at here) a.unit) (request_of a None) lines met;
-}
+  pub answer_outside : admission (kind_at (world_at here) r.unit) r.part r.block r.count ≡ Outside → Answers line r lines (Ok (answer.Error cause.Partition 0)) here here
+  answer_outside met = refused (answer.Error cause.Partition 0)
+      (ap (λ z. blocks_at z (contents_at here r.unit) line (first_of (kind_at (world_at here) r.unit) r.part + r.block) r) met)
+      (none_outside (kind_at (world_at here) r.unit) (contents_at here r.unit) r met) (outside_said (kind_at (world_at here) r.unit) (contents_at here r.unit) r lines met)
 
-pub read_eof : (kind : DriveKind) (line : ℕ) (a : Asked) (lines : List (List ℕ)) (s : State) (here : Stage) → admission kind C a.block a.count ≡ Eof → ReadAs kind line a answer.Eof lines s s here here
-read_eof kind line a lines s here met t tables fit = record {
-  calls = subst (λ z. IsCalled z s s here here) (sym (ap (λ z. blocks_at z (cached s.entries (map_at here) a.unit) line (first_of kind C + a.block) (request_of a None)) met)) (called_none s here);
-  leaves = leaves_none [] s here;
-  makes = makes_none s here fit;
-  says = eof_said kind (cached s.entries (map_at here) a.unit) (request_of a None) lines met;
-}
+  pub answer_eof : admission (kind_at (world_at here) r.unit) r.part r.block r.count ≡ Eof → Answers line r lines (Ok answer.Eof) here here
+  answer_eof met = refused answer.Eof
+      (ap (λ z. blocks_at z (contents_at here r.unit) line (first_of (kind_at (world_at here) r.unit) r.part + r.block) r) met)
+      (none_eof (kind_at (world_at here) r.unit) (contents_at here r.unit) r met) (eof_said (kind_at (world_at here) r.unit) (contents_at here r.unit) r lines met)
 
-pub read_inside : (kind : DriveKind) (line : ℕ) (a : Asked) (first done count : ℕ) (how : AnswerKind) (lines : List (List ℕ)) (s s' : State) (old new : Stage)
-    → admission kind C a.block a.count ≡ Inside first → first ≡ first_of kind C + a.block → count ≡ a.count → how ≡ kind_by done count (answer.ReadOk count 512) → a.count ≤ length lines
-    → IfTold s old new (Does (λ contents. touches (tried_in contents a.unit first count) line a.unit first None) [] (λ contents. AreRead contents a.unit first count done lines) s s' old new)
-    → ReadAs kind line a how lines s s' old new
-read_inside kind line a first done count how lines s s' old new met is same how_is room does t tables fit =
-    let d = does t tables fit in
-    record {
-      calls = subst (λ z. IsCalled z s s' old new)
-          (ap (λ n. touches (tried_in (cached s.entries (map_at old)) a.unit first n) line a.unit first None) same ∙ touches_read kind line a (cached s.entries (map_at old)) first met is) d.calls;
-      leaves = d.leaves;
-      makes = d.makes;
-      says = subst (λ z. IsSaid kind (cached s.entries (map_at old) a.unit) (request_of a None) z lines) (sym (how_is ∙ ap (λ n. kind_by done n (answer.ReadOk n 512)) same))
-          (asked_read kind (cached s.entries (map_at old)) a first done met is lines room (subst (λ n. AreRead (cached s.entries (map_at old)) a.unit first n done lines) same d.says));
-    }
+-- ---- or its blocks are read or written
+module _ (line : ℕ) (a : Asked) (first : ℕ) (lines : List (List ℕ)) (old new : Place) (met : admission (kind_at (world_at old) a.unit) C a.block a.count ≡ Inside first) (is : first ≡ first_of (kind_at (world_at old) a.unit) C + a.block) where
+  its_calls : (fill : Option ℕ) → touches (tried_in (contents_at old) a.unit first a.count) line a.unit first (option_map one_filled fill) ≡ calls_with (kind_at (world_at old) a.unit) (contents_at old a.unit) line (asked_with a fill)
+  its_calls None = touches_read (kind_at (world_at old) a.unit) line a (contents_at old) first met is
+  its_calls (Some byte) = touches_write (kind_at (world_at old) a.unit) line a byte (contents_at old) first met is
 
-pub read_cut : (stop : Stop) (kind : DriveKind) (line : ℕ) (a : Asked) (first count : ℕ) (s : State) (old new : Stage) → admission kind C a.block a.count ≡ Inside first → first ≡ first_of kind C + a.block → count ≡ a.count
-    → IfTold s old new (IsCutIn stop [] (touches (tried_in (cached s.entries (map_at old)) a.unit first count) line a.unit first None) s old new)
-    → IfTold s old new (IsCutIn stop [] (calls_with kind (cached s.entries (map_at old) a.unit) line (request_of a None)) s old new)
-read_cut stop kind line a first count s old new met is same cut t tables fit =
-    subst (λ z. IsCutIn stop [] z s old new)
-    (ap (λ n. touches (tried_in (cached s.entries (map_at old)) a.unit first n) line a.unit first None) same ∙ touches_read kind line a (cached s.entries (map_at old)) first met is) (cut t tables fit)
+  its_list : (fill : Option ℕ) → moved (option_map one_filled fill) (usable_in (contents_at old) a.unit first a.count) a.unit first ≡ replaced_with (kind_at (world_at old) a.unit) (contents_at old a.unit) (asked_with a fill)
+  its_list None = none_read (kind_at (world_at old) a.unit) (contents_at old a.unit) a
+  its_list (Some byte) = spread_is a byte (kind_at (world_at old) a.unit) (contents_at old) first met is
 
--- ---- A WRITE, of blocks all of whose bytes are one
-abbrev pub list_of : DriveKind → Map → Asked → (fill : ℕ) → List Replacement
-list_of kind contents a fill = replaced_with kind (contents a.unit) (request_of a (Some (filled a.count fill)))
+  its_text : (fill : Option ℕ) (done : ℕ) → a.count ≤ length lines → AreMoved (option_map one_filled fill) (contents_at old) a.unit first a.count done lines
+      → IsSaid (kind_at (world_at old) a.unit) (contents_at old a.unit) (asked_with a fill) (kind_by done a.count (whole_by fill a.count)) lines
+  its_text None done room are = asked_read (kind_at (world_at old) a.unit) (contents_at old) a first done met is lines room are
+  its_text (Some byte) done room are = asked_write (kind_at (world_at old) a.unit) (contents_at old) a first done met is byte lines are
 
-abbrev pub WriteAs : DriveKind → (line : ℕ) → Asked → (fill : ℕ) → AnswerKind → (s s' : State) → (old new : Stage) → Type 0
-WriteAs kind line a fill how s s' old new = IfTold s old new (Does (λ contents. calls_with kind (contents a.unit) line (request_of a (Some (filled a.count fill)))) (list_of kind (cached s.entries (map_at old)) a fill)
-    (λ contents. (lines : List (List ℕ)) → IsSaid kind (contents a.unit) (request_of a (Some (filled a.count fill))) how lines) s s' old new)
+  pub answer_done : (fill : Option ℕ) (done : ℕ) → a.count ≤ length lines → MovesAll line a.unit first a.count (option_map one_filled fill) lines (Ok done) old new
+      → Answers line (asked_with a fill) lines (Ok (kind_by done a.count (whole_by fill a.count))) old new
+  answer_done fill done room m = record {
+    done = λ t tables fit.
+        let d = m.done t tables fit in
+        record {
+          calls = subst (λ z. IsCalled z old.cache new.cache (seen old.spot) (seen new.spot)) (its_calls fill) d.calls;
+          leaves = subst (λ z. Leaves z old.cache (seen old.spot) (seen new.spot)) (its_list fill) d.leaves;
+          makes = subst (λ z. Makes z old.cache new.cache (seen old.spot) (seen new.spot)) (its_list fill) d.makes;
+          says = its_text fill done room d.says;
+        };
+    left = tt;
+    cut = tt;
+    setup = m.setup;
+    may = m.may;
+    keeps = m.keeps;
+    silent = m.silent;
+  }
 
-pub write_outside : (kind : DriveKind) (line : ℕ) (a : Asked) (fill : ℕ) (s : State) (here : Stage) → admission kind C a.block a.count ≡ Outside → WriteAs kind line a fill (answer.Error cause.Partition 0) s s here here
-write_outside kind line a fill s here met t tables fit = record {
-  calls = subst (λ z. IsCalled z s s here here) (sym (ap (λ z. blocks_at z (cached s.entries (map_at here) a.unit) line (first_of kind C + a.block) (request_of a (Some (filled a.count fill)))) met)) (called_none s here);
-  leaves = leaves_none (list_of kind (cached s.entries (map_at here)) a fill) s here;
-  makes = subst (λ z. Makes z s s here here) (none_outside kind (cached s.entries (map_at here) a.unit) (request_of a (Some (filled a.count fill))) met) (makes_none s here fit);
-  says = λ lines. outside_said kind (cached s.entries (map_at here) a.unit) (request_of a (Some (filled a.count fill))) lines met;
-}
+  pub answer_cut : (fill : Option ℕ) (result : Result AnswerKind Stop) (stop : Stop) → IsErrAnd result (λ x. x ≡ stop) → MovesAll line a.unit first a.count (option_map one_filled fill) lines (Err stop) old new
+      → Answers line (asked_with a fill) lines result old new
+  answer_cut fill (Ok how) stop same m = absurd same
+  answer_cut fill (Err other) stop same m = subst (λ z. Answers line (asked_with a fill) lines (Err z) old new) (sym same) (record {
+    done = tt;
+    left = λ t tables fit. subst (λ z. Leaves z old.cache (seen old.spot) (seen new.spot)) (its_list fill) (m.left t tables fit);
+    cut = λ t tables fit. subst (λ z. IsCutIn stop [] z old.cache (seen old.spot) (seen new.spot)) (its_calls fill) (m.cut t tables fit);
+    setup = tt;
+    may = tt;
+    keeps = m.keeps;
+    silent = m.silent;
+  })
 
-pub write_eof : (kind : DriveKind) (line : ℕ) (a : Asked) (fill : ℕ) (s : State) (here : Stage) → admission kind C a.block a.count ≡ Eof → WriteAs kind line a fill answer.Eof s s here here
-write_eof kind line a fill s here met t tables fit = record {
-  calls = subst (λ z. IsCalled z s s here here) (sym (ap (λ z. blocks_at z (cached s.entries (map_at here) a.unit) line (first_of kind C + a.block) (request_of a (Some (filled a.count fill)))) met)) (called_none s here);
-  leaves = leaves_none (list_of kind (cached s.entries (map_at here)) a fill) s here;
-  makes = subst (λ z. Makes z s s here here) (none_eof kind (cached s.entries (map_at here) a.unit) (request_of a (Some (filled a.count fill))) met) (makes_none s here fit);
-  says = λ lines. eof_said kind (cached s.entries (map_at here) a.unit) (request_of a (Some (filled a.count fill))) lines met;
-}
-
-pub wrote_with : (kind : DriveKind) (line : ℕ) (a : Asked) (fill : ℕ) (how : AnswerKind) (lines : List (List ℕ)) (s s' : State) (old new : Stage) → WriteAs kind line a fill how s s' old new
-    → IfTold s old new (Does (λ contents. calls_with kind (contents a.unit) line (request_of a (Some (filled a.count fill)))) (list_of kind (cached s.entries (map_at old)) a fill) (λ contents. IsSaid kind (contents a.unit) (request_of a (Some (filled a.count fill))) how lines) s s' old new)
-wrote_with kind line a fill how lines s s' old new does t tables fit =
-    let d = does t tables fit in
-    record { calls = d.calls; leaves = d.leaves; makes = d.makes; says = d.says lines }
-
-module _ (kind : DriveKind) (a : Asked) (fill first count : ℕ) (from : List ℕ) (s : State) (old new : Stage) (met : admission kind C a.block a.count ≡ Inside first) (is : first ≡ first_of kind C + a.block)
-    (same : count ≡ a.count) (from_is : from ≡ one_filled fill) where
-  its_list : spread (usable_in (cached s.entries (map_at old)) a.unit first count) a.unit first from ≡ list_of kind (cached s.entries (map_at old)) a fill
-  its_list =
-      ap (λ n. spread (usable_in (cached s.entries (map_at old)) a.unit first n) a.unit first from) same
-      ∙ ap (λ z. spread (usable_in (cached s.entries (map_at old)) a.unit first a.count) a.unit first z) from_is
-      ∙ spread_is a fill kind (cached s.entries (map_at old)) first met is
-
-  pub write_inside : (line done : ℕ) (how : AnswerKind) (s' : State) → how ≡ kind_by done count answer.WriteOk
-      → IfTold s old new (Does (λ contents. touches (tried_in contents a.unit first count) line a.unit first (Some from)) (spread done a.unit first from) (λ contents. done ≡ usable_in contents a.unit first count) s s' old new)
-      → WriteAs kind line a fill how s s' old new
-  write_inside line done how s' how_is does t tables fit =
-      let d = does t tables fit in
-      let list_is = ap (λ n. spread n a.unit first from) d.says ∙ its_list in
-      record {
-        calls = subst (λ z. IsCalled z s s' old new)
-            (ap (λ n. touches (tried_in (cached s.entries (map_at old)) a.unit first n) line a.unit first (Some from)) same
-            ∙ ap (λ z. touches (tried_in (cached s.entries (map_at old)) a.unit first a.count) line a.unit first (Some z)) from_is
-            ∙ touches_write kind line a fill (cached s.entries (map_at old)) first met is) d.calls;
-        leaves = subst (λ z. Leaves z s old new) list_is d.leaves;
-        makes = subst (λ z. Makes z s s' old new) list_is d.makes;
-        says = λ lines. subst (λ z. IsSaid kind (cached s.entries (map_at old) a.unit) (request_of a (Some (filled a.count fill))) z lines) (sym (how_is ∙ ap (λ n. kind_by done n answer.WriteOk) same))
-            (asked_write kind (cached s.entries (map_at old)) a first done met is fill lines (d.says ∙ ap (usable_in (cached s.entries (map_at old)) a.unit first) same));
-      }
-
-  pub write_halts : IfTold s old new (Leaves (spread (usable_in (cached s.entries (map_at old)) a.unit first count) a.unit first from) s old new)
-      → IfTold s old new (Leaves (list_of kind (cached s.entries (map_at old)) a fill) s old new)
-  write_halts leaves t tables fit = subst (λ z. Leaves z s old new) its_list (leaves t tables fit)
-
-  pub write_cut : (stop : Stop) (line : ℕ)
-      → IfTold s old new (IsCutIn stop [] (touches (tried_in (cached s.entries (map_at old)) a.unit first count) line a.unit first (Some from)) s old new)
-      → IfTold s old new (IsCutIn stop [] (calls_with kind (cached s.entries (map_at old) a.unit) line (request_of a (Some (filled a.count fill)))) s old new)
-  write_cut stop line cut t tables fit =
-      subst (λ z. IsCutIn stop [] z s old new)
-      (ap (λ n. touches (tried_in (cached s.entries (map_at old)) a.unit first n) line a.unit first (Some from)) same
-      ∙ ap (λ z. touches (tried_in (cached s.entries (map_at old)) a.unit first a.count) line a.unit first (Some z)) from_is
-      ∙ touches_write kind line a fill (cached s.entries (map_at old)) first met is) (cut t tables fit)
+pub answer_among : (fill : Option ℕ) (done count : ℕ) (lines : List (List ℕ)) → count ≤ length lines → GivesAmong (kind_by done count (whole_by fill count)) lines
+answer_among None done count lines room = read_among done count lines room
+answer_among (Some byte) done count lines room = wrote_among done count lines

@@ -3,6 +3,7 @@ mod Leavings
 mod Firsts
 mod Readings
 mod Writings
+mod Touching
 mod Legal
 mod Inputs
 mod Sayings

@@ -6,6 +6,7 @@ pub mod Saying
 pub mod Faults
 pub mod Going
 pub mod Lines
+pub mod Places
 pub use Rattle.buffer_cache.specs.Asks
 pub use Rattle.buffer_cache.specs.Passes
 pub use Rattle.buffer_cache.specs.Calls

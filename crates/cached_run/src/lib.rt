@@ -6,7 +6,7 @@ mod bench;
 mod lines;
 mod play;
 mod requests;
-mod transfers;
+mod scene;
 
 pub use play::play_cached;
 pub use script_runs::PlayFault as CachedPlayFault;

@@ -1,24 +1,18 @@
 // A script is played to its end.
-ghost use Rattle.std.specs.Prelude.{◌≡◌, ◌≤◌, ℕ, [], IsTrue, IfErr, OnOk, OnErr};
-ghost use Rattle.trace_replay.specs.Script.{inputs_of};
-ghost use Rattle.driver_laws.specs.rules.Rest.{HasTables};
-ghost use Rattle.buffer_cache.specs.Passes.{setup_at};
-ghost use Rattle.buffer_cache.specs.Passes.{site};
+ghost use Rattle.std.specs.Prelude.{◌≡◌, ◌≤◌, ℕ, [], IsTrue, IfErr, OnOk};
 ghost use Rattle.buffer_cache.specs.Calls.{MayUse};
 ghost use Rattle.script_runs.specs.Steps.{AreUnits};
 ghost use Rattle.script_runs.specs.Stops.{took};
-ghost use Rattle.script_runs.specs.Faults.{AreUntouched, HaveTold};
 ghost use Rattle.script_runs.specs.Lengths.{IsTooLong};
-ghost use Rattle.script_runs.specs.Faults.{IsBefore, IsPlaying, IsLongFor, Rise};
-ghost use Rattle.cached_run.specs.Faults.{IsCaused};
-ghost use Rattle.cached_run.specs.Going.{scene, IsFar, HaltsScript};
-ghost use Rattle.cached_run.specs.Lines.{IsRoomy};
+ghost use Rattle.script_runs.specs.Faults.{AreUntouched, HaveTold, IsBefore, IsPlaying, IsLongFor, Rise};
 ghost use Rattle.script_reader.specs.cached.Meaning.{meaning_of};
+ghost use Rattle.cached_run.specs.Lines.{IsRoomy};
+ghost use Rattle.cached_run.specs.Places.{PlaysScript, world_at};
 ghost use Rattle.cached_run.specs.Theorem.{CachedPlays, CachedLeaves};
 
 use crate::bench::Bench;
 use crate::lines::{play_line, play_sync};
-use buffer_cache::{Cache, Subsystem};
+use crate::scene::{Scene, Stand};
 use outside_traits::traits::{Packs, Sink};
 use script_reader::cached::CachedScript;
 use script_runs::desk::Desk;
@@ -27,36 +21,20 @@ use std::alloc::Global;
 
 /// Plays the lines of a script over units that are set up for it, and a sync after the last line. The number of the sync is the number
 /// of lines plus one.
-fn play_lines<P: Packs, O: Sink, T: Sink>(
-    script: &CachedScript,
-    cache: &mut Cache,
-    subsystem: &mut Subsystem,
-    desk: &mut Desk,
-    packs: &mut P,
-    out: &mut O,
-    trace: &mut T,
-) -> Result<(), PlayFault>
-    requires units { AreUnits (meaning_of script.now) subsystem.old.world }
-    requires may { MayUse cache.old subsystem.old }
+fn play_lines<S: Scene>(script: &CachedScript, scene: &mut S, desk: &mut Desk) -> Result<(), PlayFault>
+    requires units { AreUnits (meaning_of script.now) (world_at (S.at scene.old)) }
+    requires may { MayUse (S.at scene.old).cache (S.at scene.old).spot.driver }
     requires desk { IsRoomy desk.old.gather desk.old.blocks.items }
-    requires empty { cache.old.entries ≡ [] }
-    ensures plays { OnOk result (IsTrue (P.tells packs.new)
-        → HasTables (setup_at (site P.tells P.held T.tells T.taken subsystem.old.world packs.old trace.old))
-        → IsFar (scene P.tells P.held O.tells O.taken O.faults T.tells T.taken T.faults subsystem.old.world packs.old out.old trace.old) cache.old (inputs_of (meaning_of script.now)) cache.new
-        (scene P.tells P.held O.tells O.taken O.faults T.tells T.taken T.faults subsystem.new.world packs.new out.new trace.new)) }
-    ensures stops { OnErr result (IsTrue (P.tells packs.new)
-        → HasTables (setup_at (site P.tells P.held T.tells T.taken subsystem.old.world packs.old trace.old)) → HaltsScript (meaning_of script.now) cache.old
-        (scene P.tells P.held O.tells O.taken O.faults T.tells T.taken T.faults subsystem.old.world packs.old out.old trace.old)
-        (scene P.tells P.held O.tells O.taken O.faults T.tells T.taken T.faults subsystem.new.world packs.new out.new trace.new)) }
-    ensures told { HaveTold (P.tells packs.old) (P.tells packs.new) (O.tells out.old) (O.tells out.new) (T.tells trace.old) (T.tells trace.new) }
-    ensures causes { IsCaused (P.faults packs.old) (P.faults packs.new) (O.faults out.old) (O.faults out.new) (T.faults trace.old) (T.faults trace.new) result }
+    requires empty { (S.at scene.old).cache.entries ≡ [] }
+    ensures plays { PlaysScript (meaning_of script.now) result (S.at scene.old) (S.at scene.new) }
+    ensures loans { S.loans scene.new ≡ S.loans scene.old }
 {
     script.law();
     let number = u64::from(script.count()) + 1;
     for line in script.lines() {
-        play_line(line, cache, subsystem, desk, packs, out, trace)?;
+        play_line(line, scene, desk)?;
     }
-    play_sync(number, cache, subsystem, packs, trace)
+    play_sync(number, scene)
 }
 
 /// Plays a script line by line through a cache of `capacity` blocks, 1 to 4,096, and a sync after its last line. The number of the sync
@@ -98,13 +76,12 @@ pub fn play_cached<P: Packs, O: Sink, T: Sink>(
         let units = attach_units(alloc, script, packs)?;
         Bench::new(alloc, units.as_slice(), capacity)?
     };
-    play_lines(
-        script,
-        &mut bench.cache,
-        &mut bench.subsystem,
-        &mut bench.desk,
+    let mut scene = Stand {
+        cache: &mut bench.cache,
+        subsystem: &mut bench.subsystem,
         packs,
         out,
         trace,
-    )
+    };
+    play_lines(script, &mut scene, &mut bench.desk)
 }
