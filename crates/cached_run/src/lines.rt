@@ -42,7 +42,11 @@ pub(crate) fn play_sync<S: Scene>(number: u64, scene: &mut S) -> Result<(), Play
 }
 
 /// Plays a line of a script.
-pub(crate) fn play_line<S: Scene>(line: &Line, scene: &mut S, desk: &mut Desk) -> Result<(), PlayFault>
+pub(crate) fn play_line<S: Scene>(
+    line: &Line,
+    scene: &mut S,
+    desk: &mut Desk,
+) -> Result<(), PlayFault>
     requires line { 1 ≤ line.now.number }
     requires may { MayUse (S.at scene.old).cache (S.at scene.old).spot.driver }
     requires ask { MayPlay (world_at (S.at scene.old)) line.now.statement }

@@ -21,7 +21,11 @@ use std::alloc::Global;
 
 /// Plays the lines of a script over units that are set up for it, and a sync after the last line. The number of the sync is the number
 /// of lines plus one.
-fn play_lines<S: Scene>(script: &CachedScript, scene: &mut S, desk: &mut Desk) -> Result<(), PlayFault>
+fn play_lines<S: Scene>(
+    script: &CachedScript,
+    scene: &mut S,
+    desk: &mut Desk,
+) -> Result<(), PlayFault>
     requires units { AreUnits (meaning_of script.now) (world_at (S.at scene.old)) }
     requires may { MayUse (S.at scene.old).cache (S.at scene.old).spot.driver }
     requires desk { IsRoomy desk.old.gather desk.old.blocks.items }

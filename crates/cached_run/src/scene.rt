@@ -51,7 +51,13 @@ pub(crate) trait Scene {
         ensures loans { loans self.new ≡ loans self.old };
 
     /// Writes the answer to the request with an id, which came at a line.
-    fn say(&mut self, line: u64, id: u32, kind: AnswerKind, desk: &mut Desk) -> Result<(), SinkFailed>
+    fn say(
+        &mut self,
+        line: u64,
+        id: u32,
+        kind: AnswerKind,
+        desk: &mut Desk,
+    ) -> Result<(), SinkFailed>
         requires desk { IsRoomy desk.old.gather desk.old.blocks.items }
         requires among { GivesAmong kind desk.old.blocks.items }
         ensures says { Puts (λ (p : Place). p.out_tells) (λ (p : Place). p.said) (λ (p : Place). p.out_faults) (at self.old) (at self.new) result (said_text line id kind desk.old.blocks.items) }
@@ -71,8 +77,13 @@ pub(crate) struct Stand<'c, 's, 'p, 'o, 't, P: Packs, O: Sink, T: Sink> {
 }
 
 impl<'c, 's, 'p, 'o, 't, P: Packs, O: Sink, T: Sink> Scene for Stand<'c, 's, 'p, 'o, 't, P, O, T> {
-    ghost at = { λ s. record { cache = s.cache.now; spot = spot P.tells P.held P.faults T.tells T.taken T.faults s.subsystem.now s.packs.now s.trace.now;
-        out_tells = O.tells s.out.now; said = O.taken s.out.now; out_faults = O.faults s.out.now } };
+    ghost at = { λ s. record {
+      cache = s.cache.now;
+      spot = spot P.tells P.held P.faults T.tells T.taken T.faults s.subsystem.now s.packs.now s.trace.now;
+      out_tells = O.tells s.out.now;
+      said = O.taken s.out.now;
+      out_faults = O.faults s.out.now;
+    } };
 
     ghost loans = { λ s. s.cache.ghost_name ∷ s.subsystem.ghost_name ∷ s.packs.ghost_name ∷ s.out.ghost_name ∷ s.trace.ghost_name ∷ [] };
 
@@ -89,16 +100,39 @@ impl<'c, 's, 'p, 'o, 't, P: Packs, O: Sink, T: Sink> Scene for Stand<'c, 's, 'p,
         into: &mut [u8; 512],
     ) -> Result<(), CacheFault> {
         match written {
-            Some(from) => self.cache.write(self.subsystem, line, unit, block, from, self.packs, self.trace),
-            None => self.cache.read(self.subsystem, line, unit, block, into, self.packs, self.trace),
+            Some(from) => self.cache.write(
+                self.subsystem,
+                line,
+                unit,
+                block,
+                from,
+                self.packs,
+                self.trace,
+            ),
+            None => self.cache.read(
+                self.subsystem,
+                line,
+                unit,
+                block,
+                into,
+                self.packs,
+                self.trace,
+            ),
         }
     }
 
     fn sync(&mut self, line: u64) -> Result<(), Stop> {
-        self.cache.sync(self.subsystem, line, self.packs, self.trace)
+        self.cache
+            .sync(self.subsystem, line, self.packs, self.trace)
     }
 
-    fn say(&mut self, line: u64, id: u32, kind: AnswerKind, desk: &mut Desk) -> Result<(), SinkFailed> {
+    fn say(
+        &mut self,
+        line: u64,
+        id: u32,
+        kind: AnswerKind,
+        desk: &mut Desk,
+    ) -> Result<(), SinkFailed> {
         write_answer(line, id, kind, desk, self.out)
     }
 }
