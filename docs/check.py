@@ -1,5 +1,6 @@
 #!/usr/bin/env python3
-"""Whether what is made of other files is as they are: rows, pages of callers, the picture of the layers, the counts of the reading list.
+"""Whether what is made of other files is as they are: rows, pages of callers, the picture of the layers, the counts of the reading list;
+and whether calls that must not compile do not.
 
     check.py          says which is not, and ends with 1 then
     check.py --write  makes all of it anew
@@ -7,7 +8,7 @@
 import os, subprocess, sys
 
 TOP = os.path.join(os.path.dirname(os.path.abspath(__file__)), '..')
-# Each script, in an order in which none needs what a later one makes; with its words to check, and to write.
+# Each script, in an order in which none needs what a later one makes; with its words to check, and to write. The last one makes nothing.
 SCRIPTS = [
     ('docs/trace-rows/rows.py', ['check'], ['write']),
     ('examples/rows.py', ['check'], []),
@@ -15,6 +16,7 @@ SCRIPTS = [
     ('docs/pages.py', [], ['--write']),
     ('docs/layers.py', [], ['--write']),
     ('docs/reading.py', [], ['--write']),
+    ('crates/main_memory/types.py', [], []),
 ]
 
 
