@@ -3,7 +3,7 @@
 #![tactic(auto)]
 
 use hpsim_run::run;
-use row_stage::{MemSink, MemSource, Program, RowPacks, Stage, Text, perform};
+use row_stage::{MemPacks, MemSink, MemSource, Program, Stage, Text, perform};
 use std::alloc::Global;
 use std::io;
 use std::io::Write;
@@ -17,7 +17,7 @@ impl Program for Simulator {
         alloc: Global,
         words: &[String],
         source: &mut MemSource,
-        packs: &mut RowPacks,
+        packs: &mut MemPacks,
         out: &mut MemSink,
         trace: &mut MemSink,
     ) -> u8 {
@@ -27,7 +27,7 @@ impl Program for Simulator {
 
 fn main(rt: HostRuntime) -> anyhow::Result<()> {
     let text = io::read_to_string(rt.alloc(), rt.reader())?;
-    let mut stage = Stage::new(rt.alloc());
+    let mut stage = Stage::new(rt.alloc())?;
     let mut page = Text::new(rt.alloc());
     for line in text.as_str().lines() {
         perform(&Simulator, &mut stage, &mut page, line)?;

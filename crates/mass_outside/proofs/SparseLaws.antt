@@ -1,6 +1,6 @@
 -- Laws of an image of which few blocks are kept.
 use Rattle.std.proofs.Common.{◌≡◌, ◌≢◌, ◌⊎◌, inl, inr, ℕ, suc, ◌+◌, ◌*◌, ◌-◌, ◌<◌, ◌≤◌, max, Bool, true, false, cond, not, List, [], ◌∷◌, ◌++◌, length, get_or, set, Some, None, refl, sym, ap, ◌∙◌, subst, arith, length-set, length-append}
-use Rattle.std.specs.Prelude.{◌==◌, ◌||◌, eqb}
+use Rattle.std.specs.Prelude.{◌==◌, ◌||◌, eqb, nat_lt, if◌then◌else◌}
 use Rattle.std.specs.List.{IsDistinct, list_any, position, position_or_len}
 use Rattle.std.proofs.lemmas.Bool.{cases_lt}
 use mathlib.Core.Bool.{true≢false}
@@ -14,7 +14,7 @@ use Rattle.std.proofs.lemmas.Grind.{common_steps, same_number_lists}
 use Rattle.std.proofs.lemmas.Bool.Decides.{nat_tests}
 use Rattle.pack_geometry.specs.Pack.{window, grown, with_window, block_at, with_block}
 use Rattle.pack_geometry.proofs.PackLaws.{length-window, get_or-window, get_or-with_window_here, get_or-with_window_before, get_or-with_window_after, window-with_window_same, window-with_window_other}
-use Rattle.mass_outside.specs.Sparse.{overlaid, AreKept}
+use Rattle.mass_outside.specs.Sparse.{overlaid, place_in, AreKept}
 
 -- ---- bytes put at a place
 
@@ -261,60 +261,117 @@ found written number place e = grind (arith, nat_tests)
 missing : (written : List ℕ) (number : ℕ) → None ≡ position (λ n. n == number) written → length written ≤ first_of number written
 missing written number e = grind (arith, nat_tests)
 
-pub read_some : (given written seen : List ℕ) (kept : List (List ℕ)) (long blocks number place : ℕ) (block : List ℕ) → AreKept given written kept long blocks → seen ≡ written
-    → Some place ≡ position (λ n. n == number) seen → block ≡ get_or kept place block → block ≡ block_at (overlaid given written kept) number
-read_some given written seen kept long blocks number place block are same_list e is =
-    let at = found written number place (e ∙ ap (λ (ns : List ℕ). position (λ n. n == number) ns) same_list) in
+found_at : (written : List ℕ) (number place : ℕ) → first_of number written ≡ place → place < length written → Some place ≡ position (λ n. n == number) written
+found_at written number place is within = grind (arith, nat_tests, is)
+
+-- a number that is added is found behind the others
+pushed_here : (written : List ℕ) (number : ℕ) → length written ≤ first_of number written → first_of number (written ++ number ∷ []) ≡ length written
+pushed_here [] number h = grind (arith, nat_tests)
+pushed_here (n ∷ written) number h = by (λ k. pushed_here written number k) (n == number) refl
+  where
+    by : (length written ≤ first_of number written → first_of number (written ++ number ∷ []) ≡ length written) → (b : Bool) → (n == number) ≡ b → first_of number (n ∷ written ++ number ∷ []) ≡ suc (length written)
+    by rest true e = let none = at true n number written e in absurd (omega (arith, h, none))
+    by rest false e =
+        let next = at false n number written e in
+        let later = rest (omega (arith, h, next)) in
+        let added = at false n number (written ++ number ∷ []) e in
+        omega (arith, later, added)
+
+-- another one is where it was
+pushed_other : (written : List ℕ) (number q : ℕ) → (number == q) ≡ false → first_of q (written ++ number ∷ []) ≡ (if nat_lt (first_of q written) (length written) then first_of q written else 1 + length written)
+pushed_other [] number q other = grind (arith, nat_tests, other)
+pushed_other (n ∷ written) number q other = by (pushed_other written number q other) (n == q) refl
+  where
+    by : first_of q (written ++ number ∷ []) ≡ (if nat_lt (first_of q written) (length written) then first_of q written else 1 + length written)
+        → (b : Bool) → (n == q) ≡ b → first_of q (n ∷ written ++ number ∷ []) ≡ (if nat_lt (first_of q (n ∷ written)) (suc (length written)) then first_of q (n ∷ written) else 1 + suc (length written))
+    by rest true e = let one = at true n q written e in let two = at true n q (written ++ number ∷ []) e in grind (arith, nat_tests, one, two)
+    by rest false e = let one = at false n q written e in let two = at false n q (written ++ number ∷ []) e in grind (arith, nat_tests, one, two, rest)
+
+other_place : (written : List ℕ) (number q : ℕ) → (number == q) ≡ false → position (λ n. n == q) written ≡ position (λ n. n == q) (written ++ number ∷ [])
+other_place written number q other =
+    let behind = pushed_other written number q other in
+    let long = length-append written (number ∷ []) in
+    grind (arith, nat_tests, behind, long)
+
+-- the places of the numbers, with one number more
+placed_push : (written places places' : List ℕ) (number q : ℕ) → length written ≤ first_of number written → ((m : ℕ) → place_in places m ≡ position (λ n. n == m) written)
+    → place_in places' number ≡ Some (length written) → ((other : ℕ) → other ≢ number → place_in places' other ≡ place_in places other) → place_in places' q ≡ position (λ n. n == q) (written ++ number ∷ [])
+placed_push written places places' number q none placed kept others = by (number == q) refl
+  where
+    by : (b : Bool) → (number == q) ≡ b → place_in places' q ≡ position (λ n. n == q) (written ++ number ∷ [])
+    by true e =
+        subst (λ m. place_in places' m ≡ position (λ n. n == m) (written ++ number ∷ [])) (same number q e)
+        (kept ∙ found_at (written ++ number ∷ []) number (length written) (pushed_here written number none) (let long = length-append written (number ∷ []) in omega (arith, long)))
+    by false e = others q (λ is. apart number q e (sym is)) ∙ placed q ∙ other_place written number q e
+
+-- what was found where a block is kept
+some_place : (given written places seen : List ℕ) (kept : List (List ℕ)) (long blocks number place : ℕ) → AreKept given written kept places long blocks → seen ≡ places → Some place ≡ place_in seen number
+    → (place ≡ first_of number written) × (first_of number written < length written)
+some_place given written places seen kept long blocks number place are is e = found written number place (e ∙ ap (λ (ns : List ℕ). place_in ns number) is ∙ are.placed number)
+
+no_place : (given written places seen : List ℕ) (kept : List (List ℕ)) (long blocks number : ℕ) → AreKept given written kept places long blocks → seen ≡ places → None ≡ place_in seen number
+    → length written ≤ first_of number written
+no_place given written places seen kept long blocks number are is e = missing written number (e ∙ ap (λ (ns : List ℕ). place_in ns number) is ∙ are.placed number)
+
+pub read_some : (given written places seen : List ℕ) (kept : List (List ℕ)) (long blocks number place : ℕ) (block : List ℕ) → AreKept given written kept places long blocks → seen ≡ places
+    → Some place ≡ place_in seen number → block ≡ get_or kept place block → block ≡ block_at (overlaid given written kept) number
+read_some given written places seen kept long blocks number place block are same_list e is =
+    let at = some_place given written places seen kept long blocks number place are same_list e in
     let within : place < length kept = omega (arith, at.0, at.1, are.each) in
     get_or_read_under kept place (length kept) block [] is within refl ∙ ap (λ k. get_or kept k []) at.0 ∙ sym (read_kept given written kept number are.each are.whole at.1)
 
-pub read_none : (given written seen : List ℕ) (kept : List (List ℕ)) (long blocks number : ℕ) → AreKept given written kept long blocks → seen ≡ written
-    → None ≡ position (λ n. n == number) seen → block_at given number ≡ block_at (overlaid given written kept) number
-read_none given written seen kept long blocks number are same_list e =
-    sym (read_given given written kept number are.each are.whole (missing written number (e ∙ ap (λ (ns : List ℕ). position (λ n. n == number) ns) same_list)))
+pub read_none : (given written places seen : List ℕ) (kept : List (List ℕ)) (long blocks number : ℕ) → AreKept given written kept places long blocks → seen ≡ places
+    → None ≡ place_in seen number → block_at given number ≡ block_at (overlaid given written kept) number
+read_none given written places seen kept long blocks number are same_list e =
+    sym (read_given given written kept number are.each are.whole (no_place given written places seen kept long blocks number are same_list e))
 
-pub write_some : (given written seen : List ℕ) (kept : List (List ℕ)) (long blocks number place : ℕ) (bytes : List ℕ) → AreKept given written kept long blocks → seen ≡ written
-    → Some place ≡ position (λ n. n == number) seen → length bytes ≡ 512 → overlaid given written (set kept place bytes) ≡ with_block (overlaid given written kept) number bytes
-write_some given written seen kept long blocks number place bytes are same_list e whole =
-    let at = found written number place (e ∙ ap (λ (ns : List ℕ). position (λ n. n == number) ns) same_list) in
+pub write_some : (given written places seen : List ℕ) (kept : List (List ℕ)) (long blocks number place : ℕ) (bytes : List ℕ) → AreKept given written kept places long blocks → seen ≡ places
+    → Some place ≡ place_in seen number → length bytes ≡ 512 → overlaid given written (set kept place bytes) ≡ with_block (overlaid given written kept) number bytes
+write_some given written places seen kept long blocks number place bytes are same_list e whole =
+    let at = some_place given written places seen kept long blocks number place are same_list e in
     ap (λ k. overlaid given written (set kept k bytes)) at.0 ∙ write_kept given written kept number bytes are.each are.whole whole at.1
 
-pub kept_some : (given written seen : List ℕ) (kept : List (List ℕ)) (long blocks number place : ℕ) (bytes : List ℕ) → AreKept given written kept long blocks → seen ≡ written
-    → Some place ≡ position (λ n. n == number) seen → length bytes ≡ 512 → AreKept given written (set kept place bytes) (max long (512 * number + 512)) blocks
-kept_some given written seen kept long blocks number place bytes are same_list e whole = record {
+pub kept_some : (given written places seen : List ℕ) (kept : List (List ℕ)) (long blocks number place : ℕ) (bytes : List ℕ) → AreKept given written kept places long blocks → seen ≡ places
+    → Some place ≡ place_in seen number → length bytes ≡ 512 → AreKept given written (set kept place bytes) places (max long (512 * number + 512)) blocks
+kept_some given written places seen kept long blocks number place bytes are same_list e whole = record {
   each = are.each ∙ sym (length-set kept place bytes);
   whole = λ k h. set_whole kept place k bytes are.whole whole (subst (λ n. k < n) (length-set kept place bytes) h);
   once = are.once;
   inside = are.inside;
+  placed = are.placed;
   size =
       ap (λ n. max n (512 * number + 512)) are.size
-      ∙ sym (ap (λ (image : List ℕ). length image) (write_some given written seen kept long blocks number place bytes are same_list e whole) ∙ length-with_block (overlaid given written kept) bytes number whole);
+      ∙ sym (ap (λ (image : List ℕ). length image) (write_some given written places seen kept long blocks number place bytes are same_list e whole)
+      ∙ length-with_block (overlaid given written kept) bytes number whole);
 }
 
-pub write_none : (given written seen : List ℕ) (kept : List (List ℕ)) (long blocks number : ℕ) (bytes : List ℕ) → AreKept given written kept long blocks → seen ≡ written
-    → None ≡ position (λ n. n == number) seen → length bytes ≡ 512 → overlaid given (written ++ number ∷ []) (kept ++ bytes ∷ []) ≡ with_block (overlaid given written kept) number bytes
-write_none given written seen kept long blocks number bytes are same_list e whole =
-    write_given given written kept number bytes are.each are.whole whole (missing written number (e ∙ ap (λ (ns : List ℕ). position (λ n. n == number) ns) same_list))
+pub write_none : (given written places seen : List ℕ) (kept : List (List ℕ)) (long blocks number : ℕ) (bytes : List ℕ) → AreKept given written kept places long blocks → seen ≡ places
+    → None ≡ place_in seen number → length bytes ≡ 512 → overlaid given (written ++ number ∷ []) (kept ++ bytes ∷ []) ≡ with_block (overlaid given written kept) number bytes
+write_none given written places seen kept long blocks number bytes are same_list e whole =
+    write_given given written kept number bytes are.each are.whole whole (no_place given written places seen kept long blocks number are same_list e)
 
-pub kept_none : (given written seen : List ℕ) (kept : List (List ℕ)) (long blocks number : ℕ) (bytes : List ℕ) → AreKept given written kept long blocks → seen ≡ written
-    → None ≡ position (λ n. n == number) seen → length bytes ≡ 512 → number < blocks → AreKept given (written ++ number ∷ []) (kept ++ bytes ∷ []) (max long (512 * number + 512)) blocks
-kept_none given written seen kept long blocks number bytes are same_list e whole room =
-    let none = missing written number (e ∙ ap (λ (ns : List ℕ). position (λ n. n == number) ns) same_list) in
+pub kept_none : (given written places seen places' : List ℕ) (kept : List (List ℕ)) (long blocks number : ℕ) (bytes : List ℕ) → AreKept given written kept places long blocks → seen ≡ places
+    → None ≡ place_in seen number → length bytes ≡ 512 → number < blocks → place_in places' number ≡ Some (length written) → ((other : ℕ) → other ≢ number → place_in places' other ≡ place_in places other)
+    → AreKept given (written ++ number ∷ []) (kept ++ bytes ∷ []) places' (max long (512 * number + 512)) blocks
+kept_none given written places seen places' kept long blocks number bytes are same_list e whole room here others =
+    let none = no_place given written places seen kept long blocks number are same_list e in
     record {
       each = let first = length-append written (number ∷ []) in let second = length-append kept (bytes ∷ []) in omega (arith, first, second, are.each);
       whole = λ k h. push_whole kept k bytes are.whole whole h;
       once = IsDistinct-push nat_eq_equiv written number are.once (not_listed written number none);
       inside = λ q h. push_inside written q number blocks are.inside room h;
+      placed = λ q. placed_push written places places' number q none are.placed here others;
       size =
           ap (λ n. max n (512 * number + 512)) are.size
-          ∙ sym (ap (λ (image : List ℕ). length image) (write_none given written seen kept long blocks number bytes are same_list e whole) ∙ length-with_block (overlaid given written kept) bytes number whole);
+          ∙ sym (ap (λ (image : List ℕ). length image) (write_none given written places seen kept long blocks number bytes are same_list e whole)
+          ∙ length-with_block (overlaid given written kept) bytes number whole);
     }
 
 -- a block that is not kept yet has room
-pub room_none : (given written seen : List ℕ) (kept : List (List ℕ)) (long blocks number : ℕ) → AreKept given written kept long blocks → seen ≡ written
-    → None ≡ position (λ n. n == number) seen → number < blocks → length written < blocks
-room_none given written seen kept long blocks number are same_list e room =
-    let none = missing written number (e ∙ ap (λ (ns : List ℕ). position (λ n. n == number) ns) same_list) in
+pub room_none : (given written places seen : List ℕ) (kept : List (List ℕ)) (long blocks number : ℕ) → AreKept given written kept places long blocks → seen ≡ places
+    → None ≡ place_in seen number → number < blocks → length written < blocks
+room_none given written places seen kept long blocks number are same_list e room =
+    let none = no_place given written places seen kept long blocks number are same_list e in
     let once : IsDistinct eqb (written ++ number ∷ []) = IsDistinct-push nat_eq_equiv written number are.once (not_listed written number none) in
     let few = length-le_from_distinct_below (written ++ number ∷ []) blocks once (λ q h. push_inside written q number blocks are.inside room h) in
     omega (arith, few, length-append written (number ∷ []))
@@ -324,19 +381,21 @@ unfolding IsDistinct
 none_twice = tt
 
 -- an image as it was given
-pub kept_none_yet : (given written : List ℕ) (kept : List (List ℕ)) (long blocks : ℕ) → written ≡ [] → kept ≡ [] → long ≡ length given → AreKept given written kept long blocks
-kept_none_yet given written kept long blocks no_number no_block whole =
-    subst (λ (ns : List ℕ). AreKept given ns kept long blocks) (sym no_number) (subst (λ (bs : List (List ℕ)). AreKept given [] bs long blocks) (sym no_block) (record {
+pub kept_none_yet : (given written places : List ℕ) (kept : List (List ℕ)) (long blocks : ℕ) → written ≡ [] → kept ≡ [] → places ≡ [] → long ≡ length given → AreKept given written kept places long blocks
+kept_none_yet given written places kept long blocks no_number no_block no_place whole =
+    subst (λ (ns : List ℕ). AreKept given ns kept places long blocks) (sym no_number)
+    (subst (λ (bs : List (List ℕ)). AreKept given [] bs places long blocks) (sym no_block) (subst (λ (ps : List ℕ). AreKept given [] [] ps long blocks) (sym no_place) (record {
       each = refl;
       whole = λ k h. absurd (omega (arith, h));
       once = none_twice;
       inside = λ q h. absurd (true≢false (sym h));
+      placed = λ q. refl;
       size = whole;
-    }))
+    })))
 
 -- what is kept, as it was put there
-pub kept_as : (given written written' : List ℕ) (kept kept' : List (List ℕ)) (long long' blocks : ℕ) → written' ≡ written → kept' ≡ kept → long' ≡ long → AreKept given written kept long blocks
-    → AreKept given written' kept' long' blocks
-kept_as given written written' kept kept' long long' blocks numbers held size are =
-    subst (λ (ns : List ℕ). AreKept given ns kept' long' blocks) (sym numbers)
-    (subst (λ (bs : List (List ℕ)). AreKept given written bs long' blocks) (sym held) (subst (λ n. AreKept given written kept n blocks) (sym size) are))
+pub kept_as : (given written written' places : List ℕ) (kept kept' : List (List ℕ)) (long long' blocks : ℕ) → written' ≡ written → kept' ≡ kept → long' ≡ long → AreKept given written kept places long blocks
+    → AreKept given written' kept' places long' blocks
+kept_as given written written' places kept kept' long long' blocks numbers held size are =
+    subst (λ (ns : List ℕ). AreKept given ns kept' places long' blocks) (sym numbers)
+    (subst (λ (bs : List (List ℕ)). AreKept given written bs places long' blocks) (sym held) (subst (λ n. AreKept given written kept places n blocks) (sym size) are))

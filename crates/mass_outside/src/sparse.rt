@@ -1,5 +1,5 @@
-ghost use Rattle.std.specs.Prelude.{◌≡◌, ◌+◌, ◌*◌, ◌^◌, ◌<◌, ◌≤◌, ◌==◌, length, vec_capacity, nat_lt, IfOk};
-ghost use Rattle.std.specs.List.{position};
+ghost use Rattle.std.specs.Prelude.{◌≡◌, ◌≢◌, ℕ, ◌+◌, ◌*◌, ◌^◌, ◌<◌, ◌≤◌, length, vec_capacity, Some, IfOk};
+ghost use Rattle.mass_outside.specs.Sparse.{place_in};
 ghost use Rattle.pack_geometry.specs.Pack.{block_at, window, with_block};
 
 use std::alloc::{AllocError, Global};
@@ -28,11 +28,30 @@ fn read_block(bytes: &[u8], block: u32, into: &mut [u8; 512])
     }
 }
 
-/// The first place of a number among others.
-fn place_of(written: &[u32], block: u32) -> Option<usize>
-    ensures { result ≡ position (λ number. number == block) written.now }
+/// Where a block is kept, from what stands for each block.
+fn place_of(places: &[u32], block: u32) -> Option<usize>
+    ensures { result ≡ place_in places.now block }
 {
-    written.iter().position(|number| *number == block)
+    match places.get(block as usize) {
+        None | Some(0) => None,
+        Some(place) => Some(*place as usize - 1),
+    }
+}
+
+/// Notes where a block is kept, in room that is reserved.
+fn put_place(places: &mut Vec<u32>, block: u32, place: u32)
+    requires room { block < vec_capacity places.old }
+    requires fits { place + 1 < 2 ^ 32 }
+    ensures kept { place_in places.new.items block ≡ Some place }
+    ensures others { (other : ℕ) → other ≢ block → place_in places.new.items other ≡ place_in places.old.items other }
+    ensures capacity { vec_capacity places.old ≤ vec_capacity places.new }
+{
+    let at = block as usize;
+    if at >= places.len() {
+        // The room is reserved, so this cannot fail.
+        let _ = places.resize(at + 1, 0);
+    }
+    places[at] = place + 1;
 }
 
 /// These items, with room reserved for so many.
@@ -57,6 +76,8 @@ pub(crate) struct Sparse {
     written: Vec<u32>,
     /// What each of them holds.
     kept: Vec<[u8; 512]>,
+    /// For each block, as far as blocks were written: 0, or one more than its place among those that are kept.
+    places: Vec<u32>,
     /// How long the image is, in bytes.
     size: u64,
     blocks: u32,
@@ -70,8 +91,8 @@ impl Model for Sparse {
 
     ghost view = { λ s. record { image = overlaid s.given.items s.written.items s.kept.items; blocks = s.blocks } };
 
-    ghost invariant = { λ s. AreKept s.given.items s.written.items s.kept.items s.size s.blocks
-        × (s.blocks ≤ vec_capacity s.written) × (s.blocks ≤ vec_capacity s.kept) };
+    ghost invariant = { λ s. AreKept s.given.items s.written.items s.kept.items s.places.items s.size s.blocks
+        × (s.blocks ≤ vec_capacity s.written) × (s.blocks ≤ vec_capacity s.kept) × (s.blocks ≤ vec_capacity s.places) };
 }
 
 impl Sparse {
@@ -85,6 +106,7 @@ impl Sparse {
             given: Vec::new(alloc),
             written: Vec::new(alloc),
             kept: Vec::new(alloc),
+            places: Vec::new(alloc),
             size: 0,
             blocks: 0,
         }
@@ -96,11 +118,13 @@ impl Sparse {
     {
         let written = Vec::with_capacity(alloc, blocks as usize)?;
         let kept = Vec::with_capacity(alloc, blocks as usize)?;
+        let places = Vec::with_capacity(alloc, blocks as usize)?;
         let size = given.len() as u64;
         Ok(Sparse {
             given,
             written,
             kept,
+            places,
             size,
             blocks,
         })
@@ -115,6 +139,7 @@ impl Sparse {
             given: Vec::from_slice(alloc, self.given.as_slice())?,
             written: with_room(Vec::from_slice(alloc, self.written.as_slice())?, blocks)?,
             kept: with_room(Vec::from_slice(alloc, self.kept.as_slice())?, blocks)?,
+            places: with_room(Vec::from_slice(alloc, self.places.as_slice())?, blocks)?,
             size: self.size,
             blocks: self.blocks,
         })
@@ -138,7 +163,7 @@ impl Sparse {
     pub(crate) fn read(&self, block: u32, into: &mut [u8; 512])
         ensures { into.new ≡ block_at self.now.image block }
     {
-        match place_of(self.written.as_slice(), block) {
+        match place_of(self.places.as_slice(), block) {
             Some(place) => *into = self.kept[place],
             None => read_block(self.given.as_slice(), block, into),
         }
@@ -150,9 +175,10 @@ impl Sparse {
         ensures { self.new ≡ record { image = with_block self.old.image block from.now; blocks = self.old.blocks } }
     {
         self.size = self.size.max(512 * u64::from(block) + 512);
-        match place_of(self.written.as_slice(), block) {
+        match place_of(self.places.as_slice(), block) {
             Some(place) => self.kept[place] = *from,
             None => {
+                put_place(&mut self.places, block, self.written.len() as u32);
                 self.written.push_reserved(block);
                 self.kept.push_reserved(*from);
             }

@@ -1,6 +1,5 @@
 // The lines of the rows: a line that begins with `@` sets the stage, adds to the source, runs a command or shows what it came to;
 // each other line is one of the source.
-use crate::row_packs::RowPacks;
 use crate::scenes::{Program, operation_of};
 use crate::shows::{compare, show_block, show_commands, show_kept, show_size, show_trace};
 use crate::stage::Stage;
@@ -10,7 +9,8 @@ use crate::texts::{Text, number, small_number, span, split};
 use crate::verbs::{Verb, verb_of};
 use crate::watches::add_watches;
 use hp_exercise::script_of;
-use outside_traits::traits::NoMemory;
+use mass_outside::slots::Image;
+use outside_traits::traits::{NoMemory, Packs};
 
 /// Does what a line says with a program, and adds to the page what is to be shown. `NoMemory` if memory runs out.
 pub fn perform<P: Program>(
@@ -27,8 +27,8 @@ pub fn perform<P: Program>(
         Verb::Stops => stops(program, stage, page, rest),
         Verb::Counts => counts(program, stage, page, rest),
         Verb::Fronts => fronts(program, stage, page, rest),
-        Verb::Row => begin(stage, page, rest),
-        Verb::Show | Verb::Mark(_) => go_over(&mut stage.scene.packs, page, verb, rest),
+        Verb::Row => begin(stage, page, rest)?,
+        Verb::Show | Verb::Mark(_) => go_over(stage, page, verb, rest),
         Verb::Line => stage.source.add_between("", line, "\n"),
         _ => {
             arrange(stage, verb, rest);
@@ -52,9 +52,9 @@ fn arrange(stage: &mut Stage, verb: Verb, rest: &str) {
         Verb::Repeat => repeat(&mut stage.source, rest),
         Verb::Answer => stage.answer.add_piece(rest),
         Verb::Watch(rule) => add_watches(stage, rule, rest),
-        Verb::Unit | Verb::Length => set_unit(&mut stage.scene.packs, verb, rest),
+        Verb::Unit => set_unit(stage, rest),
         Verb::Block => put_blocks(stage, rest),
-        Verb::Keep => stage.whole.packs.copy(&stage.scene.packs),
+        Verb::Keep => stage.whole.take_packs(&stage.scene),
         _ => {}
     }
 }
@@ -72,9 +72,10 @@ fn show(stage: &Stage, page: &mut Text, verb: Verb, rest: &str) {
 }
 
 /// Begins a row on an empty stage.
-fn begin(stage: &mut Stage, page: &mut Text, name: &str) {
-    *stage = Stage::new(stage.alloc);
+fn begin(stage: &mut Stage, page: &mut Text, name: &str) -> Result<(), NoMemory> {
+    *stage = Stage::new(stage.alloc)?;
     page.add_between("== ", name, "\n");
+    Ok(())
 }
 
 /// Sets which call of an operation fails from now on.
@@ -111,16 +112,23 @@ fn repeat(source: &mut Text, rest: &str) {
     }
 }
 
-/// Sets how many blocks of a unit can be written, or how long its image is.
-fn set_unit(packs: &mut RowPacks, verb: Verb, rest: &str) {
-    let (unit, size) = split(rest);
-    let unit = small_number(unit) as usize % 32;
-    let size = number(size);
-    if matches!(verb, Verb::Length) {
-        packs.units[unit].length = size;
-    } else {
-        packs.units[unit].room = size;
-    }
+/// Puts a pack in the place of a unit's, by how many of its blocks can be written, and the bytes of its image as runs.
+fn set_unit(stage: &mut Stage, rest: &str) {
+    let (unit, rest) = split(rest);
+    let (blocks, runs) = split(rest);
+    let alloc = stage.alloc;
+    let mut bytes = Text::new(alloc);
+    bytes.add_runs(runs);
+    let put = stage.scene.packs.put(
+        alloc,
+        Image {
+            unit: small_number(unit),
+            bytes: bytes.into_bytes(),
+            marks: Vec::new(alloc),
+            blocks: blocks.parse::<u32>().unwrap_or(0),
+        },
+    );
+    stage.is_short |= put.is_err();
 }
 
 /// The first bytes of some as a block, followed by zeros.
@@ -131,7 +139,7 @@ fn front_of(content: &[u8]) -> [u8; 512] {
     bytes
 }
 
-/// Writes the same runs to all blocks of a range.
+/// Writes the same runs to all blocks of a range, for which the unit must have room.
 fn put_blocks(stage: &mut Stage, rest: &str) {
     let (unit, rest) = split(rest);
     let unit = small_number(unit);
@@ -140,27 +148,33 @@ fn put_blocks(stage: &mut Stage, rest: &str) {
     let mut content = Text::new(stage.alloc);
     content.add_runs(runs);
     let bytes = front_of(content.bytes());
+    stage.scene.packs.fail(Vec::new(stage.alloc));
     for block in blocks.0..blocks.1 {
-        stage.scene.packs.put(unit, block, &bytes);
+        let written = stage.scene.packs.write(unit % 32, block, &bytes);
+        stage.is_short |= written.is_err();
     }
 }
 
 /// Marks a block, takes its mark or shows what it holds.
-fn go_to(packs: &mut RowPacks, page: &mut Text, verb: Verb, unit: u8, block: u32) {
+fn go_to(stage: &mut Stage, page: &mut Text, verb: Verb, unit: u8, block: u32) {
     match verb {
-        Verb::Mark(on) => packs.mark(unit, block, on),
-        _ => show_block(packs, page, unit, block),
+        Verb::Mark(on) => {
+            let marked = stage.scene.packs.set_mark(unit % 32, block, on);
+            stage.is_short |= marked.is_err();
+        }
+        _ => show_block(&stage.scene.packs, page, unit, block),
     }
 }
 
 /// The same for each block of a list.
-fn go_over(packs: &mut RowPacks, page: &mut Text, verb: Verb, rest: &str) {
+fn go_over(stage: &mut Stage, page: &mut Text, verb: Verb, rest: &str) {
     let (unit, list) = split(rest);
+    stage.scene.packs.fail(Vec::new(stage.alloc));
     let unit = small_number(unit);
     for blocks in list.split(' ') {
         let blocks = span(blocks);
         for block in blocks.0..blocks.1 {
-            go_to(packs, page, verb, unit, block);
+            go_to(stage, page, verb, unit, block);
         }
     }
 }

@@ -4,7 +4,6 @@
 #![tactic(auto)]
 
 mod directives;
-mod row_packs;
 mod scenes;
 mod shows;
 mod stage;
@@ -15,8 +14,8 @@ mod verbs;
 mod watches;
 
 pub use directives::perform;
+pub use mass_outside::mem_packs::MemPacks;
 pub use mass_outside::mem_streams::{MemSink, MemSource};
-pub use row_packs::RowPacks;
 pub use scenes::Program;
 pub use stage::Stage;
 pub use texts::Text;

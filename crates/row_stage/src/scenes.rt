@@ -1,6 +1,6 @@
 // Runs of the program's commands, and what they come to.
-use crate::row_packs::RowPacks;
 use crate::texts::Text;
+use mass_outside::mem_packs::{FailCall, MemPacks, PackOp};
 use mass_outside::mem_streams::{MemSink, MemSource};
 use outside_traits::traits::NoMemory;
 use std::alloc::Global;
@@ -12,7 +12,7 @@ pub trait Program {
         alloc: Global,
         words: &[String],
         source: &mut MemSource,
-        packs: &mut RowPacks,
+        packs: &mut MemPacks,
         out: &mut MemSink,
         trace: &mut MemSink,
     ) -> u8;
@@ -53,12 +53,14 @@ pub(crate) fn operation_of(name: &str) -> Operation {
     Operation::Source
 }
 
-/// Counts the calls down to the one that fails; whether this is that call.
-pub(crate) fn is_last(left: &mut u64) -> bool {
-    let number = *left;
-    *left = number.saturating_sub(1);
-    number == 1
-}
+/// The operations of the packs.
+static OF_PACKS: [(Operation, PackOp); 5] = [
+    (Operation::Length, PackOp::Length),
+    (Operation::Read, PackOp::Read),
+    (Operation::Write, PackOp::Write),
+    (Operation::Marked, PackOp::Marked),
+    (Operation::SetMark, PackOp::SetMark),
+];
 
 /// The number of the call of each operation that fails, from 1, and the room of each sink.
 #[derive(Clone, Copy)]
@@ -86,7 +88,7 @@ pub(crate) fn one_fault(operation: Operation, number: u64) -> Faults {
 #[derive(Drop)]
 pub(crate) struct Scene {
     alloc: Global,
-    pub(crate) packs: RowPacks,
+    pub(crate) packs: MemPacks,
     /// What was printed.
     pub(crate) out: Text,
     pub(crate) trace: Text,
@@ -95,22 +97,41 @@ pub(crate) struct Scene {
 }
 
 impl Scene {
-    /// Packs that hold nothing, before the first run.
-    pub(crate) fn new(alloc: Global) -> Scene {
-        Scene {
+    /// Packs that hold nothing, before the first run. `NoMemory` if the packs find no room in memory.
+    pub(crate) fn new(alloc: Global) -> Result<Scene, NoMemory> {
+        Ok(Scene {
             alloc,
-            packs: RowPacks::new(alloc),
+            packs: MemPacks::new(alloc, Vec::new(alloc), Vec::new(alloc))?,
             out: Text::new(alloc),
             trace: Text::new(alloc),
             status: 0,
             is_short: false,
+        })
+    }
+
+    /// From now on these packs hold what those of another scene do.
+    pub(crate) fn take_packs(&mut self, other: &Scene) {
+        match other.packs.copy(self.alloc) {
+            Ok(packs) => self.packs = packs,
+            Err(NoMemory) => self.is_short = true,
         }
+    }
+
+    /// From now on these calls of the packs fail.
+    fn fail(&mut self, fails: &[u64; 8]) -> Result<(), NoMemory> {
+        let mut calls = Vec::new(self.alloc);
+        for (operation, op) in &OF_PACKS {
+            let number = fails[*operation as usize];
+            calls.push(FailCall { op: *op, number })?;
+        }
+        self.packs.fail(calls);
+        Ok(())
     }
 
     /// Whether something found no room in memory.
     pub(crate) fn is_short(&self) -> bool {
         let is_short = self.out.is_short() || self.trace.is_short();
-        is_short || self.packs.is_short || self.is_short
+        is_short || self.is_short
     }
 
     /// A sink with so much room, of which this call fails.
@@ -131,7 +152,7 @@ impl Scene {
         let mut source = MemSource::new(Vec::from_slice(self.alloc, source)?, fails);
         let mut out = self.sink(faults.out_room, calls[Operation::Out as usize])?;
         let mut trace = self.sink(faults.trace_room, calls[Operation::Trace as usize])?;
-        self.packs.fail(faults.fails);
+        self.fail(&faults.fails)?;
         let packs = &mut self.packs;
         self.status = program.run(self.alloc, words, &mut source, packs, &mut out, &mut trace);
         self.out.add_bytes(out.taken());

@@ -1,7 +1,8 @@
 // What is shown of a run, and of what it left.
-use crate::row_packs::RowPacks;
 use crate::stage::Stage;
 use crate::texts::{Text, holds, split, times};
+use mass_outside::mem_packs::MemPacks;
+use mass_outside::slots::Slot;
 
 /// Shows lines of text, or as runs what ends otherwise.
 pub(crate) fn show_text(page: &mut Text, text: &[u8]) {
@@ -34,18 +35,47 @@ pub(crate) fn show_commands(page: &mut Text, trace: &[u8]) {
     }
 }
 
+/// What a block holds.
+fn block_of(slot: &Slot, block: u32) -> [u8; 512] {
+    let mut bytes = [0; 512];
+    slot.read(block, &mut bytes);
+    bytes
+}
+
+/// What a block of a unit holds.
+pub(crate) fn block_at(packs: &MemPacks, unit: u8, block: u32) -> [u8; 512] {
+    block_of(packs.slot(unit % 32), block)
+}
+
 /// Shows what a block of a unit holds, and whether it is marked.
-pub(crate) fn show_block(packs: &RowPacks, page: &mut Text, unit: u8, number: u32) {
-    let block = packs.block(unit, number);
+pub(crate) fn show_block(packs: &MemPacks, page: &mut Text, unit: u8, number: u32) {
+    let slot = packs.slot(unit % 32);
     page.add_number("block ", u64::from(unit), " ");
     page.add_number("", u64::from(number), ":");
-    page.show_runs(&block.bytes);
-    page.add(if block.is_marked { " marked\n" } else { "\n" });
+    page.show_runs(&block_of(slot, number));
+    page.add(if slot.marked(number) { " marked\n" } else { "\n" });
+}
+
+/// Whether two packs have room for as many blocks and are as long, and hold just the same, byte for byte and mark for mark.
+fn are_same(one: &Slot, two: &Slot) -> bool {
+    for block in 0..u32::MAX {
+        if one.has(block) != two.has(block)
+            || one.marked(block) != two.marked(block)
+            || block_of(one, block) != block_of(two, block)
+        {
+            return false;
+        }
+        if !one.has(block) {
+            break;
+        }
+    }
+    one.length() == two.length()
 }
 
 /// Shows whether the packs hold what was remembered: each image and each mark, byte for byte.
 pub(crate) fn show_kept(stage: &Stage, page: &mut Text) {
-    let is_kept = stage.scene.packs.is_same(&stage.whole.packs);
+    let (one, two) = (&stage.scene.packs, &stage.whole.packs);
+    let is_kept = (0..32u8).all(|unit| are_same(one.slot(unit), two.slot(unit)));
     page.add(if is_kept {
         "packs as they were\n"
     } else {

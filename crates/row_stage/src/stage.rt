@@ -2,6 +2,7 @@
 use crate::scenes::{Faults, NONE, Operation, Program, Scene, one_fault};
 use crate::texts::Text;
 use crate::watches::Watch;
+use outside_traits::traits::NoMemory;
 use std::alloc::Global;
 
 /// What is kept for the next steps of a row. If memory runs out, the stage lacks what found no room, and is short from then on.
@@ -26,13 +27,13 @@ pub struct Stage {
 }
 
 impl Stage {
-    /// Creates an empty stage.
-    pub fn new(alloc: Global) -> Stage {
-        Stage {
+    /// Creates an empty stage. `NoMemory` if its packs find no room in memory.
+    pub fn new(alloc: Global) -> Result<Stage, NoMemory> {
+        Ok(Stage {
             alloc,
-            scene: Scene::new(alloc),
-            whole: Scene::new(alloc),
-            left: Scene::new(alloc),
+            scene: Scene::new(alloc)?,
+            whole: Scene::new(alloc)?,
+            left: Scene::new(alloc)?,
             words: Vec::new(alloc),
             source: Text::new(alloc),
             faults: NONE,
@@ -40,7 +41,7 @@ impl Stage {
             texts: Text::new(alloc),
             answer: Text::new(alloc),
             is_short: false,
-        }
+        })
     }
 
     /// Whether something found no room in memory.
@@ -97,7 +98,7 @@ impl Stage {
         let source = self.source.bytes();
         let front = source.get(..end).unwrap_or(source);
         let faults = one_fault(operation, number);
-        self.left.packs.copy(&self.scene.packs);
+        self.left.take_packs(&self.scene);
         self.left
             .run(program, self.words.as_slice(), front, &faults);
     }
@@ -105,7 +106,7 @@ impl Stage {
     /// Runs the command over a copy of the packs, with no call failing.
     pub(crate) fn run_whole<P: Program>(&mut self, program: &P) {
         let words = self.words.as_slice();
-        self.whole.packs.copy(&self.scene.packs);
+        self.whole.take_packs(&self.scene);
         self.whole.run(program, words, self.source.bytes(), &NONE);
     }
 

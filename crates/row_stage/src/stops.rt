@@ -38,7 +38,7 @@ fn amiss(stage: &Stage, wanted: u8, is_play: bool) -> &'static str {
     if left.status != wanted {
         return "its status is another one";
     }
-    if left.packs.has_set_marks {
+    if left.packs.set_marks() > 0 {
         return "its marks are others";
     }
     if wanted == 4 && !are_same(stage.watches.as_slice(), &stage.scene, left) {

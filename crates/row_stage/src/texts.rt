@@ -64,6 +64,12 @@ impl Text {
         self.bytes.as_slice()
     }
 
+    /// The bytes of the text, by value.
+    pub(crate) fn into_bytes(self) -> Vec<u8> {
+        let Text { bytes, is_short: _ } = self;
+        bytes
+    }
+
     /// Whether bytes found no room.
     pub(crate) fn is_short(&self) -> bool {
         self.is_short

@@ -1,5 +1,6 @@
 // The blocks that are watched in runs that stop, and whether they are as their rules say.
 use crate::scenes::Scene;
+use crate::shows::block_at;
 use crate::stage::Stage;
 use crate::texts::{Text, holds, small_number, span, split};
 
@@ -64,8 +65,8 @@ pub(crate) fn add_watches(stage: &mut Stage, rule: Rule, rest: &str) {
 
 /// Whether a watched block is the same on the packs of two scenes.
 fn is_same(watch: &Watch, one: &Scene, other: &Scene) -> bool {
-    let one = one.packs.block(watch.unit, watch.block);
-    one.bytes == other.packs.block(watch.unit, watch.block).bytes
+    let one = block_at(&one.packs, watch.unit, watch.block);
+    one == block_at(&other.packs, watch.unit, watch.block)
 }
 
 /// Whether all watched blocks are the same on the packs of two scenes.
@@ -94,7 +95,7 @@ fn is_left(stage: &Stage, watch: &Watch) -> bool {
     let is_synced = holds(stage.left.out.bytes(), stage.answer.bytes());
     let from = if is_synced { watch.synced } else { watch.from };
     let fills = stage.texts.bytes().get(from..watch.end).unwrap_or(b"");
-    let bytes = stage.left.packs.block(watch.unit, watch.block).bytes;
+    let bytes = block_at(&stage.left.packs, watch.unit, watch.block);
     fills.contains(&bytes[0]) && bytes == [bytes[0]; 512]
 }
 
