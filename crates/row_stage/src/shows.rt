@@ -53,7 +53,11 @@ pub(crate) fn show_block(packs: &MemPacks, page: &mut Text, unit: u8, number: u3
     page.add_number("block ", u64::from(unit), " ");
     page.add_number("", u64::from(number), ":");
     page.show_runs(&block_of(slot, number));
-    page.add(if slot.marked(number) { " marked\n" } else { "\n" });
+    page.add(if slot.marked(number) {
+        " marked\n"
+    } else {
+        "\n"
+    });
 }
 
 /// Whether two packs have room for as many blocks and are as long, and hold just the same, byte for byte and mark for mark.
