@@ -24,8 +24,10 @@ type Row = (
 );
 
 /// The image of unit 21 is a block too long, that of unit 20 is a folder, that of unit 19 is a link to itself, that of unit 18 is a
-/// full disk, and that of unit 17 is a file that may only be read. Unit 16 has the table of an RM03. The other units have no files.
-static ROWS: [Row; 50] = [
+/// full disk, and that of unit 17 is a file that may only be read. Unit 16 has the table of an RM03. The image of unit 14 gives zeros
+/// whatever is written to it. Marked are the first 127 blocks of unit 13, of unit 12 block 1 and all places of a table, and of unit 11
+/// the first replacement. Unit 11 has an empty table of an RM03. The other units have no files.
+static ROWS: [Row; 57] = [
     // words
     (
         "",
@@ -315,6 +317,55 @@ static ROWS: [Row; 50] = [
         "hpsim: block 5 is listed already, as entry 0",
     ),
     (
+        "bad144 add 16 rp06 5",
+        b"",
+        [OUT, TRACE_NAME],
+        8,
+        "hpsim: hp16.dsk has no bad-sector table for an rp06: 'hpsim bad144 fresh 16 rp06 SERIAL' writes an empty one",
+    ),
+    (
+        "format 14 rm03 1",
+        b"",
+        [OUT, TRACE_NAME],
+        11,
+        "hpsim: block 0 of hp14.dsk does not read back as it was written: the blocks up to it are empty now, and no table was written",
+    ),
+    (
+        "format 13 rm03 1",
+        b"",
+        [OUT, TRACE_NAME],
+        11,
+        "hpsim: hp13.bad marks 127 data blocks, and a table lists at most 126",
+    ),
+    (
+        "format 12 rm03 1",
+        b"",
+        [OUT, TRACE_NAME],
+        11,
+        "hpsim: hp12.dsk has no room for a table: all five places are marked in hp12.bad",
+    ),
+    (
+        "raw write 12 rm03 a 510",
+        b"hello",
+        [OUT, TRACE_NAME],
+        10,
+        "hpsim: block 1 of partition a of hp12.dsk is marked and has no good replacement: 2 bytes before it were written",
+    ),
+    (
+        "raw read 12 rm03 a 1 512",
+        b"",
+        [OUT, TRACE_NAME],
+        10,
+        "hpsim: block 1 of partition a of hp12.dsk is marked and has no good replacement: 511 bytes before it were read",
+    ),
+    (
+        "bad144 add 11 rm03 5 mark",
+        b"",
+        [OUT, TRACE_NAME],
+        8,
+        "hpsim: replacement 0 of hp11.dsk (block 131647) is needed, but it is marked in hp11.bad",
+    ),
+    (
         "raw read 16 rm03 f 5160950 11",
         b"",
         [OUT, TRACE_NAME],
@@ -406,13 +457,22 @@ fn make_images(rt: &HostRuntime) -> io::Result<()> {
     symlink(rt, "hp19.dsk", "hp19.dsk")?;
     symlink(rt, FULL, "hp18.dsk")?;
     symlink(rt, READ_ONLY, "hp17.dsk")?;
+    symlink(rt, "/dev/zero", "hp14.dsk")?;
+    fs::create(rt, "hp13.bad")?.write_all_at(&[1; 127], 0)?;
+    let marks = fs::create(rt, "hp12.bad")?;
+    for block in [1, 131_648, 131_650, 131_652, 131_654, 131_656] {
+        marks.write_all_at(&[1], block)?;
+    }
+    fs::create(rt, "hp11.bad")?.write_all_at(&[1], 131_647)?;
     let _ = told(rt, "bad144 fresh 16 rm03 1", b"", [OUT, TRACE_NAME])?;
+    let _ = told(rt, "bad144 fresh 11 rm03 1", b"", [OUT, TRACE_NAME])?;
     Ok(())
 }
 
 /// The files that are left at the end.
-static LEFT: [&str; 8] = [
-    "hp16.dsk", "hp17.dsk", "hp18.dsk", "hp19.dsk", "hp20.dsk", "hp21.dsk", TRACE_NAME, OUT,
+static LEFT: [&str; 14] = [
+    "hp11.bad", "hp11.dsk", "hp12.bad", "hp12.dsk", "hp13.bad", "hp14.dsk", "hp16.dsk", "hp17.dsk",
+    "hp18.dsk", "hp19.dsk", "hp20.dsk", "hp21.dsk", TRACE_NAME, OUT,
 ];
 
 #[test]
