@@ -5,17 +5,18 @@
 #![tactic(auto)]
 
 use hpview_run::end_status;
-use outside_files::start::{TRACE_NAME, null_device, words, words_of};
+use outside_files::start::{NULL_DEVICE, TRACE_NAME, both_ways, words, words_of};
 use std::alloc::Global;
 use std::fs::File;
-use std::io;
 use std::process::ExitCode;
+use std::{env, io};
 
 fn main(rt: HostRuntime) -> ExitCode {
-    let _input = null_device(&rt);
-    let _output = null_device(&rt);
-    let _error = null_device(&rt);
-    let words = words_of(rt.alloc(), words(&rt));
+    let how = both_ways();
+    let _input = how.open(&rt, NULL_DEVICE);
+    let _output = how.open(&rt, NULL_DEVICE);
+    let _error = how.open(&rt, NULL_DEVICE);
+    let words = words_of(rt.alloc(), words(rt.alloc(), env::args(&rt)));
     let trace = File::open(&rt, TRACE_NAME);
     let mut errors = rt.stderr();
     let status = end_status(

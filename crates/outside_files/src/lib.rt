@@ -3,11 +3,11 @@
 //!
 //! What is proved: sources and sinks pass on exactly what their readers give and their writers take, and count each failure once. A
 //! source or sink that `known` makes tells these bytes. Packs over a folder that tells are packs that tell,
-//! although each call of the folder may be short or interrupted, until a write fails after it has written some of its bytes.
+//! although each call of the folder may be short or interrupted, until a write fails after it has written some of its bytes. A program
+//! gets the words that follow its name, in their order (`start`).
 //!
 //! Only tested, in `pack_rows` and by the programs' stored runs: the three calls on the working folder (`os_folder`), the file that a
-//! sink makes, and what a program begins with (`start`, except `words_of`, which is proved). The working folder and the sink of a
-//! file tell nothing.
+//! sink makes, and the names of files in `start`. The working folder and the sink of a file tell nothing.
 #![tactic(auto)]
 
 pub mod failure;

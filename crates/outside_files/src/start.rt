@@ -1,32 +1,47 @@
 // What a program begins with.
-ghost use Rattle.std.specs.Prelude.{◌≡◌, ◌≢◌, true, [], None, Some, is_some, IfSome, IfOk, IfErr};
+ghost use Rattle.std.specs.Prelude.{◌≡◌, ◌≢◌, true, [], None, Some, Err, is_some, drop, IfSome, IfOk, IfErr, OnOk};
+ghost use Rattle.std.specs.Fs.{new_options, with_read, with_write};
 ghost use Rattle.std.specs.IoError.{error_kind};
+ghost use Rattle.std.specs.Vec.Iter.{into_iter_items};
 
-use std::alloc::{AllocGlobal, Global};
-use std::env::{self, Env};
+use std::alloc::{AllocError, Global};
+use std::env::Args;
 use std::fs::OpenOptions;
 use std::io;
 use std::io::ErrorKind;
-use std::rt::Files;
 
 /// The name of the file of the trace, in the working folder.
 pub const TRACE_NAME: &str = "hp.trace";
 
-/// A handle of the null device, which is empty and takes all bytes. If a standard stream was closed before a program began, the next
+/// The path of the null device, which is empty and takes all bytes. If a standard stream was closed before a program began, the next
 /// file that the program opens gets the number of that stream, and what is printed would go to that file, perhaps to a pack. A program
-/// that holds three handles of the null device avoids this. An error if the device cannot be opened.
-pub fn null_device<R: Files>(rt: &R) -> io::Result<R::File> {
+/// that holds three handles of the null device avoids this.
+pub const NULL_DEVICE: &str = "/dev/null";
+
+/// How the null device is opened: for reading and writing, and only if it exists.
+pub fn both_ways() -> OpenOptions
+    ensures { result ≡ with_write (with_read new_options true) true }
+{
     let mut how = OpenOptions::new();
     how.read(true).write(true);
-    how.open(rt, "/dev/null")
+    how
 }
 
-/// The words after the program's name. An error if one of them is not text, or if there is no memory for them.
-pub fn words<R: Env + AllocGlobal>(rt: &R) -> io::Result<Vec<String>> {
-    let mut words = Vec::new(rt.alloc());
-    for word in env::args(rt)?.skip(1) {
-        words.push(word)?;
-    }
+/// The words after the first.
+fn collected(alloc: Global, args: Args) -> Result<Vec<String>, AllocError>
+    ensures { IfOk result (λ list. list.items ≡ drop 1 (into_iter_items args)) }
+{
+    args.skip(1).collect(alloc)
+}
+
+/// The words after the program's name, from what `env::args` answered. An error of that call is handed on. The only other error is
+/// that there is no memory for the words.
+pub fn words(alloc: Global, args: io::Result<Args>) -> io::Result<Vec<String>>
+    ensures text { IfOk args (λ all. IfOk result (λ list. list.items ≡ drop 1 (into_iter_items all))) }
+    ensures error { IfErr args (λ error. result ≡ Err error) }
+    ensures no_memory { OnOk args (IfErr result (λ error. error_kind error ≡ ErrorKind.OutOfMemory)) }
+{
+    let words = collected(alloc, args?)?;
     Ok(words)
 }
 
