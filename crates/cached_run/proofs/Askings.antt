@@ -1,5 +1,5 @@
 -- What a line asks for: how it is answered, and what it leaves.
-use Rattle.std.proofs.Common.{◌≡◌, ℕ, ◌+◌, ◌≤◌, List, [], length, Option, None, Some, refl, sym, ap, ◌∙◌, subst}
+use Rattle.std.proofs.Common.{◌≡◌, ℕ, ◌+◌, ◌≤◌, List, [], length, Option, None, Some, refl, sym, ap, subst}
 use Rattle.std.specs.Prelude.{Result, Ok, Err, IsErrAnd, option_map}
 use Rattle.partitions.specs.declared.Part.TheVariants.{C}
 use Rattle.partitions.specs.declared.Admission.TheVariants.{Inside, Eof, Outside}
@@ -10,14 +10,13 @@ use Rattle.trace_replay.specs.declared.requests.answers.AnswerKind.TheVariants a
 use Rattle.trace_replay.specs.declared.requests.answers.Cause.TheVariants as cause
 use Rattle.driver_laws.specs.declared.answers.outcome.Stop.{Stop}
 use Rattle.buffer_cache.proofs.Passes.{keeps_none}
-use Rattle.buffer_cache.specs.Passes.{Keeps}
 use Rattle.buffer_cache.specs.Passes.{kind_at, seen}
-use Rattle.buffer_cache.specs.Calls.{IfTold, MayUse}
+use Rattle.buffer_cache.specs.Calls.{MayUse}
 use Rattle.script_reader.specs.declared.cached.statement.Asked.{Asked}
-use Rattle.script_reader.specs.cached.Meaning.{filled, one_filled}
+use Rattle.script_reader.specs.cached.Meaning.{one_filled}
 use Rattle.cached_run.specs.Answers.{replaced_with}
 use Rattle.cached_run.specs.Sessions.{blocks_at, calls_with}
-use Rattle.cached_run.specs.Leaving.{Does, IsCalled, IsCutIn, Leaves, Makes, touches, tried_in, usable_in}
+use Rattle.cached_run.specs.Leaving.{IsCalled, IsCutIn, Leaves, Makes, touches, tried_in, usable_in}
 use Rattle.cached_run.specs.Saying.{kind_by, GivesAmong, IsSaid}
 use Rattle.cached_run.specs.Places.{AreMoved, Answers, MovesAll, Place, asked_with, contents_at, moved, whole_by, world_at}
 use Rattle.cached_run.proofs.Calls.{called_none}

@@ -25,6 +25,7 @@ use Rattle.cached_run.specs.Sessions.{calls_at, calls_for, block_done, call_done
 use Rattle.cached_run.specs.Going.{syncs_at}
 use Rattle.cached_run.specs.Leaving.{IsCalled, IsCutIn, touches}
 use Rattle.cached_run.proofs.Replacings.{same_map}
+use Rattle.cached_run.proofs.Numbers.{next_along, next_over, none_before, with_none}
 
 -- ---- MORE of them
 maps_more : (m : Map) (xs ys : List Numbered) → maps_behind m (xs ++ ys) ≡ maps_behind (maps_behind m xs) ys
@@ -61,23 +62,11 @@ calls_more drives m (x ∷ xs) ys =
     ∙ sym (append_assoc (calls_at drives m x.line x.input) (calls_for drives next xs) (calls_for drives (map_of_inputs drives next xs) ys))
 
 pub touches_more : (n m line unit first : ℕ) (written : Option (List ℕ)) → touches (n + m) line unit first written ≡ touches n line unit first written ++ touches m line unit (first + n) written
-touches_more zero m line unit first written = ap (λ z. touches z line unit first written) (zeros m) ∙ ap (λ z. touches m line unit z written) (none first)
-  where
-    zeros : (z : ℕ) → 0 + z ≡ z
-    zeros z = omega arith
-
-    none : (z : ℕ) → z ≡ z + 0
-    none z = omega arith
+touches_more zero m line unit first written = ap (λ z. touches z line unit first written) (none_before m) ∙ ap (λ z. touches m line unit z written) (with_none first)
 touches_more (suc n) m line unit first written =
-    ap (λ z. touches z line unit first written) (over n m)
+    ap (λ z. touches z line unit first written) (next_over n m)
     ∙ ap (λ z. record { line = line; input = Submit (one_block unit first written) } ∷ z)
-    (touches_more n m line unit (first + 1) written ∙ ap (λ z. touches n line unit (first + 1) written ++ touches m line unit z written) (along first n))
-  where
-    over : (n m : ℕ) → suc n + m ≡ suc (n + m)
-    over n m = omega arith
-
-    along : (a n : ℕ) → (a + 1) + n ≡ a + suc n
-    along a n = omega arith
+    (touches_more n m line unit (first + 1) written ∙ ap (λ z. touches n line unit (first + 1) written ++ touches m line unit z written) (next_along first n))
 
 -- ---- NONE, and some behind others
 pub called_none : (s : State) (here : Stage) → IsCalled [] s s here here

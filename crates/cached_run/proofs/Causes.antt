@@ -1,5 +1,5 @@
 -- Why playing stopped.
-use Rattle.std.proofs.Common.{◌≡◌, inl, inr, ℕ, ◌≤◌, refl, sym, subst, arith, Some}
+use Rattle.std.proofs.Common.{◌≡◌, inl, inr, ℕ, ◌≤◌, refl, sym, subst, Some}
 use Rattle.std.specs.Prelude.{Result, Ok, Err, Bool, IfErr, OnOk, OnErr}
 use Rattle.std.specs.Result.{IsErrAnd}
 use Rattle.outside_traits.specs.Causes.{Rose}
@@ -16,12 +16,7 @@ use Rattle.script_runs.specs.Stops.{Took}
 use Rattle.script_runs.specs.Faults.{from_stop, IsBefore, IsLongFor}
 use Rattle.cached_run.specs.Faults.{IsCaused}
 use Rattle.cached_run.specs.Theorem.{CachedStops, CachedLeaves}
-
-pub same : (n : ℕ) → n ≤ n
-same n = omega arith
-
-trans : (a b c : ℕ) → a ≤ b → b ≤ c → a ≤ c
-trans a b c p q = omega (arith, p, q)
+use Rattle.cached_run.proofs.Numbers.{itself, through}
 
 -- what holds of an error holds of the result that is it
 pub as_err : {T : Type 0} (P : Result T PlayFault → Type 0) (result : Result T PlayFault) (why : PlayFault) → IsErrAnd result (λ x. x ≡ why) → P (Err why) → P result
@@ -89,9 +84,9 @@ module _ {T : Type 0} {p p' o o' t t' : ℕ} where
 pub caused_more : {T : Type 0} {p0 o0 t0 p p' o o' t t' : ℕ} (result : Result T PlayFault) → p0 ≤ p → o0 ≤ o → t0 ≤ t → IsCaused p p' o o' t t' result → IsCaused p0 p' o0 o' t0 t' result
 caused_more {T} {p0} {o0} {t0} {p} {p'} {o} {o'} {t} {t'} result first next last c = record {
   rise = record {
-    later = trans p0 p p' first c.rise.later;
-    later_out = trans o0 o o' next c.rise.later_out;
-    later_trace = trans t0 t t' last c.rise.later_trace;
+    later = through p0 p p' first c.rise.later;
+    later_out = through o0 o o' next c.rise.later_out;
+    later_trace = through t0 t t' last c.rise.later_trace;
     store = λ e. rose_more p0 p p' first (c.rise.store e);
     sink = λ e. elim (c.rise.sink e) [ inl out ↦ inl (rose_more o0 o o' next out) | inr trace ↦ inr (rose_more t0 t t' last trace) ];
   };
@@ -101,16 +96,10 @@ caused_more {T} {p0} {o0} {t0} {p} {p'} {o} {o'} {t} {t'} result first next last
 
 -- what was handed on of a stop of the driver, and of a sink that failed
 pub stop_caused : {T : Type 0} (result : Result T PlayFault) (why : Stop) (p p' o t t' : ℕ) → IsErrAnd result (λ x. x ≡ from_stop why) → HasCauses p p' t t' (Some why) → IsCaused p p' o o t t' result
-stop_caused result why p p' o t t' is h = as_err (λ z. IsCaused p p' o o t t' z) result (from_stop why) is (caused_stop why h (same o))
+stop_caused result why p p' o t t' is h = as_err (λ z. IsCaused p p' o o t t' z) result (from_stop why) is (caused_stop why h (itself o))
 
 pub sink_caused : {T : Type 0} (result : Result T PlayFault) (p p' o o' t t' : ℕ) → IsErrAnd result (λ x. x ≡ fault.Sink) → p ≤ p' → t ≤ t' → o ≤ o' → Rose o o' → IsCaused p p' o o' t t' result
 sink_caused result p p' o o' t t' is first last next rose = as_err (λ z. IsCaused p p' o o' t t' z) result fault.Sink is (caused_out first last next rose)
-
--- the same of calls behind others
-pub more_caused : {T : Type 0} (result : Result T PlayFault) (why : PlayFault) (p0 p p' o0 o o' t0 t t' : ℕ) → IsErrAnd result (λ x. x ≡ why) → p0 ≤ p → o0 ≤ o → t0 ≤ t
-    → IsCaused {T = T} p p' o o' t t' (Err why) → IsCaused p0 p' o0 o' t0 t' result
-more_caused {T} result why p0 p p' o0 o o' t0 t t' is first next last c =
-    as_err (λ z. IsCaused p0 p' o0 o' t0 t' z) result why is (caused_more {T = T} {p0 = p0} {o0 = o0} {t0 = t0} {p = p} {p' = p'} {o = o} {o' = o'} {t = t} {t' = t'} (Err why) first next last c)
 
 -- what holds where a call came to its end, or where it stopped, is handed on
 pub on_ok_map : {T E P Q : Type 0} (result : Result T E) → (P → Q) → OnOk result P → OnOk result Q

@@ -7,6 +7,7 @@ use Rattle.driver_laws.specs.rules.Waited.{unusable_or, first_unusable}
 use Rattle.cached_run.specs.Answers.{usable_of}
 use Rattle.cached_run.specs.Leaving.{usable_in, tried_in}
 use Rattle.cached_run.specs.Sessions.{tried_of}
+use Rattle.cached_run.proofs.Numbers.{behind_none, none_more}
 
 on_some : (block : Option (List ℕ)) (k : ℕ) (later : Option ℕ) → IsSome block → unusable_or block k later ≡ later
 on_some None k later some = absurd (search arith)
@@ -25,62 +26,41 @@ shift k j = omega arith
 all_from : (left : ℕ) (blocks : Blocks) (first k : ℕ) → ((j : ℕ) → j < left → IsSome (blocks (first + (k + j)))) → first_unusable left blocks first k ≡ None
 all_from zero blocks first k usable = refl
 all_from (suc left) blocks first k usable =
-    on_some (blocks (first + k)) k (first_unusable left blocks first (suc k)) (subst (λ n. IsSome (blocks (first + n))) (here k) (usable 0 (omega arith)))
+    on_some (blocks (first + k)) k (first_unusable left blocks first (suc k)) (subst (λ n. IsSome (blocks (first + n))) (none_more k) (usable 0 (omega arith)))
     ∙ all_from left blocks first (suc k) (λ j lt. subst (λ n. IsSome (blocks (first + n))) (shift k j) (usable (suc j) (omega (arith, lt))))
-  where
-    here : (k : ℕ) → k + 0 ≡ k
-    here k = omega arith
 
 first_from : (left : ℕ) (blocks : Blocks) (first k done : ℕ) → done < left → ((j : ℕ) → j < done → IsSome (blocks (first + (k + j)))) → blocks (first + (k + done)) ≡ None
     → first_unusable left blocks first k ≡ Some (k + done)
 first_from zero blocks first k done lt usable none = absurd (omega (arith, lt))
 first_from (suc left) blocks first k zero lt usable none =
-    on_none (blocks (first + k)) k (first_unusable left blocks first (suc k)) (ap (λ n. blocks (first + n)) (sym (here k)) ∙ none) ∙ ap (λ n. Some n) (sym (here k))
-  where
-    here : (k : ℕ) → k + 0 ≡ k
-    here k = omega arith
+    on_none (blocks (first + k)) k (first_unusable left blocks first (suc k)) (ap (λ n. blocks (first + n)) (sym (none_more k)) ∙ none) ∙ ap (λ n. Some n) (sym (none_more k))
 first_from (suc left) blocks first k (suc done) lt usable none =
-    on_some (blocks (first + k)) k (first_unusable left blocks first (suc k)) (subst (λ n. IsSome (blocks (first + n))) (here k) (usable 0 (omega arith)))
+    on_some (blocks (first + k)) k (first_unusable left blocks first (suc k)) (subst (λ n. IsSome (blocks (first + n))) (none_more k) (usable 0 (omega arith)))
     ∙ first_from left blocks first (suc k) done (omega (arith, lt)) (λ j below. subst (λ n. IsSome (blocks (first + n))) (shift k j) (usable (suc j) (omega (arith, below))))
     (ap (λ n. blocks (first + n)) (sym (shift k done)) ∙ none)
     ∙ ap (λ n. Some n) (sym (shift k done))
-  where
-    here : (k : ℕ) → k + 0 ≡ k
-    here k = omega arith
 
 -- all of them,
 pub all_usable : (contents : Map) (unit first count : ℕ) → ((j : ℕ) → j < count → IsSome (contents unit (first + j))) → count ≡ usable_in contents unit first count
 all_usable contents unit first count usable =
-    sym (ap (λ o. usable_of o count) (all_from count (contents unit) first 0 (λ j lt. subst (λ n. IsSome (contents unit (first + n))) (none j) (usable j lt))))
-  where
-    none : (j : ℕ) → j ≡ 0 + j
-    none j = omega arith
+    sym (ap (λ o. usable_of o count) (all_from count (contents unit) first 0 (λ j lt. subst (λ n. IsSome (contents unit (first + n))) (behind_none j) (usable j lt))))
 
 -- or those before this one
 pub some_usable : (contents : Map) (unit first count done : ℕ) → done < count → ((j : ℕ) → j < done → IsSome (contents unit (first + j))) → contents unit (first + done) ≡ None → done ≡ usable_in contents unit first count
 some_usable contents unit first count done lt usable none =
-    sym (ap (λ o. usable_of o count) (first_from count (contents unit) first 0 done lt (λ j below. subst (λ n. IsSome (contents unit (first + n))) (zeros j) (usable j below))
-    (ap (λ n. contents unit (first + n)) (sym (zeros done)) ∙ none)) ∙ sym (zeros done))
-  where
-    zeros : (j : ℕ) → j ≡ 0 + j
-    zeros j = omega arith
+    sym (ap (λ o. usable_of o count) (first_from count (contents unit) first 0 done lt (λ j below. subst (λ n. IsSome (contents unit (first + n))) (behind_none j) (usable j below))
+    (ap (λ n. contents unit (first + n)) (sym (behind_none done)) ∙ none)) ∙ sym (behind_none done))
 
 -- THE SAME of how many are tried
 pub all_tried : (contents : Map) (unit first count : ℕ) → ((j : ℕ) → j < count → IsSome (contents unit (first + j))) → count ≡ tried_in contents unit first count
 all_tried contents unit first count usable =
-    sym (ap (λ o. tried_of o count) (all_from count (contents unit) first 0 (λ j lt. subst (λ n. IsSome (contents unit (first + n))) (none j) (usable j lt))))
-  where
-    none : (j : ℕ) → j ≡ 0 + j
-    none j = omega arith
+    sym (ap (λ o. tried_of o count) (all_from count (contents unit) first 0 (λ j lt. subst (λ n. IsSome (contents unit (first + n))) (behind_none j) (usable j lt))))
 
 pub some_tried : (contents : Map) (unit first count done : ℕ) → done < count → ((j : ℕ) → j < done → IsSome (contents unit (first + j))) → contents unit (first + done) ≡ None
     → done + 1 ≡ tried_in contents unit first count
 some_tried contents unit first count done lt usable none =
-    sym (ap (λ o. tried_of o count) (first_from count (contents unit) first 0 done lt (λ j below. subst (λ n. IsSome (contents unit (first + n))) (zeros j) (usable j below))
-    (ap (λ n. contents unit (first + n)) (sym (zeros done)) ∙ none)) ∙ ap (λ n. n + 1) (sym (zeros done)))
-  where
-    zeros : (j : ℕ) → j ≡ 0 + j
-    zeros j = omega arith
+    sym (ap (λ o. tried_of o count) (first_from count (contents unit) first 0 done lt (λ j below. subst (λ n. IsSome (contents unit (first + n))) (behind_none j) (usable j below))
+    (ap (λ n. contents unit (first + n)) (sym (behind_none done)) ∙ none)) ∙ ap (λ n. n + 1) (sym (behind_none done)))
 
 -- so one more is tried than these
 pub record IsTriedAt (n k : ℕ) : Type 0 where
@@ -99,23 +79,17 @@ at_least (suc left) zero blocks first k le usable = by (blocks (first + k)) (at_
         let more : suc k + 0 ≤ usable_of (first_unusable left blocks first (suc k)) (k + suc left) = subst (λ n. suc k + 0 ≤ usable_of (first_unusable left blocks first (suc k)) n) (sym (shift k left)) rest in
         omega (arith, more)
 at_least (suc left) (suc n) blocks first k le usable =
-    subst (λ o. k + suc n ≤ usable_of o (k + suc left)) (sym (on_some (blocks (first + k)) k (first_unusable left blocks first (suc k)) (subst (λ n. IsSome (blocks (first + n))) (here k) (usable 0 (omega arith)))))
+    subst (λ o. k + suc n ≤ usable_of o (k + suc left)) (sym (on_some (blocks (first + k)) k (first_unusable left blocks first (suc k)) (subst (λ n. IsSome (blocks (first + n))) (none_more k) (usable 0 (omega arith)))))
     (subst (λ z. z ≤ usable_of (first_unusable left blocks first (suc k)) (k + suc left)) (sym (shift k n))
     (subst (λ z. suc k + n ≤ usable_of (first_unusable left blocks first (suc k)) z) (sym (shift k left))
     (at_least left n blocks first (suc k) (omega (arith, le)) (λ j lt. subst (λ n. IsSome (blocks (first + n))) (shift k j) (usable (suc j) (omega (arith, lt)))))))
-  where
-    here : (k : ℕ) → k + 0 ≡ k
-    here k = omega arith
 
 pub at_least_usable : (contents : Map) (unit first count n : ℕ) → n ≤ count → ((j : ℕ) → j < n → IsSome (contents unit (first + j))) → n ≤ usable_in contents unit first count
 at_least_usable contents unit first count n le usable =
-    subst (λ z. n ≤ usable_of (first_unusable count (contents unit) first 0) z) (sym (none count))
+    subst (λ z. n ≤ usable_of (first_unusable count (contents unit) first 0) z) (sym (behind_none count))
     (from_none n (usable_of (first_unusable count (contents unit) first 0) (0 + count))
-    (at_least count n (contents unit) first 0 le (λ j lt. subst (λ n. IsSome (contents unit (first + n))) (none j) (usable j lt))))
+    (at_least count n (contents unit) first 0 le (λ j lt. subst (λ n. IsSome (contents unit (first + n))) (behind_none j) (usable j lt))))
   where
-    none : (j : ℕ) → j ≡ 0 + j
-    none j = omega arith
-
     from_none : (n m : ℕ) → 0 + n ≤ m → n ≤ m
     from_none n m le = omega (arith, le)
 

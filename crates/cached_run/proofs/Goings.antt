@@ -16,10 +16,7 @@ use Rattle.driver_machine.specs.Guards.{IsSetUp}
 use Rattle.driver_laws.specs.rules.Rest.{HasTables}
 use Rattle.driver_laws.specs.rules.Waited.{map_of, with_packs}
 use Rattle.trace_lines.specs.answers.AnswerText.{answer_text}
-use Rattle.buffer_cache.specs.Passes.{Stage, StillTell}
-use Rattle.buffer_cache.specs.Passes.{setup_at}
-use Rattle.buffer_cache.specs.Passes.{kind_if}
-use Rattle.buffer_cache.specs.Passes.{kind_at, map_at, left_map}
+use Rattle.buffer_cache.specs.Passes.{Stage, StillTell, setup_at, kind_if, kind_at, map_at, left_map}
 use Rattle.buffer_cache.proofs.Passes.{others_over, left_over, map_long}
 use Rattle.driver_laws.specs.rules.Requests.{Map}
 use Rattle.driver_laws.specs.declared.rules.cached.Entry.{Entry}
@@ -36,12 +33,13 @@ use Rattle.cached_run.specs.Leaving.{IsLeft, IsCalled, IsCutIn, Leaves, Makes, K
 use Rattle.cached_run.specs.Sessions.{calls_with, calls_for}
 use Rattle.script_runs.specs.Saying.{said_text}
 use Rattle.cached_run.specs.Saying.{IsSaid, AreLong}
-use Rattle.cached_run.specs.Going.{Scene, with_out, drives_at, blocks_at, IsFar, AskedAll, AskedTill, HasHalted, GoesOn, Halts, SyncGoesOn, SyncHalts, syncs_at}
+use Rattle.cached_run.specs.Going.{Scene, drives_at, blocks_at, IsFar, AskedAll, AskedTill, HasHalted, GoesOn, Halts, syncs_at}
 use Rattle.cached_run.proofs.Replacings.{after_more, same_map, take_first, take_second}
 use Rattle.cached_run.proofs.Inputs.{map_more, map_is, replacements_more, text_more, fewer_before}
 use Rattle.cached_run.proofs.Leavings.{leaves_read}
 use Rattle.cached_run.proofs.Calls.{calls_more, called_then, called_sync, cut_behind, cut_one}
 use Rattle.cached_run.proofs.Legal.{long_inputs}
+use Rattle.cached_run.proofs.Numbers.{both_longer, itself, longer, through}
 
 -- ---- inputs that end with a sync, or have none
 pub ends_with : (xs : List Numbered) (n : Numbered) → n.input ≡ Drain → EndsWithSync (xs ++ n ∷ [])
@@ -57,8 +55,6 @@ no_drain : {r : Request} → Submit r ≡ Drain → ⊥
 no_drain e = cc
 
 -- ---- behind inputs
-through : (a b c : ℕ) → a ≤ b → b ≤ c → a ≤ c
-through a b c p q = omega (arith, p, q)
 
 module _ {first old : Scene} {begun : State} {inputs : List Numbered} {s : State} (far : IsFar first begun inputs s old) where
   cached_is : cached s.entries (map_at old.site) ≡ map_of_inputs (drives_at first) (blocks_at first) inputs
@@ -135,12 +131,6 @@ module _ {first old : Scene} {begun : State} {inputs : List Numbered} {s : State
     left_some u b now left =
         subst (λ z. IsAfter z (length (replacements_of (drives_at first) (blocks_at first) far.holds.synced)) (blocks_at first) u b now) (sym list_more) (by left)
       where
-        longer : (k a b c : ℕ) → k ≤ a → c ≡ a + b → k ≤ c
-        longer k a b c le e = omega (arith, le, e)
-
-        both : (a k b c : ℕ) → k ≤ b → c ≡ a + b → a + k ≤ c
-        both a k b c le e = omega (arith, le, e)
-
         under : (a b k : ℕ) → a ≤ b → a ≤ b + k
         under a b k le = omega (arith, le)
 
@@ -158,7 +148,7 @@ module _ {first old : Scene} {begun : State} {inputs : List Numbered} {s : State
         by (inr some) = record {
           number = length (replacements_of (drives_at first) (blocks_at first) inputs) + some.number;
           from = under (length (replacements_of (drives_at first) (blocks_at first) far.holds.synced)) (length (replacements_of (drives_at first) (blocks_at first) inputs)) some.number synced_few;
-          to = both (length (replacements_of (drives_at first) (blocks_at first) inputs)) some.number (length list) (length (replacements_of (drives_at first) (blocks_at first) inputs ++ list)) some.to
+          to = both_longer (length (replacements_of (drives_at first) (blocks_at first) inputs)) some.number (length list) (length (replacements_of (drives_at first) (blocks_at first) inputs ++ list)) some.to
               (length-append (replacements_of (drives_at first) (blocks_at first) inputs) list);
           holds = some.holds
               ∙ ap (λ z. after (take some.number list) z u b) (cached_is ∙ map_is (drives_at first) (blocks_at first) inputs)
@@ -226,7 +216,7 @@ module _ {first old : Scene} {begun : State} {inputs : List Numbered} {s : State
       → IsCalled (calls_for (drives_at first) (blocks_at first) (inputs ++ record { line = line; input = Submit r } ∷ [])) begun s' first.site new.site
       → IsFar first begun (inputs ++ record { line = line; input = Submit r } ∷ []) s' new
   goes_request line r list text s' new is says t k l m again said later traced calls = record {
-    later_trace = trans first.trace_faults old.trace_faults new.trace_faults far.later_trace traced;
+    later_trace = through first.trace_faults old.trace_faults new.trace_faults far.later_trace traced;
     setup = setup_then new.site k;
     tables = k.tables t far.tables;
     contents = λ u b. m.contents u b ∙ ap (λ z. z u b) (map_then (record { line = line; input = Submit r }) list is);
@@ -246,12 +236,9 @@ module _ {first old : Scene} {begun : State} {inputs : List Numbered} {s : State
     said = λ o. said o ∙ ap (λ z. z ++ text) (far.said (again o)) ∙ append_assoc first.said (text_of (answers_of (drives_at first) (blocks_at first) inputs)) text
         ∙ ap (λ z. first.said ++ (text_of (answers_of (drives_at first) (blocks_at first) inputs) ++ z)) (sym says)
         ∙ ap (λ z. first.said ++ z) (sym (text_more (drives_at first) (blocks_at first) inputs (record { line = line; input = Submit r } ∷ [])));
-    later = trans first.out_faults old.out_faults new.out_faults far.later later;
+    later = through first.out_faults old.out_faults new.out_faults far.later later;
     calls = calls;
   }
-    where
-      trans : (a b c : ℕ) → a ≤ b → b ≤ c → a ≤ c
-      trans a b c p q = omega (arith, p, q)
 
 -- ---- A SYNC: behind it the packs hold what is cached
 unchanged_found : (u b : ℕ) (entries : List Entry) (e : Entry) → entry_of u b (map unchanged entries) ≡ Some e → e.changed ≡ false
@@ -278,11 +265,11 @@ flushed_is entries map_now u b fit = by (entry_of u b (map unchanged entries)) r
         sym (ap (λ z. map_now z b) key.unit_is ∙ ap (λ z. map_now e.unit z) key.block_is
         ∙ (found_all (Fits map_now) u b (map unchanged entries) e fit is).same (unchanged_found u b entries e is))
 
-pub goes_sync : (line : ℕ) (s s' : State) (old new : Stage) (traced traced' : ℕ) → traced ≤ traced' → IsTrue new.packs_tell → StillTell old new → KeepsSetup old new → Syncs line s s' old new
-    → (IsTrue new.packs_tell → HasTables (setup_at old) → AllFit (map_at old) s.entries → Holds 0 0 None s old new) → SyncGoesOn line s s' old new traced traced'
-goes_sync line s s' old new traced traced' less t still k syncs holds says said faults first begun inputs far =
-    let flushes : Flushes (map_at old) (map_at new) s.entries s'.entries = syncs.told t far.tables far.fit in
-    let left = leaves_read 0 0 s old new (holds t far.tables far.fit) in
+pub goes_sync : (line : ℕ) (s s' : State) (old : Scene) (new : Stage) (traced : ℕ) → old.trace_faults ≤ traced → IsTrue new.packs_tell → StillTell old.site new → KeepsSetup old.site new
+    → Syncs line s s' old.site new → IfTold s old.site new (Holds 0 0 None s old.site new) → GoesOn (syncs_at line) s s' old (record old { site = new; trace_faults = traced })
+goes_sync line s s' old new traced less t still k syncs holds first begun inputs far =
+    let flushes : Flushes (map_at old.site) (map_at new) s.entries s'.entries = syncs.told t far.tables far.fit in
+    let left = leaves_read 0 0 s old.site new (holds t far.tables far.fit) in
     record {
       setup = setup_then far new k;
       tables = k.tables t far.tables;
@@ -295,37 +282,34 @@ goes_sync line s s' old new traced traced' less t still k syncs holds says said 
         parted = record { parts = sym (append-nil (inputs ++ syncs_at line)); ends = inr (ends_with inputs (record { line = line; input = Drain }) refl); none = tt };
         each = λ u b. record {
           number = length (replacements_of (drives_at first) (blocks_at first) (inputs ++ syncs_at line));
-          from = here (length (replacements_of (drives_at first) (blocks_at first) (inputs ++ syncs_at line)));
-          to = here (length (replacements_of (drives_at first) (blocks_at first) (inputs ++ syncs_at line)));
+          from = itself (length (replacements_of (drives_at first) (blocks_at first) (inputs ++ syncs_at line)));
+          to = itself (length (replacements_of (drives_at first) (blocks_at first) (inputs ++ syncs_at line)));
           holds = flushes.contents u b ∙ far.contents u b
               ∙ ap (λ z. z u b) (sym (map_more (drives_at first) (blocks_at first) inputs (syncs_at line)) ∙ map_is (drives_at first) (blocks_at first) (inputs ++ syncs_at line))
               ∙ ap (λ z. after z (blocks_at first) u b) (sym (take-length (replacements_of (drives_at first) (blocks_at first) (inputs ++ syncs_at line))));
         };
       };
-      others = others_over first.site old new far.setup far.others left.others;
+      others = others_over first.site old.site new far.setup far.others left.others;
       said = λ o. far.said o ∙ sym (ap (λ z. first.said ++ z) (text_more (drives_at first) (blocks_at first) inputs (syncs_at line) ∙ append-nil (text_of (answers_of (drives_at first) (blocks_at first) inputs))));
       later = far.later;
-      later_trace = through first.trace_faults traced traced' far.later_trace less;
+      later_trace = through first.trace_faults old.trace_faults traced far.later_trace less;
       calls = called_more far (record { line = line; input = Drain }) (syncs_at line) s' new refl still
-          (called_sync line s s' old new syncs (λ u b. same u b flushes.fit ∙ flushes.contents u b));
+          (called_sync line s s' old.site new syncs (λ u b. same u b flushes.fit ∙ flushes.contents u b));
     }
   where
-    here : (n : ℕ) → n ≤ n
-    here n = omega arith
-
     same : (u b : ℕ) → AllFit (map_at new) s'.entries → cached s'.entries (map_at new) u b ≡ map_at new u b
     same u b fit = subst (λ (z : State). cached z.entries (map_at new) u b ≡ map_at new u b) (sym syncs.state)
         (flushed_is s.entries (map_at new) u b (subst (λ (z : State). AllFit (map_at new) z.entries) syncs.state fit))
 
-pub halts_sync : (stop : Stop) (line : ℕ) (s : State) (old new : Stage) (traced traced' : ℕ) → IsTrue new.packs_tell → StillTell old new → (stop ≡ Sink → Rose traced traced')
-    → AsksTill stop line (written_back s.entries) old new → (IsTrue new.packs_tell → HasTables (setup_at old) → AllFit (map_at old) s.entries → Holds 0 0 None s old new) → SyncHalts line s old new traced traced'
-halts_sync stop line s old new traced traced' t still rose till holds says said faults first begun inputs far =
+pub halts_sync : (stop : Stop) (line : ℕ) (s : State) (old : Scene) (new : Stage) (traced : ℕ) → IsTrue new.packs_tell → StillTell old.site new → (stop ≡ Sink → Rose old.trace_faults traced)
+    → AsksTill stop line (written_back s.entries) old.site new → IfTold s old.site new (Holds 0 0 None s old.site new) → Halts (syncs_at line) s old (record old { site = new; trace_faults = traced })
+halts_sync stop line s old new traced t still rose till holds first begun inputs far =
     let n : Numbered = record { line = line; input = Drain } in
-    halts_silent far n [] (with_out new says said faults traced') refl (leaves_read 0 0 s old new (holds t far.tables far.fit)) (λ o. o) refl
+    halts_silent far n [] (record old { site = new; trace_faults = traced }) refl (leaves_read 0 0 s old.site new (holds t far.tables far.fit)) (λ o. o) refl
     (inr (record {
       stop = stop;
-      rose = λ e. rose_more first.trace_faults traced traced' far.later_trace (rose e);
-      cut = cut_more far n (syncs_at line) stop new refl still (cut_one stop (record { at = n; refuses = false }) [] (written_back s.entries) s old new till refl);
+      rose = λ e. rose_more first.trace_faults old.trace_faults traced far.later_trace (rose e);
+      cut = cut_more far n (syncs_at line) stop new refl still (cut_one stop (record { at = n; refuses = false }) [] (written_back s.entries) s old.site new till refl);
     }))
 
 -- ---- A REQUEST

@@ -16,6 +16,7 @@ use Rattle.trace_lines.specs.answers.AnswerText.{answer_text}
 use Rattle.driver_laws.specs.rules.Waited.{first_unusable, answer_by, answer_at, map_at}
 use Rattle.cached_run.specs.Answers.{met_by, first_by, with_answer, map_by, answers_of, map_of_inputs, text_of, replaced, usable_of, replaced_at, replaced_by, replacements_of, with_replacement, after}
 use Rattle.cached_run.proofs.Replacings.{after_more, same_map}
+use Rattle.cached_run.proofs.Numbers.{next_along, next_is, none_before, with_none}
 
 -- ---- more of them
 pub map_more : (drives : ℕ → Option DriveKind) (map : ℕ → Blocks) (xs ys : List Numbered) → map_of_inputs drives map (xs ++ ys) ≡ map_of_inputs drives (map_of_inputs drives map xs) ys
@@ -53,26 +54,15 @@ fewer_before drives map xs ys =
     more a b c e = omega (arith, e)
 
 -- ---- the map behind them is what their replacements leave
-next : (n : ℕ) → suc n ≡ n + 1
-next n = omega arith
 
 replaced_end : (n first k : ℕ) (r : Request) → replaced (suc n) first k r ≡ replaced n first k r ++ record { unit = r.unit; block = first + (k + n); bytes = sector_of_block r (k + n) } ∷ []
-replaced_end zero first k r = ap (λ z. record { unit = r.unit; block = first + z; bytes = sector_of_block r z } ∷ []) (none k)
-  where
-    none : (k : ℕ) → k ≡ k + 0
-    none k = omega arith
+replaced_end zero first k r = ap (λ z. record { unit = r.unit; block = first + z; bytes = sector_of_block r z } ∷ []) (with_none k)
 replaced_end (suc n) first k r =
     ap (λ z. record { unit = r.unit; block = first + k; bytes = sector_of_block r k } ∷ z)
-    (replaced_end n first (k + 1) r ∙ ap (λ z. replaced n first (k + 1) r ++ record { unit = r.unit; block = first + z; bytes = sector_of_block r z } ∷ []) (along k n))
-  where
-    along : (k n : ℕ) → (k + 1) + n ≡ k + suc n
-    along k n = omega arith
+    (replaced_end n first (k + 1) r ∙ ap (λ z. replaced n first (k + 1) r ++ record { unit = r.unit; block = first + z; bytes = sector_of_block r z } ∷ []) (next_along k n))
 
 last_replaced : (n first : ℕ) (r : Request) → replaced (suc n) first 0 r ≡ replaced n first 0 r ++ record { unit = r.unit; block = first + n; bytes = sector_of_block r n } ∷ []
-last_replaced n first r = replaced_end n first 0 r ∙ ap (λ z. replaced n first 0 r ++ record { unit = r.unit; block = first + z; bytes = sector_of_block r z } ∷ []) (zeros n)
-  where
-    zeros : (n : ℕ) → 0 + n ≡ n
-    zeros n = omega arith
+last_replaced n first r = replaced_end n first 0 r ∙ ap (λ z. replaced n first 0 r ++ record { unit = r.unit; block = first + z; bytes = sector_of_block r z } ∷ []) (none_before n)
 
 module _ (map : ℕ → Blocks) (first : ℕ) (r : Request) where
   abbrev Done : (n u b : ℕ) → Option (List ℕ)
@@ -89,9 +79,9 @@ module _ (map : ℕ → Blocks) (first : ℕ) (r : Request) where
       → with_replacement (record { unit = r.unit; block = first + n; bytes = sector_of_block r n }) before u b ≡ Done (suc n) u b
   one_more n u b before writes old = elim (eqb_tells u r.unit) [
     | inl here ↦ elim (eqb_tells b (first + n)) [
-      | inl own ↦ rw (here.0, own.0) (sym (block_done (map u) first r n writes) ∙ ap (λ z. blocks_done (map u) first r (n + 1) z) (sym own.1) ∙ ap (λ z. blocks_done (map u) first r z b) (sym (next n)))
+      | inl own ↦ rw (here.0, own.0) (sym (block_done (map u) first r n writes) ∙ ap (λ z. blocks_done (map u) first r (n + 1) z) (sym own.1) ∙ ap (λ z. blocks_done (map u) first r z b) (sym (next_is n)))
       | inr other ↦ rw (here.0, other.0) (old ∙ ap (λ (t : Bool). (if t then blocks_done (map u) first r n else map u) b) here.0 ∙ sym (other_blocks (map u) first r n b other.1)
-          ∙ ap (λ z. blocks_done (map u) first r z b) (sym (next n)))
+          ∙ ap (λ z. blocks_done (map u) first r z b) (sym (next_is n)))
     ]
     | inr there ↦ rw there.0 (old ∙ ap (λ (t : Bool). (if t then blocks_done (map u) first r n else map u) b) there.0)
   ]

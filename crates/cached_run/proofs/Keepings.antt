@@ -1,17 +1,13 @@
 -- What calls keep, one behind the other.
 use Rattle.std.proofs.Common.{◌≡◌, ℕ, List, ◌+◌, ◌<◌, ◌≤◌, IsTrue, refl, sym, ap, subst, ◌∙◌, arith}
-use Rattle.std.specs.Prelude.{Result, Ok, Err, IfErr, IsErrAnd, None}
-use Rattle.driver_laws.specs.declared.answers.outcome.Stop.{Stop}
+use Rattle.std.specs.Prelude.{Err, None}
 use Rattle.pack_geometry.specs.declared.DriveKind.{DriveKind}
-use Rattle.pack_geometry.specs.declared.DriveKind.TheVariants.{Rp06}
 use Rattle.pack_geometry.specs.Geometry.{limit_of}
 use Rattle.trace_replay.specs.requests.Requests.{Request}
 use Rattle.driver_laws.specs.rules.Stands.{Setup}
 use Rattle.driver_laws.specs.rules.Waited.{with_packs}
-use Rattle.buffer_cache.specs.Passes.{Stage}
-use Rattle.driver_machine.specs.World.{World}
+use Rattle.buffer_cache.specs.Passes.{Stage, kind_at}
 use Rattle.driver_machine.specs.Guards.{IsSetUp}
-use Rattle.buffer_cache.specs.Passes.{kind_at}
 use Rattle.buffer_cache.specs.Asks.{IsData, Asks}
 use Rattle.buffer_cache.proofs.Passes.{kind_stays}
 use Rattle.buffer_cache.specs.Calls.{stop_of}
@@ -47,8 +43,3 @@ data_at old new unit first count k lt keeps units are =
 -- a block that can't be used stops nothing
 pub not_stopped : (A : Type 0) (why : CacheFault) → why ≡ fault.Unusable → stop_of {A = A} (Err why) ≡ None
 not_stopped A why is = ap (λ z. stop_of {A = A} (Err z)) is
-
--- what stopped a call is handed on
-pub on_stop : {T : Type 0} (Q : Stop → Type 0) (result : Result T Stop) (stop : Stop) → IsErrAnd result (λ x. x ≡ stop) → Q stop → IfErr result Q
-on_stop Q (Ok value) stop is holds = tt
-on_stop Q (Err other) stop is holds = subst Q (sym is) holds

@@ -1,11 +1,9 @@
 -- What calls leave, one behind the other.
-use Rattle.std.proofs.Common.{◌≡◌, inl, inr, ℕ, ◌+◌, ◌≤◌, false, true, List, [], ◌∷◌, ◌++◌, length, take, Option, None, Some, refl, sym, ap, ◌∙◌, subst, arith, length-append}
+use Rattle.std.proofs.Common.{◌≡◌, inl, inr, ℕ, ◌+◌, false, true, List, [], ◌∷◌, ◌++◌, length, take, Option, None, Some, refl, sym, ap, ◌∙◌, subst, arith, length-append}
 use Rattle.std.specs.Prelude.{if◌then◌else◌, ◌==◌, ◌&&◌}
 use Rattle.std.proofs.lemmas.Bool.{eq-eqb}
 use Rattle.driver_laws.specs.rules.Waited.{map_of, with_packs}
-use Rattle.buffer_cache.specs.Passes.{Stage}
-use Rattle.buffer_cache.specs.Passes.{setup_at}
-use Rattle.buffer_cache.specs.Passes.{map_at, left_map}
+use Rattle.buffer_cache.specs.Passes.{Stage, setup_at, map_at, left_map}
 use Rattle.buffer_cache.proofs.Passes.{others_none, others_over, left_over}
 use Rattle.driver_laws.specs.declared.rules.cached.Entry.{Entry}
 use Rattle.driver_laws.specs.rules.Requests.{Map}
@@ -15,6 +13,7 @@ use Rattle.buffer_cache.specs.Calls.{Holds}
 use Rattle.cached_run.specs.Answers.{Replacement, after}
 use Rattle.cached_run.specs.Leaving.{IsLeft, Leaves, Makes, KeepsSetup}
 use Rattle.cached_run.proofs.Replacings.{after_more, same_map, take_first, take_second}
+use Rattle.cached_run.proofs.Numbers.{both_longer, longer}
 
 -- ---- nothing is done
 pub leaves_none : (list : List Replacement) (s : State) (here : Stage) → Leaves list s here here
@@ -31,9 +30,6 @@ left_more list more map entries u b now (inr some) = inr (record {
   to = let to = some.to in let e = length-append list more in longer some.number (length list) (length more) (length (list ++ more)) to e;
   holds = some.holds ∙ ap (λ z. after z (cached entries map) u b) (sym (take_first some.number list more some.to));
 })
-  where
-    longer : (n a b c : ℕ) → n ≤ a → c ≡ a + b → n ≤ c
-    longer n a b c le e = omega (arith, le, e)
 
 pub leaves_more : (list more : List Replacement) (s : State) (old new : Stage) → Leaves list s old new → Leaves (list ++ more) s old new
 leaves_more list more s old new l = record { each = λ u b. left_more list more (map_at old) s.entries u b (left_map old new u b) (l.each u b); others = l.others }
@@ -45,14 +41,11 @@ left_then first next map mid entries between u b now before contents (inl same) 
     subst (IsLeft (first ++ next) map entries u b) (sym same) (left_more first next map entries u b (mid u b) before)
 left_then first next map mid entries between u b now before contents (inr some) = inr (record {
   number = length first + some.number;
-  to = let to = some.to in let e = length-append first next in both (length first) some.number (length next) (length (first ++ next)) to e;
+  to = let to = some.to in let e = length-append first next in both_longer (length first) some.number (length next) (length (first ++ next)) to e;
   holds = some.holds ∙ ap (λ z. after (take some.number next) z u b) contents
       ∙ ap (λ z. z u b) (sym (after_more first (take some.number next) (cached entries map)))
       ∙ ap (λ z. after z (cached entries map) u b) (sym (take_second first next some.number));
 })
-  where
-    both : (a n b c : ℕ) → n ≤ b → c ≡ a + b → a + n ≤ c
-    both a n b c le e = omega (arith, le, e)
 
 pub leaves_then : (first next : List Replacement) (s s' : State) (old mid new : Stage) → KeepsSetup old mid → Leaves first s old mid → Makes first s s' old mid → Leaves next s' mid new → Leaves (first ++ next) s old new
 leaves_then first next s s' old mid new k l m n = record {

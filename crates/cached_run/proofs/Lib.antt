@@ -1,3 +1,4 @@
+mod Numbers
 mod Replacings
 mod Leavings
 mod Firsts

@@ -1,5 +1,5 @@
 -- What is played at a line is what its statement says.
-use Rattle.std.proofs.Common.{◌≡◌, ℕ, ◌≤◌, IsTrue, List, [], ◌∷◌, ◌++◌, None, Some, refl, sym, ap, ◌∙◌, subst, append-nil}
+use Rattle.std.proofs.Common.{◌≡◌, ℕ, ◌≤◌, IsTrue, List, [], ◌∷◌, ◌++◌, Some, refl, sym, ap, ◌∙◌, subst, append-nil}
 use Rattle.std.specs.Prelude.{Result, Ok, Err, IsErrAnd}
 use Rattle.outside_traits.specs.Puts.{Puts}
 use Rattle.trace_replay.specs.requests.Requests.{Request}
@@ -25,9 +25,10 @@ use Rattle.cached_run.specs.Answers.{replaced_with}
 use Rattle.cached_run.specs.Going.{Scene, IsFar, GoesOn, Halts, HaltsScript, syncs_at}
 use Rattle.cached_run.specs.Lines.{MayPlay, input_at}
 use Rattle.cached_run.specs.Places.{Answers, IsSilent, OnlySays, Passes, Place, Plays, PlaysScript, contents_at, plays_at, scene_at, world_at}
-use Rattle.cached_run.proofs.Causes.{same, caused_more, caused_ok, sink_caused, stop_caused}
+use Rattle.cached_run.proofs.Causes.{caused_more, caused_ok, sink_caused, stop_caused}
 use Rattle.cached_run.proofs.Goings.{goes_sync, halts_sync, request_goes, request_halts, saying_halts}
 use Rattle.cached_run.proofs.Keepings.{setup_asked}
+use Rattle.cached_run.proofs.Numbers.{itself}
 
 -- a line with no input
 pub goes_none : (s : State) (here : Scene) → GoesOn [] s s here here
@@ -56,7 +57,7 @@ halts_script script before (n ∷ own) rest begun s first old new split far halt
 pub passes_none : (here : Place) → Passes (Ok tt) here here
 passes_none here = record {
   told = record { never_again = λ t. t; never_again_out = λ t. t; never_again_trace = λ t. t };
-  causes = caused_ok tt (same here.spot.packs_faults) (same here.out_faults) (same here.spot.trace_faults);
+  causes = caused_ok tt (itself here.spot.packs_faults) (itself here.out_faults) (itself here.spot.trace_faults);
 }
 
 pub passes_more : {first old new : Place} (result : Result (Unit {0}) PlayFault) → Passes (Ok tt) first old → Passes result old new → Passes result first new
@@ -141,8 +142,7 @@ pub plays_stopped : {line : ℕ} {old new : Place} (result : Result (Unit {0}) P
 plays_stopped (Ok value) stop is s silent = absurd is
 plays_stopped {line} {old} {new} (Err why) stop is s silent = subst (λ (z : Place). Plays (syncs_at line) (Err why) old z) (sym silent) (record {
   goes = tt;
-  halts = λ t. halts_sync stop line old.cache (seen old.spot) (seen new.spot) old.spot.trace_faults new.spot.trace_faults t (still s.keeps) (λ e. s.keeps.causes.sink (ap (λ (z : Stop). Some z) e)) s.till s.holds
-      old.out_tells old.said old.out_faults;
+  halts = λ t. halts_sync stop line old.cache (scene_at old) (seen new.spot) new.spot.trace_faults t (still s.keeps) (λ e. s.keeps.causes.sink (ap (λ (z : Stop). Some z) e)) s.till s.holds;
   may = tt;
   units = tt;
   passes = record {
@@ -153,14 +153,13 @@ plays_stopped {line} {old} {new} (Err why) stop is s silent = subst (λ (z : Pla
 
 pub plays_synced : {line : ℕ} {old new : Place} (value : Unit {0}) → SyncsOrStops line (Ok value) old.cache new.cache old.spot new.spot → IsSilent old new → Plays (syncs_at line) (Ok tt) old new
 plays_synced {line} {old} {new} value s silent = subst (λ (z : Place). Plays (syncs_at line) (Ok tt) old z) (sym silent) (record {
-  goes = λ t. goes_sync line old.cache new.cache (seen old.spot) (seen new.spot) old.spot.trace_faults new.spot.trace_faults s.keeps.causes.later t (still s.keeps) (setup_asked (seen old.spot) (seen new.spot) s.done.asks) s.done s.holds
-      old.out_tells old.said old.out_faults;
+  goes = λ t. goes_sync line old.cache new.cache (scene_at old) (seen new.spot) new.spot.trace_faults s.keeps.causes.later t (still s.keeps) (setup_asked (seen old.spot) (seen new.spot) s.done.asks) s.done s.holds;
   halts = tt;
   may = s.may;
   units = s.keeps.units refl;
   passes = record {
     told = record { never_again = s.keeps.never_again; never_again_out = λ t. t; never_again_trace = s.keeps.never_again_trace };
-    causes = caused_ok tt s.keeps.causes.later_packs (same old.out_faults) s.keeps.causes.later;
+    causes = caused_ok tt s.keeps.causes.later_packs (itself old.out_faults) s.keeps.causes.later;
   };
 })
 

@@ -29,6 +29,7 @@ use Rattle.cached_run.specs.Sessions.{block_of, blocks_from, tried_of, blocks_at
 use Rattle.cached_run.specs.Leaving.{AreRead, usable_in, tried_in, touches, spread}
 use Rattle.script_reader.specs.cached.Meaning.{filled, one_filled, request_of}
 use Rattle.cached_run.specs.Saying.{AreLong, IsSaid, kind_by, GivesAmong}
+use Rattle.cached_run.proofs.Numbers.{from_none, itself, next_is, one_along, with_none}
 
 -- ---- with no blocks
 module _ (kind : DriveKind) (blocks : Blocks) (r : Request) (lines : List (List ℕ)) where
@@ -66,9 +67,6 @@ whole_size : {s : ℕ} (t : Bool) → (if t then s else s) ≡ s
 whole_size true = refl
 whole_size false = refl
 
-next : (n : ℕ) → suc n ≡ n + 1
-next n = omega arith
-
 module _ (blocks : Blocks) (first : ℕ) (r : Request) (whole : r.last ≡ 512) (lines : List (List ℕ)) (long : AreLong blocks) (room : r.count ≤ length lines)
     (are : (k : ℕ) → k < r.count → blocks (first + k) ≡ Some (slice_index_or lines k [])) where
   long_at : (k : ℕ) → k < r.count → length (slice_index_or lines k []) ≡ 512
@@ -94,7 +92,7 @@ module _ (blocks : Blocks) (first : ℕ) (r : Request) (whole : r.last ≡ 512) 
       ∙ ap (λ z. joined (take n lines) ++ z) (one_taken n (omega (arith, le)))
       ∙ sym (joined_end (take n lines) (slice_index_or lines n []))
       ∙ ap joined (sym (take_more lines n [] (omega (arith, le, room))))
-      ∙ ap (λ z. joined (take z lines)) (sym (next n))
+      ∙ ap (λ z. joined (take z lines)) (sym (next_is n))
 
   taken_at : (k : ℕ) → k < r.count → length (slice_index_or (take r.count lines) k []) ≡ 512
   taken_at k lt = ap length (get_or-take r.count lines k [] lt) ∙ long_at k lt
@@ -110,10 +108,7 @@ module _ (blocks : Blocks) (first : ℕ) (r : Request) (whole : r.last ≡ 512) 
   }
 
   pub read_text : (line id : ℕ) → answer_text (record { line = line; id = id; answer = ReadOk (joined (take r.count lines)) }) ≡ answer_text (record { line = line; id = id; answer = ReadOk (bytes_of_first r.count blocks first r) })
-  read_text line id = ap (λ z. answer_text (record { line = line; id = id; answer = ReadOk z })) (sym (bytes_are r.count (here r.count)))
-    where
-      here : (n : ℕ) → n ≤ n
-      here n = omega arith
+  read_text line id = ap (λ z. answer_text (record { line = line; id = id; answer = ReadOk z })) (sym (bytes_are r.count (itself r.count)))
 
   pub read_blocks_said : (line id : ℕ) → answer_text (record { line = line; id = id; answer = ReadOk (joined (take r.count lines)) }) ≡ answer_line line id (ReadOk (joined (take r.count lines))) ++ block_texts 0 (take r.count lines)
   read_blocks_said line id = blocks_said line id (take r.count lines) are_blocks
@@ -196,73 +191,49 @@ module _ (a : Asked) (fill : ℕ) where
   spread_from zero first k le = refl
   spread_from (suc n) first k le =
       ap (λ z. record { unit = a.unit; block = first + k; bytes = z } ∷ spread n a.unit ((first + k) + 1) (one_filled fill)) (sym (sector_is k (omega (arith, le))))
-      ∙ ap (λ z. record { unit = a.unit; block = first + k; bytes = sector_of_block (request_of a (Some (filled a.count fill))) k } ∷ spread n a.unit z (one_filled fill)) (along first k)
+      ∙ ap (λ z. record { unit = a.unit; block = first + k; bytes = sector_of_block (request_of a (Some (filled a.count fill))) k } ∷ spread n a.unit z (one_filled fill)) (one_along first k)
       ∙ ap (λ z. record { unit = a.unit; block = first + k; bytes = sector_of_block (request_of a (Some (filled a.count fill))) k } ∷ z) (spread_from n first (k + 1) (omega (arith, le)))
-    where
-      along : (first k : ℕ) → (first + k) + 1 ≡ first + (k + 1)
-      along first k = omega arith
 
   no_more : (unusable : Option ℕ) (blocks : Blocks) (first : ℕ) → first_unusable a.count blocks first 0 ≡ unusable → usable_of unusable a.count ≤ a.count
-  no_more None blocks first e = here a.count
-    where
-      here : (n : ℕ) → n ≤ n
-      here n = omega arith
+  no_more None blocks first e = itself a.count
   no_more (Some d) blocks first e = let lt = (first_is a.count blocks first 0 d e).below in omega (arith, lt)
 
   pub spread_is : (kind : DriveKind) (contents : Map) (first : ℕ) → admission kind C a.block a.count ≡ Inside first → first ≡ first_of kind C + a.block
       → spread (usable_in contents a.unit first a.count) a.unit first (one_filled fill) ≡ replaced_with kind (contents a.unit) (request_of a (Some (filled a.count fill)))
   spread_is kind contents first met is =
       let n : ℕ = usable_in contents a.unit first a.count in
-      ap (λ z. spread n a.unit z (one_filled fill)) (none first)
+      ap (λ z. spread n a.unit z (one_filled fill)) (with_none first)
       ∙ spread_from n first 0 (from_none n a.count (no_more (first_unusable a.count (contents a.unit) first 0) (contents a.unit) first refl))
       ∙ ap (λ z. replaced (usable_of (first_unusable a.count (contents a.unit) z 0) a.count) z 0 (request_of a (Some (filled a.count fill)))) is
       ∙ sym (ap (λ z. replaced_at z (contents a.unit) (first_of kind C + a.block) (request_of a (Some (filled a.count fill)))) met)
-    where
-      none : (first : ℕ) → first ≡ first + 0
-      none first = omega arith
-
-      from_none : (n m : ℕ) → n ≤ m → 0 + n ≤ m
-      from_none n m le = omega (arith, le)
 
   -- and the blocks that are tried
   pub tried_from : (n line first k : ℕ) → k + n ≤ a.count → touches n line a.unit (first + k) (Some (one_filled fill)) ≡ blocks_from n line first k (request_of a (Some (filled a.count fill)))
   tried_from zero line first k le = refl
   tried_from (suc n) line first k le =
       ap (λ z. record { line = line; input = Submit (one_block a.unit (first + k) (Some z)) } ∷ touches n line a.unit ((first + k) + 1) (Some (one_filled fill))) (sym (sector_is k (omega (arith, le))))
-      ∙ ap (λ z. record { line = line; input = Submit (block_of (request_of a (Some (filled a.count fill))) first k) } ∷ touches n line a.unit z (Some (one_filled fill))) (along first k)
+      ∙ ap (λ z. record { line = line; input = Submit (block_of (request_of a (Some (filled a.count fill))) first k) } ∷ touches n line a.unit z (Some (one_filled fill))) (one_along first k)
       ∙ ap (λ z. record { line = line; input = Submit (block_of (request_of a (Some (filled a.count fill))) first k) } ∷ z) (tried_from n line first (k + 1) (omega (arith, le)))
-    where
-      along : (first k : ℕ) → (first + k) + 1 ≡ first + (k + 1)
-      along first k = omega arith
 
 pub tried_few : (a : Asked) (blocks : Blocks) (first : ℕ) → tried_of (first_unusable a.count blocks first 0) a.count ≤ a.count
 tried_few a blocks first = by (first_unusable a.count blocks first 0) refl
   where
     by : (unusable : Option ℕ) → first_unusable a.count blocks first 0 ≡ unusable → tried_of unusable a.count ≤ a.count
-    by None e = here a.count
-      where
-        here : (n : ℕ) → n ≤ n
-        here n = omega arith
+    by None e = itself a.count
     by (Some d) e = let lt = (first_is a.count blocks first 0 d e).below in omega (arith, lt)
 
 read_from : (n line first k : ℕ) (a : Asked) → touches n line a.unit (first + k) None ≡ blocks_from n line first k (request_of a None)
 read_from zero line first k a = refl
 read_from (suc n) line first k a =
-    ap (λ z. record { line = line; input = Submit (one_block a.unit (first + k) None) } ∷ touches n line a.unit z None) (along first k)
+    ap (λ z. record { line = line; input = Submit (one_block a.unit (first + k) None) } ∷ touches n line a.unit z None) (one_along first k)
     ∙ ap (λ z. record { line = line; input = Submit (one_block a.unit (first + k) None) } ∷ z) (read_from n line first (k + 1) a)
-  where
-    along : (first k : ℕ) → (first + k) + 1 ≡ first + (k + 1)
-    along first k = omega arith
 
 module _ (kind : DriveKind) (line : ℕ) (a : Asked) where
-  at_none : (first : ℕ) → first ≡ first + 0
-  at_none first = omega arith
-
   pub touches_read : (contents : Map) (first : ℕ) → admission kind C a.block a.count ≡ Inside first → first ≡ first_of kind C + a.block
       → touches (tried_in contents a.unit first a.count) line a.unit first None ≡ calls_with kind (contents a.unit) line (request_of a None)
   touches_read contents first met is =
       let n : ℕ = tried_in contents a.unit first a.count in
-      ap (λ z. touches n line a.unit z None) (at_none first)
+      ap (λ z. touches n line a.unit z None) (with_none first)
       ∙ read_from n line first 0 a
       ∙ ap (λ z. blocks_from (tried_of (first_unusable a.count (contents a.unit) z 0) a.count) line z 0 (request_of a None)) is
       ∙ sym (ap (λ z. blocks_at z (contents a.unit) line (first_of kind C + a.block) (request_of a None)) met)
@@ -271,13 +242,10 @@ module _ (kind : DriveKind) (line : ℕ) (a : Asked) where
       → touches (tried_in contents a.unit first a.count) line a.unit first (Some (one_filled fill)) ≡ calls_with kind (contents a.unit) line (request_of a (Some (filled a.count fill)))
   touches_write fill contents first met is =
       let n : ℕ = tried_in contents a.unit first a.count in
-      ap (λ z. touches n line a.unit z (Some (one_filled fill))) (at_none first)
+      ap (λ z. touches n line a.unit z (Some (one_filled fill))) (with_none first)
       ∙ tried_from a fill n line first 0 (from_none n a.count (tried_few a (contents a.unit) first))
       ∙ ap (λ z. blocks_from (tried_of (first_unusable a.count (contents a.unit) z 0) a.count) line z 0 (request_of a (Some (filled a.count fill)))) is
       ∙ sym (ap (λ z. blocks_at z (contents a.unit) line (first_of kind C + a.block) (request_of a (Some (filled a.count fill)))) met)
-    where
-      from_none : (n m : ℕ) → n ≤ m → 0 + n ≤ m
-      from_none n m le = omega (arith, le)
 
 -- ---- THE SAME of what a line asks for
 module _ (kind : DriveKind) (contents : Map) (a : Asked) (first done : ℕ) (met : admission kind C a.block a.count ≡ Inside first) (is : first ≡ first_of kind C + a.block) where

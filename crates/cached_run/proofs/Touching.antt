@@ -1,12 +1,11 @@
 -- The blocks of a request, one behind the other.
-use Rattle.std.proofs.Common.{◌≡◌, ℕ, ◌+◌, ◌<◌, true, IsTrue, List, [], length, Option, None, Some, refl, ap, ◌∙◌, subst}
+use Rattle.std.proofs.Common.{◌≡◌, ℕ, ◌+◌, ◌<◌, true, List, [], length, Option, None, Some, refl, ap, ◌∙◌, subst}
 use Rattle.std.specs.Prelude.{Result, Ok, Err, slice_index_or, slice_set}
 use Rattle.driver_laws.specs.declared.answers.outcome.Stop.{Stop}
 use Rattle.driver_laws.specs.rules.Requests.{Map}
 use Rattle.driver_laws.specs.rules.Entries.{State}
-use Rattle.buffer_cache.specs.Passes.{Keeps}
+use Rattle.buffer_cache.specs.Passes.{Keeps, Stage, map_at, seen}
 use Rattle.buffer_cache.proofs.Passes.{keeps_join, keeps_none, still}
-use Rattle.buffer_cache.specs.Passes.{Stage, map_at, seen}
 use Rattle.driver_laws.specs.rules.Contents.{cached}
 use Rattle.buffer_cache.specs.Asks.{AsksTill}
 use Rattle.buffer_cache.specs.Calls.{Holds, IfTold, MayUse, stop_of}

@@ -1,8 +1,7 @@
 -- A script that was played to its end, and one that stopped.
-use Rattle.std.proofs.Common.{◌≡◌, inl, inr, ℕ, ◌<◌, ◌≤◌, ◌==◌, IsTrue, List, [], ◌∷◌, ◌++◌, length, take, Option, None, Some, refl, sym, ap, ◌∙◌, subst, arith, append-nil}
+use Rattle.std.proofs.Common.{◌≡◌, inl, inr, ℕ, ◌<◌, ◌≤◌, ◌==◌, IsTrue, List, [], ◌∷◌, ◌++◌, length, Option, None, Some, refl, sym, ap, ◌∙◌, subst, arith, append-nil}
 use Rattle.std.specs.Prelude.{not, slice_index}
 use Rattle.std.proofs.lemmas.List.{take_all}
-use Rattle.outside_traits.specs.Causes.{Rose}
 use Rattle.outside_traits.specs.Puts.{TakesFront}
 use Rattle.pack_geometry.specs.declared.DriveKind.{DriveKind}
 use Rattle.pack_geometry.specs.declared.DriveKind.TheVariants.{Rp06}
@@ -19,18 +18,13 @@ use Rattle.driver_laws.specs.rules.LegalAnswers.{AreLegal, all_claimed}
 use Rattle.driver_laws.specs.rules.Stands.{Setup, home_at, home_in}
 use Rattle.driver_laws.specs.rules.Rest.{HasTables}
 use Rattle.driver_laws.specs.rules.Waited.{map_of, with_packs}
-use Rattle.buffer_cache.specs.Passes.{StandsQuiet, moments_in, setup_at}
-use Rattle.buffer_cache.specs.Passes.{OthersStay}
-use Rattle.buffer_cache.specs.Passes.{map_at, left_map}
+use Rattle.buffer_cache.specs.Passes.{StandsQuiet, moments_in, setup_at, OthersStay, map_at, left_map, LongAt}
 use Rattle.buffer_cache.proofs.Passes.{map_long}
 use Rattle.driver_laws.specs.rules.Entries.{State, empty_cache}
 use Rattle.driver_laws.specs.rules.Contents.{cached}
 use Rattle.driver_laws.specs.rules.Requests.{Map}
-use Rattle.driver_laws.specs.rules.Sessions.{told_in}
 use Rattle.trace_replay.specs.Runs.{start_of}
-use Rattle.trace_replay.specs.Text.{trace_text}
 use Rattle.script_runs.specs.StopsPasses.{AreAsLong}
-use Rattle.buffer_cache.specs.Passes.{LongAt, Took as TookLines}
 use Rattle.cached_run.specs.Leaving.{IsCalled}
 use Rattle.cached_run.specs.Sessions.{calls_for, called, maps_behind, asked_by, cache_behind, parts_in, parts_till}
 use Rattle.cached_run.proofs.Replacings.{same_map}
@@ -105,16 +99,28 @@ rest_stays script tables old new read o = record {
   others = o.stay.others;
 }
 
-module _ (script : Script) (tables : ℕ → Option Table) (old new : ℕ → Pack) (first now : Scene) (set : setup_at first.site ≡ setup_for script tables old) (held : now.site.held ≡ new)
-    (read : AreTablesOf (drives_of script) old tables) where
-  left_is : left_map first.site now.site ≡ contents script tables new
-  left_is = ap (λ (z : Setup). map_of (with_packs z now.site.held)) set ∙ ap (λ h. contents script tables h) held
+-- WHAT THE SINKS TOOK from one place to another
+abbrev pub said_between : (first now : Scene) → Took
+said_between first now = record { tells = now.out_tells; before = first.said; after = now.said; faults = first.out_faults; faults_after = now.out_faults }
 
-  others_are : OthersStay (setup_at first.site) now.site.held → OthersStay (setup_for script tables old) new
-  others_are o = subst (OthersStay (setup_for script tables old)) held (subst (λ (z : Setup). OthersStay z now.site.held) set o)
+abbrev pub told_between : (first now : Scene) → Took
+told_between first now = record { tells = now.site.trace_tells; before = first.site.taken; after = now.site.taken; faults = first.trace_faults; faults_after = now.trace_faults }
 
-  module _ (capacity : ℕ) (begun s : State) (trace : Took) (empty : begun ≡ empty_cache capacity) (t : IsTrue now.site.packs_tell) (has : HasTables (setup_at first.site))
+module _ (script : Script) (tables : ℕ → Option Table) (old : ℕ → Pack) (first now : Scene) (set : setup_at first.site ≡ setup_for script tables old) (read : AreTablesOf (drives_of script) old tables) where
+  left_is : left_map first.site now.site ≡ contents script tables now.site.held
+  left_is = ap (λ (z : Setup). map_of (with_packs z now.site.held)) set
+
+  others_are : OthersStay (setup_at first.site) now.site.held → OthersStay (setup_for script tables old) now.site.held
+  others_are o = subst (λ (z : Setup). OthersStay z now.site.held) set o
+
+  answers_as : (start : List ℕ) (inputs : List Numbered) → start ++ text_of (answers_of (drives_at first) (blocks_at first) inputs) ≡ start ++ text_of (answers_of (drives_of script) (contents script tables old) inputs)
+  answers_as start inputs = ap (λ (z : Setup). start ++ text_of (answers_of z.drives (map_of z) inputs)) set
+
+  module _ (capacity : ℕ) (begun : State) (empty : begun ≡ empty_cache capacity) (t : IsTrue now.site.packs_tell)
       (stands : StandsQuiet first.site.held first.site.world (start_of script tables old)) where
+    has : HasTables (setup_at first.site)
+    has = subst HasTables (sym set) read
+
     contents_is : cached begun.entries (map_at first.site) ≡ contents script tables old
     contents_is =
         ap (λ (b : State). cached b.entries (map_at first.site)) empty
@@ -122,9 +128,9 @@ module _ (script : Script) (tables : ℕ → Option Table) (old new : ℕ → Pa
         ∙ ap (λ (z : Setup). map_of z) set
 
     -- THE REQUESTS
-    has_asked : (inputs : List Numbered) → IsCalled (calls_for (drives_at first) (blocks_at first) inputs) begun s first.site now.site
-        → trace.before ≡ first.site.taken → trace.after ≡ now.site.taken → trace.tells ≡ now.site.trace_tells → HasAsked capacity script tables old new trace inputs
-    has_asked inputs calls taken taken' traces = record {
+    has_asked : {s : State} (inputs : List Numbered) → IsCalled (calls_for (drives_at first) (blocks_at first) inputs) begun s first.site now.site
+        → HasAsked capacity script tables old now.site.held (told_between first now) inputs
+    has_asked inputs calls = record {
       sessions = calls.sessions;
       asks = record {
         calls = calls.calls;
@@ -132,16 +138,15 @@ module _ (script : Script) (tables : ℕ → Option Table) (old new : ℕ → Pa
         requests = calls.requests ∙ ap (λ (m : Map). asked_by m begun calls.calls) contents_is ∙ ap (λ (b : State). asked_by (contents script tables old) b calls.calls) empty;
       };
       lawful = (calls.goes.reaches t has (start_of script tables old) stands).session;
-      told = λ told. taken' ∙ calls.goes.trace (subst IsTrue traces told) ∙ ap (λ z. z ++ trace_text (told_in (parts_in calls.sessions))) (sym taken);
-      long = subst (λ (h : ℕ → Pack). AreAsLong (start_of script tables old) (moments_in (parts_in calls.sessions)) h new) (ap (λ (z : Setup). z.packs) set)
-          (subst (AreAsLong (start_of script tables old) (moments_in (parts_in calls.sessions)) first.site.held) held (calls.goes.long t has (start_of script tables old) stands));
+      told = λ told. calls.goes.trace told;
+      long = subst (λ (h : ℕ → Pack). AreAsLong (start_of script tables old) (moments_in (parts_in calls.sessions)) h now.site.held) (ap (λ (z : Setup). z.packs) set)
+          (calls.goes.long t has (start_of script tables old) stands);
     }
 
-    has_asked_till : (before : List Numbered) (at : Numbered) → AskedTill first begun before at now → trace.before ≡ first.site.taken → trace.after ≡ now.site.taken → trace.tells ≡ now.site.trace_tells
-        → trace.faults ≡ first.trace_faults → trace.faults_after ≡ now.trace_faults → HasAskedTill capacity script tables old new trace before at
-    has_asked_till before at a taken taken' traces faults faults_after = record {
+    has_asked_till : (before : List Numbered) (at : Numbered) → AskedTill first begun before at now → HasAskedTill capacity script tables old now.site.held (told_between first now) before at
+    has_asked_till before at a = record {
       stop = a.stop;
-      rose = λ e. subst (λ z. Rose z trace.faults_after) (sym faults) (subst (λ z. Rose first.trace_faults z) (sym faults_after) (a.rose e));
+      rose = a.rose;
       cut = record {
         done = a.cut.cut.done;
         under = a.cut.cut.under;
@@ -161,82 +166,63 @@ module _ (script : Script) (tables : ℕ → Option Table) (old new : ℕ → Pa
             ∙ ap (λ (b : State). asked_by (maps_behind (contents script tables old) (called a.cut.cut.done)) (cache_behind (contents script tables old) b a.cut.cut.done) (a.cut.cut.under ∷ [])) empty;
       };
       lawful = (a.cut.stops.cut t has (start_of script tables old) stands).session;
-      told = λ told. subst (λ z. TookLines a.stop z trace.after (trace_text (told_in (parts_till a.cut.cut)))) (sym taken)
-          (subst (λ z. TookLines a.stop first.site.taken z (trace_text (told_in (parts_till a.cut.cut)))) (sym taken') (a.cut.stops.trace (subst IsTrue traces told)));
-      long = subst (λ (h : ℕ → Pack). LongAt a.stop (parts_till a.cut.cut) h new (start_of script tables old)) (ap (λ (z : Setup). z.packs) set)
-          (subst (λ (h : ℕ → Pack). LongAt a.stop (parts_till a.cut.cut) first.site.held h (start_of script tables old)) held (a.cut.stops.cut t has (start_of script tables old) stands).long);
+      told = a.cut.stops.trace;
+      long = subst (λ (h : ℕ → Pack). LongAt a.stop (parts_till a.cut.cut) h now.site.held (start_of script tables old)) (ap (λ (z : Setup). z.packs) set)
+          (a.cut.stops.cut t has (start_of script tables old) stands).long;
     }
 
-  -- PLAYED TO ITS END
-  pub whole_plays : (capacity : ℕ) (begun : State) (xs : List Numbered) (n : Numbered) (s : State) (out trace : Took) → begun ≡ empty_cache capacity
-      → IsTrue now.site.packs_tell → HasTables (setup_at first.site) → StandsQuiet first.site.held first.site.world (start_of script tables old)
-      → inputs_of script ≡ xs ++ n ∷ [] → n.input ≡ Drain → AreAskedWell (inputs_of script) → IsFar first begun (inputs_of script) s now
-      → out.before ≡ first.said → out.after ≡ now.said → out.tells ≡ now.out_tells
-      → trace.before ≡ first.site.taken → trace.after ≡ now.site.taken → trace.tells ≡ now.site.trace_tells → CachedPlays capacity script old new out trace
-  whole_plays capacity begun xs n s out trace empty t has stands inputs last well far before after_is tells taken taken' traces = record {
-    tables = tables;
-    read = read;
-    legal = subst (λ (z : Setup). AreLegal z.drives all_claimed (inputs_of script) (answers_of z.drives (map_of z) (inputs_of script)) (map_of z) (map_of_inputs z.drives (map_of z) (inputs_of script))) set
-        (answers_legal (drives_at first) (inputs_of script) (blocks_at first) well (λ u b bytes e. map_long (setup_at first.site) u b bytes e));
-    held = λ unit block kind declared below.
-        ap (λ (z : ℕ → Blocks). z unit block) (sym left_is) ∙ ap (λ (z : Setup). map_of z unit block) (sym far.setup)
-        ∙ final unit block
-        ∙ ap (λ (z : Setup). map_of_inputs z.drives (map_of z) (inputs_of script) unit block) set;
-    rest = rest_stays script tables old new read (others_are far.others);
-    stay = (others_are far.others).stay;
-    said = λ t. after_is ∙ far.said (subst IsTrue tells t) ∙ ap (λ z. z ++ text_of (answers_of (drives_at first) (blocks_at first) (inputs_of script))) (sym before)
-        ∙ ap (λ (z : Setup). out.before ++ text_of (answers_of z.drives (map_of z) (inputs_of script))) set;
-    asked = has_asked capacity begun s trace empty t has stands (inputs_of script) far.calls taken taken' traces;
-  }
-    where
-      final : (u b : ℕ) → map_at now.site u b ≡ map_of_inputs (drives_at first) (blocks_at first) (inputs_of script) u b
-      final u b = subst (λ z. map_at now.site u b ≡ map_of_inputs (drives_at first) (blocks_at first) z u b) (sym inputs)
-          (final_map xs n last (subst (λ z. IsFar first begun z s now) inputs far) u b)
+    -- PLAYED TO ITS END
+    pub whole_plays : {s : State} (xs : List Numbered) (n : Numbered) → inputs_of script ≡ xs ++ n ∷ [] → n.input ≡ Drain → AreAskedWell (inputs_of script)
+        → (HasTables (setup_at first.site) → IsFar first begun (inputs_of script) s now) → CachedPlays capacity script old now.site.held (said_between first now) (told_between first now)
+    whole_plays {s} xs n inputs last well plays = record {
+      tables = tables;
+      read = read;
+      legal = subst (λ (z : Setup). AreLegal z.drives all_claimed (inputs_of script) (answers_of z.drives (map_of z) (inputs_of script)) (map_of z) (map_of_inputs z.drives (map_of z) (inputs_of script))) set
+          (answers_legal (drives_at first) (inputs_of script) (blocks_at first) well (λ u b bytes e. map_long (setup_at first.site) u b bytes e));
+      held = λ unit block kind declared below.
+          ap (λ (z : ℕ → Blocks). z unit block) (sym left_is) ∙ ap (λ (z : Setup). map_of z unit block) (sym far.setup)
+          ∙ final unit block
+          ∙ ap (λ (z : Setup). map_of_inputs z.drives (map_of z) (inputs_of script) unit block) set;
+      rest = rest_stays script tables old now.site.held read (others_are far.others);
+      stay = (others_are far.others).stay;
+      said = λ t. far.said t ∙ answers_as first.said (inputs_of script);
+      asked = has_asked (inputs_of script) far.calls;
+    }
+      where
+        far : IsFar first begun (inputs_of script) s now
+        far = plays has
 
-  -- STOPPED
-  pub whole_stops : (capacity : ℕ) (begun : State) (out trace : Took) → begun ≡ empty_cache capacity
-      → IsTrue now.site.packs_tell → HasTables (setup_at first.site) → StandsQuiet first.site.held first.site.world (start_of script tables old)
-      → HaltsScript script begun first now → out.before ≡ first.said → out.after ≡ now.said → out.tells ≡ now.out_tells
-      → out.faults ≡ first.out_faults → out.faults_after ≡ now.out_faults
-      → trace.before ≡ first.site.taken → trace.after ≡ now.site.taken → trace.tells ≡ now.site.trace_tells → trace.faults ≡ first.trace_faults → trace.faults_after ≡ now.trace_faults
-      → CachedStops capacity script old new out trace
-  whole_stops capacity begun out trace empty t has stands h before after_is tells faults faults_after taken taken' traces traced traced' = record {
-    asked = elim h.halted.asked [
-      | inl all ↦ inl (has_asked capacity begun all.cache trace empty t has stands (h.before ++ h.at ∷ []) all.calls taken taken' traces)
-      | inr till ↦ inr (has_asked_till capacity begun begun trace empty t has stands h.before h.at till taken taken' traces traced traced')
-    ];
-    tables = tables;
-    read = read;
-    before = h.before;
-    at = h.at;
-    later = h.later;
-    inputs = h.inputs;
-    synced = h.halted.holds.synced;
-    since = h.halted.holds.since;
-    parted = h.halted.holds.parted;
-    held = λ unit block kind declared below.
-        subst (λ (z : Option (List ℕ)). IsAfter (replacements_of (drives_of script) (contents script tables old) (h.before ++ h.at ∷ []))
-        (length (replacements_of (drives_of script) (contents script tables old) h.halted.holds.synced)) (contents script tables old) unit block z) (ap (λ (z : ℕ → Blocks). z unit block) left_is)
-        (subst (λ (z : Setup). IsAfter (replacements_of z.drives (map_of z) (h.before ++ h.at ∷ [])) (length (replacements_of z.drives (map_of z) h.halted.holds.synced)) (map_of z) unit block
-        (left_map first.site now.site unit block)) set (h.halted.holds.each unit block));
-    rest = rest_stays script tables old new read (others_are h.halted.others);
-    stay = (others_are h.halted.others).stay;
-    front = λ t. front_as (h.halted.front (subst IsTrue tells t));
-    whole = λ rose t. after_is ∙ h.halted.whole (λ r. rose (subst (λ z. Rose z out.faults_after) (sym faults) (subst (λ z. Rose first.out_faults z) (sym faults_after) r))) (subst IsTrue tells t)
-        ∙ text_as h.before;
-  }
-    where
-      text_as : (inputs : List Numbered) → first.said ++ text_of (answers_of (drives_at first) (blocks_at first) inputs) ≡ out.before ++ text_of (answers_of (drives_of script) (contents script tables old) inputs)
-      text_as inputs = ap (λ z. z ++ text_of (answers_of (drives_at first) (blocks_at first) inputs)) (sym before)
-          ∙ ap (λ (z : Setup). out.before ++ text_of (answers_of z.drives (map_of z) inputs)) set
+        final : (u b : ℕ) → map_at now.site u b ≡ map_of_inputs (drives_at first) (blocks_at first) (inputs_of script) u b
+        final u b = subst (λ z. map_at now.site u b ≡ map_of_inputs (drives_at first) (blocks_at first) z u b) (sym inputs)
+            (final_map xs n last (subst (λ z. IsFar first begun z s now) inputs far) u b)
 
-      front_as : TakesFront (first.said ++ text_of (answers_of (drives_at first) (blocks_at first) h.before)) now.said
-          (text_of (answers_of (drives_at first) (map_of_inputs (drives_at first) (blocks_at first) h.before) (h.at ∷ [])))
-          → TakesFront (out.before ++ text_of (answers_of (drives_of script) (contents script tables old) h.before)) out.after
-          (text_of (answers_of (drives_of script) (map_of_inputs (drives_of script) (contents script tables old) h.before) (h.at ∷ [])))
-      front_as f = (
-        f.0,
-        after_is ∙ f.1 ∙ ap (λ z. z ++ take f.0 (text_of (answers_of (drives_at first) (map_of_inputs (drives_at first) (blocks_at first) h.before) (h.at ∷ [])))) (text_as h.before)
-            ∙ ap (λ (z : Setup). (out.before ++ text_of (answers_of (drives_of script) (contents script tables old) h.before))
-            ++ take f.0 (text_of (answers_of z.drives (map_of_inputs z.drives (map_of z) h.before) (h.at ∷ [])))) set,
-      )
+    -- STOPPED
+    pub whole_stops : (HasTables (setup_at first.site) → HaltsScript script begun first now) → CachedStops capacity script old now.site.held (said_between first now) (told_between first now)
+    whole_stops halts = record {
+      asked = elim h.halted.asked [
+        | inl all ↦ inl (has_asked (h.before ++ h.at ∷ []) all.calls)
+        | inr till ↦ inr (has_asked_till h.before h.at till)
+      ];
+      tables = tables;
+      read = read;
+      before = h.before;
+      at = h.at;
+      later = h.later;
+      inputs = h.inputs;
+      synced = h.halted.holds.synced;
+      since = h.halted.holds.since;
+      parted = h.halted.holds.parted;
+      held = λ unit block kind declared below.
+          subst (λ (z : Option (List ℕ)). IsAfter (replacements_of (drives_of script) (contents script tables old) (h.before ++ h.at ∷ []))
+          (length (replacements_of (drives_of script) (contents script tables old) h.halted.holds.synced)) (contents script tables old) unit block z) (ap (λ (z : ℕ → Blocks). z unit block) left_is)
+          (subst (λ (z : Setup). IsAfter (replacements_of z.drives (map_of z) (h.before ++ h.at ∷ [])) (length (replacements_of z.drives (map_of z) h.halted.holds.synced)) (map_of z) unit block
+          (left_map first.site now.site unit block)) set (h.halted.holds.each unit block));
+      rest = rest_stays script tables old now.site.held read (others_are h.halted.others);
+      stay = (others_are h.halted.others).stay;
+      front = λ t. subst (λ (z : Setup). TakesFront (first.said ++ text_of (answers_of z.drives (map_of z) h.before)) now.said
+          (text_of (answers_of z.drives (map_of_inputs z.drives (map_of z) h.before) (h.at ∷ [])))) set (h.halted.front t);
+      whole = λ rose t. h.halted.whole rose t ∙ answers_as first.said h.before;
+    }
+      where
+        h : HaltsScript script begun first now
+        h = halts has

@@ -9,10 +9,7 @@ use Rattle.pack_geometry.specs.Content.{bytes_at}
 use Rattle.pack_geometry.specs.TableSpelling.{Table}
 use Rattle.pack_geometry.specs.Homes.{home_of, content_at}
 use Rattle.driver_laws.proofs.rules.MachineRuns.{home_marks}
-use Rattle.buffer_cache.specs.Passes.{Stage, StillTell}
-use Rattle.buffer_cache.specs.Passes.{setup_at}
-use Rattle.buffer_cache.specs.Passes.{OthersStay}
-use Rattle.buffer_cache.specs.Passes.{map_at, left_map}
+use Rattle.buffer_cache.specs.Passes.{Stage, StillTell, setup_at, OthersStay, map_at, left_map}
 use Rattle.driver_laws.specs.declared.rules.cached.Entry.{Entry}
 use Rattle.driver_laws.specs.rules.Requests.{Map}
 use Rattle.driver_laws.specs.rules.Entries.{State}
@@ -26,23 +23,12 @@ use Rattle.cached_run.specs.Leaving.{IsCalled, IsCutIn, IsLeft, Leaves, Makes, K
 use Rattle.cached_run.proofs.Calls.{absent, cached_some, cached_none, called_none, called_write, touched_one, touched_till}
 use Rattle.cached_run.proofs.Firsts.{all_usable, some_usable, at_least_usable, all_tried, some_tried, tried_at}
 use Rattle.cached_run.proofs.Leavings.{leaves_none, makes_none, leaves_more, leaves_then, makes_then, leaves_write}
+use Rattle.cached_run.proofs.Numbers.{itself, next_along, next_over, none_before, with_none}
 
 -- ---- replacements of blocks one behind the other
 pub spread_more : (n m unit first : ℕ) (from : List ℕ) → spread (n + m) unit first from ≡ spread n unit first from ++ spread m unit (first + n) from
-spread_more zero m unit first from = ap (λ z. spread z unit first from) (zeros m) ∙ ap (λ z. spread m unit z from) (none first)
-  where
-    zeros : (z : ℕ) → 0 + z ≡ z
-    zeros z = omega arith
-
-    none : (z : ℕ) → z ≡ z + 0
-    none z = omega arith
-spread_more (suc n) m unit first from = ap (λ z. spread z unit first from) (over n m) ∙ ap (λ z. record { unit = unit; block = first; bytes = from } ∷ z) (spread_more n m unit (first + 1) from ∙ ap (λ z. spread n unit (first + 1) from ++ spread m unit z from) (along first n))
-  where
-    over : (n m : ℕ) → suc n + m ≡ suc (n + m)
-    over n m = omega arith
-
-    along : (a n : ℕ) → (a + 1) + n ≡ a + suc n
-    along a n = omega arith
+spread_more zero m unit first from = ap (λ z. spread z unit first from) (none_before m) ∙ ap (λ z. spread m unit z from) (with_none first)
+spread_more (suc n) m unit first from = ap (λ z. spread z unit first from) (next_over n m) ∙ ap (λ z. record { unit = unit; block = first; bytes = from } ∷ z) (spread_more n m unit (first + 1) from ∙ ap (λ z. spread n unit (first + 1) from ++ spread m unit z from) (next_along first n))
 
 -- a block behind them keeps what it has
 spread_misses : (n unit first b : ℕ) (from : List ℕ) (contents : Map) → first + n ≤ b → after (spread n unit first from) contents unit b ≡ contents unit b
@@ -86,10 +72,7 @@ written_none line unit first from s here t tables fit = record { calls = called_
 -- a block behind them is cached as it was at first
 module _ (unit first k : ℕ) (from : List ℕ) (s s' : State) (old mid : Stage) (m : Makes (spread k unit first from) s s' old mid) where
   same_behind : cached s'.entries (map_at mid) unit (first + k) ≡ cached s.entries (map_at old) unit (first + k)
-  same_behind = m.contents unit (first + k) ∙ spread_misses k unit first (first + k) from (cached s.entries (map_at old)) (here (first + k))
-    where
-      here : (n : ℕ) → n ≤ n
-      here n = omega arith
+  same_behind = m.contents unit (first + k) ∙ spread_misses k unit first (first + k) from (cached s.entries (map_at old)) (itself (first + k))
 
 one_more : (unit first k : ℕ) (contents : Map) → AreUsable contents unit first k → IsSome (contents unit (first + k)) → AreUsable contents unit first (k + 1)
 one_more unit first k contents usable some j lt = elim (eqb_tells j k) [

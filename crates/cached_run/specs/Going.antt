@@ -3,19 +3,13 @@ use Rattle.std.specs.Prelude.{◌≡◌, ◌⊎◌, ℕ, ◌≤◌, Bool, IsTrue
 use Rattle.outside_traits.specs.Causes.{Rose}
 use Rattle.outside_traits.specs.Puts.{TakesFront}
 use Rattle.pack_geometry.specs.declared.DriveKind.{DriveKind}
-use Rattle.pack_geometry.specs.Pack.{Pack}
 use Rattle.trace_replay.specs.Script.{Numbered, Drain, Script, inputs_of}
 use Rattle.driver_laws.specs.rules.Machine.{Blocks}
-use Rattle.driver_machine.specs.World.{World}
 use Rattle.driver_laws.specs.declared.answers.outcome.Stop.{Stop}
 use Rattle.driver_laws.specs.declared.answers.outcome.Stop.TheVariants.{Sink}
 use Rattle.driver_laws.specs.rules.Rest.{HasTables}
 use Rattle.driver_laws.specs.rules.Waited.{with_packs}
-use Rattle.buffer_cache.specs.Passes.{Stage}
-use Rattle.buffer_cache.specs.Passes.{setup_at}
-use Rattle.buffer_cache.specs.Passes.{OthersStay}
-use Rattle.buffer_cache.specs.Passes.{map_at, left_map}
-use Rattle.buffer_cache.specs.Passes.{site}
+use Rattle.buffer_cache.specs.Passes.{OthersStay, Stage, left_map, map_at, setup_at}
 use Rattle.driver_laws.specs.rules.Entries.{State}
 use Rattle.driver_laws.specs.rules.Contents.{cached, AllFit}
 use Rattle.cached_run.specs.Answers.{answers_of, map_of_inputs, text_of, replacements_of}
@@ -30,13 +24,6 @@ pub record Scene : Type 0 where
   pub said : List ℕ
   pub out_faults : ℕ
   pub trace_faults : ℕ
-
-abbrev pub with_out : Stage → (says : Bool) → List ℕ → (faults traced : ℕ) → Scene
-with_out here says said faults traced = record { site = here; out_tells = says; said = said; out_faults = faults; trace_faults = traced }
-
-abbrev pub scene : {Q O T : Type 0} → (holds : Q → Bool) → (held : Q → ℕ → Pack) → (says : O → Bool) → (said : O → List ℕ) → (faults : O → ℕ) → (tells : T → Bool) → (taken : T → List ℕ)
-    → (traced : T → ℕ) → World → Q → O → T → Scene
-scene holds held says said faults tells taken traced w packs out trace = with_out (site holds held tells taken w packs trace) (says out) (said out) (faults out) (traced trace)
 
 -- the drives that are set up, and what the packs hold
 abbrev pub drives_at : Scene → ℕ → Option DriveKind
@@ -98,12 +85,6 @@ Halts (n ∷ more) s old new = (first : Scene) (begun : State) (inputs : List Nu
 -- a sync says nothing
 abbrev pub syncs_at : (line : ℕ) → List Numbered
 syncs_at line = record { line = line; input = Drain } ∷ []
-
-abbrev pub SyncGoesOn : (line : ℕ) → (s s' : State) → (old new : Stage) → (traced traced' : ℕ) → Type 0
-SyncGoesOn line s s' old new traced traced' = (says : Bool) (said : List ℕ) (faults : ℕ) → GoesOn (syncs_at line) s s' (with_out old says said faults traced) (with_out new says said faults traced')
-
-abbrev pub SyncHalts : (line : ℕ) → State → (old new : Stage) → (traced traced' : ℕ) → Type 0
-SyncHalts line s old new traced traced' = (says : Bool) (said : List ℕ) (faults : ℕ) → Halts (syncs_at line) s (with_out old says said faults traced) (with_out new says said faults traced')
 
 -- A SCRIPT that stopped at one of its inputs
 pub record HaltsScript (script : Script) (begun : State) (old new : Scene) : Type 0 where

@@ -4,20 +4,15 @@ use Rattle.pack_geometry.specs.Geometry.{limit_of}
 use Rattle.driver_machine.specs.World.{World}
 use Rattle.driver_machine.specs.Guards.{IsSetUp}
 use Rattle.driver_laws.specs.rules.Rest.{HasTables}
-use Rattle.driver_laws.specs.rules.Waited.{with_packs}
-use Rattle.buffer_cache.specs.Passes.{Stage}
-use Rattle.buffer_cache.specs.Passes.{setup_at}
-use Rattle.buffer_cache.specs.Passes.{OthersStay, GoesOn}
-use Rattle.buffer_cache.specs.Passes.{kind_at, map_at, left_map}
+use Rattle.driver_laws.specs.rules.Waited.{with_packs, first_unusable}
+use Rattle.buffer_cache.specs.Passes.{Stage, setup_at, OthersStay, GoesOn, kind_at, map_at, left_map, StopsIn}
 use Rattle.driver_laws.specs.declared.rules.cached.Entry.{Entry}
 use Rattle.driver_laws.specs.rules.Requests.{Map, one_block}
 use Rattle.trace_replay.specs.Script.{Submit, Numbered}
 use Rattle.driver_laws.specs.rules.Entries.{State}
 use Rattle.driver_laws.specs.rules.Contents.{cached, AllFit}
-use Rattle.driver_laws.specs.rules.Waited.{first_unusable}
 use Rattle.cached_run.specs.Answers.{Replacement, usable_of, after}
 use Rattle.driver_laws.specs.declared.answers.outcome.Stop.{Stop}
-use Rattle.buffer_cache.specs.Passes.{StopsIn}
 use Rattle.cached_run.specs.Sessions.{tried_of, maps_behind, Call, called, asked_by, cache_behind, Session, requests_in, parts_in, AsksUpTo, parts_till}
 
 -- A BLOCK HOLDS what it held, or what was cached after some of these replacements.

@@ -1,5 +1,6 @@
 -- WHERE A SCRIPT IS PLAYED: the cache, the driver with what packs and trace tell, and the sink for the answers; and what each step comes to there.
 use Rattle.std.specs.Prelude.{◌≡◌, ℕ, ◌≤◌, Bool, true, IsTrue, List, [], ◌∷◌, Option, None, Some, option_map, Result, IfOk, IfErr, OnOk, OnErr}
+use Rattle.pack_geometry.specs.Pack.{Pack}
 use Rattle.trace_replay.specs.requests.Requests.{Request}
 use Rattle.trace_replay.specs.declared.requests.answers.AnswerKind.{AnswerKind}
 use Rattle.trace_replay.specs.declared.requests.answers.AnswerKind.TheVariants as answer
@@ -11,13 +12,12 @@ use Rattle.driver_laws.specs.rules.Requests.{Map}
 use Rattle.driver_laws.specs.rules.Entries.{State}
 use Rattle.driver_laws.specs.rules.Contents.{cached}
 use Rattle.driver_machine.specs.World.{World}
-use Rattle.buffer_cache.specs.Passes.{Keeps}
-use Rattle.buffer_cache.specs.Passes.{Spot, Stage, kind_at, map_at, seen, setup_at}
+use Rattle.buffer_cache.specs.Passes.{Keeps, Spot, Stage, State as Driver, kind_at, map_at, seen, setup_at, spot}
 use Rattle.buffer_cache.specs.Asks.{IsData}
 use Rattle.buffer_cache.specs.Calls.{IfTold, MayUse, Reads, Serves, Writes, given_by, is_done}
 use Rattle.buffer_cache.specs.declared.fault.CacheFault.{CacheFault}
 use Rattle.script_reader.specs.declared.cached.statement.Asked.{Asked}
-use Rattle.script_reader.specs.cached.Meaning.{request_of, filled, one_filled}
+use Rattle.script_reader.specs.cached.Meaning.{request_of, filled}
 use Rattle.script_runs.specs.Faults.{HaveTold}
 use Rattle.script_runs.specs.declared.fault.PlayFault.{PlayFault}
 use Rattle.cached_run.specs.Answers.{Replacement, replaced_with}
@@ -34,6 +34,16 @@ pub record Place : Type 0 where
   pub out_tells : Bool
   pub said : List ℕ
   pub out_faults : ℕ
+
+abbrev pub place : {P O T : Type 0} → (P → Bool) → (P → ℕ → Pack) → (P → ℕ) → (O → Bool) → (O → List ℕ) → (O → ℕ) → (T → Bool) → (T → List ℕ) → (T → ℕ)
+    → State → Driver → P → O → T → Place
+place holds held packs_faults tells said faults trace_tells taken trace_faults s d packs out trace = record {
+  cache = s;
+  spot = spot holds held packs_faults trace_tells taken trace_faults d packs trace;
+  out_tells = tells out;
+  said = said out;
+  out_faults = faults out;
+}
 
 abbrev pub scene_at : Place → Scene
 scene_at p = record { site = seen p.spot; out_tells = p.out_tells; said = p.said; out_faults = p.out_faults; trace_faults = p.spot.trace_faults }

@@ -13,9 +13,8 @@ use Rattle.driver_laws.specs.rules.Machine.{Blocks}
 use Rattle.driver_laws.specs.rules.LegalAnswers.{AreLegal, all_claimed}
 use Rattle.driver_laws.specs.rules.Laws.{HoldMap, RestStays}
 use Rattle.driver_laws.specs.shown.RunsRuns.{Stay}
-use Rattle.script_runs.specs.Stops.{Took}
+use Rattle.script_runs.specs.Stops.{Took, IsUnplayed}
 use Rattle.outside_traits.specs.declared.traits.PackCall.{PackCall}
-use Rattle.script_runs.specs.Stops.{IsUnplayed}
 use Rattle.script_runs.specs.declared.fault.PlayFault.{PlayFault}
 use Rattle.script_runs.specs.declared.fault.PlayFault.TheVariants as faults
 use Rattle.trace_replay.specs.Runs.{start_of}

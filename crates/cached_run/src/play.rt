@@ -7,12 +7,13 @@ ghost use Rattle.script_runs.specs.Lengths.{IsTooLong};
 ghost use Rattle.script_runs.specs.Faults.{AreUntouched, HaveTold, IsBefore, IsPlaying, IsLongFor, Rise};
 ghost use Rattle.script_reader.specs.cached.Meaning.{meaning_of};
 ghost use Rattle.cached_run.specs.Lines.{IsRoomy};
-ghost use Rattle.cached_run.specs.Places.{PlaysScript, world_at};
+ghost use Rattle.cached_run.specs.Places.{PlaysScript, place, world_at};
 ghost use Rattle.cached_run.specs.Theorem.{CachedPlays, CachedLeaves};
 
 use crate::bench::Bench;
 use crate::lines::{play_line, play_sync};
 use crate::scene::{Scene, Stand};
+use buffer_cache::{Cache, Subsystem};
 use outside_traits::traits::{Packs, Sink};
 use script_reader::cached::CachedScript;
 use script_runs::desk::Desk;
@@ -39,6 +40,34 @@ fn play_lines<S: Scene>(
         play_line(line, scene, desk)?;
     }
     play_sync(number, scene)
+}
+
+/// Plays the lines of a script over a cache and a driver whose units are set up for it.
+fn play_over<P: Packs, O: Sink, T: Sink>(
+    script: &CachedScript,
+    cache: &mut Cache,
+    subsystem: &mut Subsystem,
+    desk: &mut Desk,
+    packs: &mut P,
+    out: &mut O,
+    trace: &mut T,
+) -> Result<(), PlayFault>
+    requires units { AreUnits (meaning_of script.now) subsystem.old.world }
+    requires may { MayUse cache.old subsystem.old }
+    requires desk { IsRoomy desk.old.gather desk.old.blocks.items }
+    requires empty { cache.old.entries ≡ [] }
+    ensures { PlaysScript (meaning_of script.now) result
+        (place P.tells P.held P.faults O.tells O.taken O.faults T.tells T.taken T.faults cache.old subsystem.old packs.old out.old trace.old)
+        (place P.tells P.held P.faults O.tells O.taken O.faults T.tells T.taken T.faults cache.new subsystem.new packs.new out.new trace.new) }
+{
+    let mut scene = Stand {
+        cache,
+        subsystem,
+        packs,
+        out,
+        trace,
+    };
+    play_lines(script, &mut scene, desk)
 }
 
 /// Plays a script line by line through a cache of `capacity` blocks, 1 to 4,096, and a sync after its last line. The number of the sync
@@ -80,12 +109,13 @@ pub fn play_cached<P: Packs, O: Sink, T: Sink>(
         let units = attach_units(alloc, script, packs)?;
         Bench::new(alloc, units.as_slice(), capacity)?
     };
-    let mut scene = Stand {
-        cache: &mut bench.cache,
-        subsystem: &mut bench.subsystem,
+    play_over(
+        script,
+        &mut bench.cache,
+        &mut bench.subsystem,
+        &mut bench.desk,
         packs,
         out,
         trace,
-    };
-    play_lines(script, &mut scene, &mut bench.desk)
+    )
 }

@@ -3,11 +3,11 @@ ghost use Rattle.std.specs.Prelude.{◌≡◌, ◌≤◌, ℕ, List, ◌∷◌, 
 ghost use Rattle.outside_traits.specs.Puts.{Puts};
 ghost use Rattle.driver_machine.specs.Guards.{IsSetUp};
 ghost use Rattle.script_runs.specs.Saying.{said_text};
-ghost use Rattle.buffer_cache.specs.Passes.{kind_at, spot};
+ghost use Rattle.buffer_cache.specs.Passes.{kind_at};
 ghost use Rattle.buffer_cache.specs.Calls.{MayUse, SyncsOrStops};
 ghost use Rattle.cached_run.specs.Lines.{IsRoomy};
 ghost use Rattle.cached_run.specs.Saying.{GivesAmong};
-ghost use Rattle.cached_run.specs.Places.{Place, IsSilent, MayTouch, OnlySays, Touches, world_at};
+ghost use Rattle.cached_run.specs.Places.{Place, IsSilent, MayTouch, OnlySays, Touches, place, world_at};
 
 use buffer_cache::{Cache, CacheFault, Stop, Subsystem};
 use outside_traits::traits::{Packs, Sink, SinkFailed};
@@ -77,13 +77,7 @@ pub(crate) struct Stand<'c, 's, 'p, 'o, 't, P: Packs, O: Sink, T: Sink> {
 }
 
 impl<'c, 's, 'p, 'o, 't, P: Packs, O: Sink, T: Sink> Scene for Stand<'c, 's, 'p, 'o, 't, P, O, T> {
-    ghost at = { λ s. record {
-      cache = s.cache.now;
-      spot = spot P.tells P.held P.faults T.tells T.taken T.faults s.subsystem.now s.packs.now s.trace.now;
-      out_tells = O.tells s.out.now;
-      said = O.taken s.out.now;
-      out_faults = O.faults s.out.now;
-    } };
+    ghost at = { λ s. place P.tells P.held P.faults O.tells O.taken O.faults T.tells T.taken T.faults s.cache.now s.subsystem.now s.packs.now s.out.now s.trace.now };
 
     ghost loans = { λ s. s.cache.ghost_name ∷ s.subsystem.ghost_name ∷ s.packs.ghost_name ∷ s.out.ghost_name ∷ s.trace.ghost_name ∷ [] };
 

@@ -16,8 +16,7 @@ use Rattle.driver_machine.specs.Sound.{Sound, slots_of, IsOutstanding, UnitOk}
 use Rattle.driver_laws.proofs.invariant.Deeds.{slot_there}
 use Rattle.driver_laws.proofs.invariant.SlotsLists.{Contains-first, Contains-later, contained_among}
 use Rattle.driver_laws.specs.shown.Shows.{Match, IsUnitSeen}
-use Rattle.script_runs.specs.StopsPasses.{ShowsAll}
-use Rattle.script_runs.specs.StopsPasses.{IsSoFar}
+use Rattle.script_runs.specs.StopsPasses.{ShowsAll, IsSoFar}
 use Rattle.hp_driver.proofs.Passes.{pigeons}
 use Rattle.driver_laws.proofs.shown.QuietStarting.{short}
 

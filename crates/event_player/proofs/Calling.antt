@@ -1,9 +1,10 @@
 -- What a call of the driver comes to, with what was sent ahead of it and what is said behind it.
-use Rattle.std.proofs.Common.{◌≡◌, ◌⊎◌, inl, inr, ℕ, Bool, true, false, IsTrue, List, [], ◌++◌, Option, Some, None, refl, sym, ap, subst, ◌∙◌, append-nil, append_assoc}
-use Rattle.std.specs.Prelude.{Result, Ok, Err, IsOk}
+use Rattle.std.proofs.Common.{◌≡◌, ◌⊎◌, inl, inr, ℕ, Bool, true, false, IsTrue, List, [], ◌++◌, Option, Some, refl, sym, ap, subst, ◌∙◌, append-nil, append_assoc}
+use Rattle.std.specs.Prelude.{Result, Ok, Err}
 use Rattle.std.proofs.lemmas.List.{append_cancel_right}
 use Rattle.outside_traits.specs.declared.traits.SinkFailed.{SinkFailed}
 use Rattle.trace_replay.specs.requests.Requests.{Request}
+use Rattle.trace_replay.specs.Moments.{Answered}
 use Rattle.trace_replay.specs.Script.{Input}
 use Rattle.trace_replay.specs.Text.{trace_text}
 use Rattle.driver_machine.specs.World.{World}
@@ -21,15 +22,15 @@ use Rattle.driver_laws.proofs.answers.Waiting.{events_alone, submissions_alone}
 use Rattle.trace_lines.specs.answers.AnswerText.{out_text}
 use Rattle.trace_lines.specs.declared.answers.tally.Tally.{Tally}
 use Rattle.trace_lines.specs.answers.Counting.{Counts}
-use Rattle.hp_driver.specs.Subsystem.{State, Submits, Comes, seen as as_site, is_move, writes_by}
+use Rattle.hp_driver.specs.Subsystem.{State, Comes, seen as as_site, is_move, writes_by}
 use Rattle.script_runs.specs.declared.fault.PlayFault.TheVariants as playing
 use Rattle.script_runs.specs.Faults.{from_stop}
-use Rattle.event_player.specs.Saying.{Side, Says, SendsAhead}
-use Rattle.event_player.specs.Spots.{PacksAt, Spot, seen, tells, took, telling, held_at, SaysText, Sends, SubmitsAt, ComesAt}
-use Rattle.event_player.specs.Steps.{Stage, Passes, PassesAhead, PlaysActs, PlaysEvent, PlaysSubmission, waiting_text, by_sides}
+use Rattle.event_player.specs.Saying.{Side, Says}
+use Rattle.event_player.specs.Spots.{PacksAt, Spot, all_for, tells, took, telling, held_at, SaysText, Sends, SubmitsAt, ComesAt}
+use Rattle.event_player.specs.Steps.{Passes, PassesAhead, PlaysActs, PlaysEvent, PlaysSubmission, waiting_text}
 use Rattle.event_player.specs.Stops.{StopsActs, EventStops, SubmissionStops}
 use Rattle.event_player.proofs.Inputs.{waiting_said}
-use Rattle.event_player.proofs.Saying.{IsTold, IsSaid, is_said, passes_all, unsent_passes, ahead_said, ahead_told, ahead_passes, all_said, all_told, none_ahead}
+use Rattle.event_player.proofs.Saying.{IsTold, IsSaid, is_said, passes_all, unsent_passes, ahead_said, ahead_told, ahead_passes, all_said, all_told, still_ahead}
 
 -- lines that were told, of which a front was sent
 abbrev not_sent : Side → Side → List ℕ → Side
@@ -42,7 +43,7 @@ front_told lines lines' text again = record {
   whole = λ t. sym (append_assoc lines.took lines.kept text);
 }
 
-front_said : (lines lines' : Side) (text : List ℕ) (out : Side) → (IsTrue lines'.tells → IsFront lines.took lines'.took) → (IsTrue lines'.tells → IsFront lines'.took ((lines.took ++ lines.kept) ++ text))
+front_said : (lines lines' : Side) (text : List ℕ) (out : Side) → (IsTrue lines'.tells → IsFront lines.took lines'.took) → (IsTrue lines'.tells → IsFront lines'.took (all_for lines ++ text))
     → IsSaid out out (not_sent lines lines' text) lines' []
 front_said lines lines' text out sent front = record {
   again = λ t. t;
@@ -52,306 +53,230 @@ front_said lines lines' text out sent front = record {
   lines_first = inl (λ t. refl);
 }
 
--- THE ACTS OF A CALL, before which text was sent, with their lines
-module _ (writes : Bool) (acts : List Act) (w mid : World) (packs packs' : PacksAt) (out0 out lines0 lines lines' : Side) (tally : Tally) (ahead : Result (Unit {0}) SinkFailed) (done : IsOk ahead)
-    (sends : SendsAhead writes out0 out lines0 lines ahead) (again : IsTrue lines'.tells → IsTrue lines.tells) where
-  abbrev before : Stage
-  before = by_sides w packs.tells packs.held out0 lines0 tally
+-- what is said leaves the packs
+said_packs : {A E : Type 0} {answers : List Answered} {text : List ℕ} {result : Result A E} {mid new : Spot} → SaysText answers text result mid new → record new { packs = mid.packs } ≡ new
+said_packs {new = new} said = ap (λ (s : Spot). record new { packs = s.packs }) (sym said.same)
 
-  abbrev told : Told
-  told = record { packs = packs'.tells; trace = lines'.tells }
+-- THE ACTS OF A CALL, ahead of which text was sent, with their lines
+module _ {writes : Bool} {old ahead : Spot} {unit : Unit {0}} (sends : Sends {E = SinkFailed} writes (Ok unit) old ahead)
+    (mid : World) (packs : PacksAt) (lines : Side) (again : IsTrue lines.tells → IsTrue ahead.lines.tells) where
+  abbrev telling_now : Told
+  telling_now = record { packs = packs.tells; trace = lines.tells }
 
-  abbrev behind : World → Side → Side → Tally → Stage
-  behind w' out' sent tally' = by_sides w' packs'.tells packs'.held out' sent tally'
+  module _ {acts : List Act} (does : Does telling_now acts (as_site old.driver.world old.packs.held ahead.lines.took ahead.lines.kept) (as_site mid packs.held lines.took lines.kept)) (new : Spot) where
+    abbrev behind : Spot
+    behind = record new { packs = packs }
 
-  module _ (does : Does told acts (as_site w packs.held lines.took lines.kept) (as_site mid packs'.held lines'.took lines'.kept)) where
     abbrev text : List ℕ
-    text = trace_text (lines_of_all w acts)
+    text = trace_text (lines_of_all old.driver.world acts)
 
-    told_all : IsTold lines lines' text
-    told_all = record { again = again; sent = does.sent; whole = does.text }
+    told_here : IsTold ahead.lines lines text
+    told_here = record { again = again; sent = does.sent; whole = does.text }
 
-    module _ (out' sent : Side) (tally' : Tally) where
-      abbrev new : Stage
-      new = behind (all_taken mid) out' sent tally'
+    passed : IsSaid ahead.out new.out lines new.lines (waiting_text mid) → PassesAhead writes (all_for old.out ++ waiting_text mid) (all_for old.lines ++ text) old behind
+    passed = ahead_passes sends behind (waiting_text mid) told_here
 
-      passed : (w' : World) → IsSaid out out' lines' sent (waiting_text mid) → PassesAhead writes ((out0.took ++ out0.kept) ++ waiting_text mid) ((lines0.took ++ lines0.kept) ++ text) before (behind w' out' sent tally')
-      passed w' says = ahead_passes writes out0 out lines0 lines ahead done sends w w' packs.tells packs'.tells packs.held packs'.held tally tally' out' lines' sent (waiting_text mid) text told_all says
+    -- behind which the answers that wait are said and counted,
+    module _ {A E : Type 0} {x : A} (says : Says {E = E} ahead.out new.out lines new.lines (Ok x) (waiting_text mid)) where
+      said_whole : IsTrue new.out.tells → all_for new.out ≡ all_for old.out ++ waiting_text mid
+      said_whole = all_said sends behind (waiting_text mid) told_here says
 
-      -- behind which the answers that wait are said and counted,
-      module _ {A E : Type 0} (result : Result A E) (ok : IsOk result) (says : Says out out' lines' sent result (waiting_text mid)) where
-        said_whole : IsTrue out'.tells → out'.took ++ out'.kept ≡ (out0.took ++ out0.kept) ++ waiting_text mid
-        said_whole = all_said writes out0 out lines0 lines ahead done sends w (all_taken mid) packs.tells packs'.tells packs.held packs'.held tally tally' out' lines' sent (waiting_text mid) text told_all result says ok
+      told_whole : IsTrue new.lines.tells → all_for new.lines ≡ all_for old.lines ++ text
+      told_whole = all_told sends behind (waiting_text mid) told_here says
 
-        told_whole : IsTrue sent.tells → sent.took ++ sent.kept ≡ (lines0.took ++ lines0.kept) ++ text
-        told_whole = all_told writes out0 out lines0 lines ahead done sends w (all_taken mid) packs.tells packs'.tells packs.held packs'.held tally tally' out' lines' sent (waiting_text mid) text told_all result says ok
+      acts_played : Sound old.driver.world → AtWork old.driver.world → new.driver.world ≡ all_taken mid → Counts (waiting mid) (waiting_text mid) old.tally new.tally → PlaysActs acts old behind
+      acts_played sound work taken counts = record {
+        sound = sound;
+        work = work;
+        run = does.does.run;
+        world = taken ∙ ap all_taken does.does.world;
+        out = λ t. said_whole t ∙ ap (λ (w : World). all_for old.out ++ waiting_text w) does.does.world;
+        trace = told_whole;
+        tally = subst (λ (w : World). Counts (waiting w) (waiting_text w) old.tally new.tally) does.does.world counts;
+      }
 
-        acts_played : Sound w → AtWork w → Counts (waiting mid) (waiting_text mid) tally tally' → PlaysActs acts before new
-        acts_played sound work counts = record {
-          sound = sound;
-          work = work;
-          run = does.does.run;
-          world = ap all_taken does.does.world;
-          out = λ t. said_whole t ∙ ap (λ (x : World). (out0.took ++ out0.kept) ++ waiting_text x) does.does.world;
-          trace = told_whole;
-          tally = subst (λ (x : World). Counts (waiting x) (waiting_text x) tally tally') does.does.world counts;
+      acts_passed : PassesAhead writes (all_for new.out) (all_for new.lines) old behind
+      acts_passed = record { sent = λ on. whole ((passed (is_said says)).sent on); kept = λ off. whole ((passed (is_said says)).kept off) }
+        where
+          whole : {from_out from_lines : List ℕ} → Passes from_out from_lines (all_for old.out ++ waiting_text mid) (all_for old.lines ++ text) old behind
+              → Passes from_out from_lines (all_for new.out) (all_for new.lines) old behind
+          whole = passes_all said_whole told_whole
+
+    -- or were to be.
+    acts_unsaid : waiting_text (after_all old.driver.world acts) ≡ out_text (lines_of_all old.driver.world acts) → IsSaid ahead.out new.out lines new.lines (waiting_text mid) → StopsActs writes acts old behind
+    acts_unsaid alone says = record {
+      done = acts;
+      left = [];
+      all = sym (append-nil acts);
+      run = does.does.run;
+      reads = does.does.reads;
+      packs = does.does.packs;
+      text = waiting_text mid;
+      says = subst (λ (x : List ℕ). IsFront x (out_text (lines_of_all old.driver.world acts))) (sym (ap waiting_text does.does.world ∙ alone)) (front_same (out_text (lines_of_all old.driver.world acts)));
+      passes = passed says;
+    }
+
+  -- The driver stopped, and nothing is said:
+  module _ (d : State) where
+    abbrev stopped : Spot
+    stopped = record ahead { driver = d; packs = packs; lines = lines }
+
+    -- the trace failed, some acts were done, and of their lines a front was sent;
+    acts_halted : {acts : List Act} → StopsAtTrace telling_now acts (as_site old.driver.world old.packs.held ahead.lines.took ahead.lines.kept) (as_site mid packs.held lines.took lines.kept) → StopsActs writes acts old stopped
+    acts_halted is =
+        let text : List ℕ = trace_text (lines_of_all old.driver.world is.done) in
+        record {
+          done = is.done;
+          left = is.left;
+          all = is.all;
+          run = is.does.run;
+          reads = is.does.reads;
+          packs = is.does.packs;
+          text = [];
+          says = record { rest = out_text (lines_of_all old.driver.world is.done); whole = refl };
+          passes = ahead_passes sends stopped [] (front_told ahead.lines lines text again)
+              (front_said ahead.lines lines text ahead.out is.sent (λ t. front_of_front lines.took (all_for lines) (all_for ahead.lines ++ text) (front_more lines.took lines.kept) (is.front t)));
         }
 
-        acts_passed : PassesAhead writes new.said new.taken before new
-        acts_passed = record { sent = λ on. whole ((passed (all_taken mid) (is_said says)).sent on); kept = λ off. whole ((passed (all_taken mid) (is_said says)).kept off) }
-          where
-            whole : {from_out from_lines : List ℕ} → Passes from_out from_lines ((out0.took ++ out0.kept) ++ waiting_text mid) ((lines0.took ++ lines0.kept) ++ text) before new
-                → Passes from_out from_lines new.said new.taken before new
-            whole = passes_all said_whole told_whole
+    -- or the packs failed, and the trace took no more.
+    none_passed : lines.kept ≡ ahead.lines.kept → (IsTrue lines.tells → all_for lines ≡ all_for ahead.lines) → PassesAhead writes (all_for old.out) (all_for old.lines) old stopped
+    none_passed unsent same = record { sent = λ on. whole (nothing.sent on); kept = λ off. whole (nothing.kept off) }
+      where
+        same_took : IsTrue lines.tells → lines.took ≡ ahead.lines.took
+        same_took t = append_cancel_right lines.took ahead.lines.took ahead.lines.kept (ap (λ (xs : List ℕ). lines.took ++ xs) (sym unsent) ∙ same t)
 
-      -- or were to be.
-      acts_unsaid : (w' : World) → waiting_text (after_all w acts) ≡ out_text (lines_of_all w acts) → IsSaid out out' lines' sent (waiting_text mid) → StopsActs writes acts before (behind w' out' sent tally')
-      acts_unsaid w' alone says = record {
-        done = acts;
-        left = [];
-        all = sym (append-nil acts);
-        run = does.does.run;
-        reads = does.does.reads;
-        packs = does.does.packs;
-        text = waiting_text mid;
-        says = subst (λ (x : List ℕ). IsFront x (out_text (lines_of_all w acts))) (sym (ap waiting_text does.does.world ∙ alone)) (front_same (out_text (lines_of_all w acts)));
-        passes = passed w' says;
-      }
+        nothing : PassesAhead writes (all_for old.out ++ []) (all_for old.lines ++ []) old stopped
+        nothing = ahead_passes sends stopped [] (front_told ahead.lines lines [] again)
+            (front_said ahead.lines lines [] ahead.out (λ t. subst (IsFront ahead.lines.took) (sym (same_took t)) (front_same ahead.lines.took))
+            (λ t. subst (IsFront lines.took) (sym (append-nil (all_for ahead.lines))) (subst (λ (xs : List ℕ). IsFront xs (all_for ahead.lines)) (sym (same_took t)) (front_more ahead.lines.took ahead.lines.kept))))
 
-  -- The trace failed: some acts were done, of whose lines a front was sent, and nothing is said.
-  acts_halted : (w' : World) (tally' : Tally) → StopsAtTrace told acts (as_site w packs.held lines.took lines.kept) (as_site mid packs'.held lines'.took lines'.kept)
-      → StopsActs writes acts before (behind w' out lines' tally')
-  acts_halted w' tally' is =
-      let text : List ℕ = trace_text (lines_of_all w is.done) in
-      record {
-        done = is.done;
-        left = is.left;
-        all = is.all;
-        run = is.does.run;
-        reads = is.does.reads;
-        packs = is.does.packs;
-        text = [];
-        says = record { rest = out_text (lines_of_all w is.done); whole = refl };
-        passes = ahead_passes writes out0 out lines0 lines ahead done sends w w' packs.tells packs'.tells packs.held packs'.held tally tally' out (not_sent lines lines' text) lines' [] text
-            (front_told lines lines' text again)
-            (front_said lines lines' text out is.sent (λ t. front_of_front lines'.took (lines'.took ++ lines'.kept) ((lines.took ++ lines.kept) ++ text) (front_more lines'.took lines'.kept) (is.front t)));
-      }
-
-  -- The packs failed, and the trace took no more.
-  none_passed : (w' : World) (tally' : Tally) → lines'.kept ≡ lines.kept → (IsTrue lines'.tells → lines'.took ++ lines'.kept ≡ lines.took ++ lines.kept)
-      → PassesAhead writes (out0.took ++ out0.kept) (lines0.took ++ lines0.kept) before (behind w' out lines' tally')
-  none_passed w' tally' unsent same = record { sent = λ on. whole (nothing.sent on); kept = λ off. whole (nothing.kept off) }
-    where
-      same_took : IsTrue lines'.tells → lines'.took ≡ lines.took
-      same_took t = append_cancel_right lines'.took lines.took lines.kept (ap (λ (xs : List ℕ). lines'.took ++ xs) (sym unsent) ∙ same t)
-
-      nothing : PassesAhead writes ((out0.took ++ out0.kept) ++ []) ((lines0.took ++ lines0.kept) ++ []) before (behind w' out lines' tally')
-      nothing = ahead_passes writes out0 out lines0 lines ahead done sends w w' packs.tells packs'.tells packs.held packs'.held tally tally' out (not_sent lines lines' []) lines' [] []
-          (front_told lines lines' [] again)
-          (front_said lines lines' [] out (λ t. subst (IsFront lines.took) (sym (same_took t)) (front_same lines.took))
-          (λ t. subst (IsFront lines'.took) (sym (append-nil (lines.took ++ lines.kept))) (subst (λ (xs : List ℕ). IsFront xs (lines.took ++ lines.kept)) (sym (same_took t)) (front_more lines.took lines.kept))))
-
-      whole : {from_out from_lines : List ℕ} → Passes from_out from_lines ((out0.took ++ out0.kept) ++ []) ((lines0.took ++ lines0.kept) ++ []) before (behind w' out lines' tally')
-          → Passes from_out from_lines (out0.took ++ out0.kept) (lines0.took ++ lines0.kept) before (behind w' out lines' tally')
-      whole = passes_all (λ t. sym (append-nil (out0.took ++ out0.kept))) (λ t. sym (append-nil (lines0.took ++ lines0.kept)))
-
--- AN EVENT
-module _ (packs packs' : PacksAt) (out0 out lines0 lines lines' : Side) (line : ℕ) (input : Input) (w mid : World) (tally : Tally) (ahead : Result (Unit {0}) SinkFailed) (done : IsOk ahead)
-    (sends : SendsAhead (writes_by w input) out0 out lines0 lines ahead) (again : IsTrue lines'.tells → IsTrue lines.tells) where
-  abbrev comes_with : Option Stop → Type 0
-  comes_with halt = Comes telling held_at tells took packs packs' lines lines' line input w mid lines.kept lines'.kept halt
-
-  pub event_done : (out' sent : Side) (tally' : Tally) {A E : Type 0} (result : Result A E) → Sound w → AtWork w → comes_with None → IsOk result → Says out out' lines' sent result (waiting_text mid)
-      → Counts (waiting mid) (waiting_text mid) tally tally'
-      → PlaysEvent line input (by_sides w packs.tells packs.held out0 lines0 tally) (by_sides (all_taken mid) packs'.tells packs'.held out' sent tally')
-  event_done out' sent tally' result sound work comes ok says counts =
-      let acts : List Act = event_acts line input comes.tried w in
-      record {
-        passes = acts_passed (writes_by w input) acts w mid packs packs' out0 out lines0 lines lines' tally ahead done sends again comes.outcome out' sent tally' result ok says;
-        leaves = comes.leaves;
-        tried = comes.tried;
-        may = comes.may refl;
-        reads = comes.reads refl;
-        packs = comes.outcome.does.packs;
-        plays = acts_played (writes_by w input) acts w mid packs packs' out0 out lines0 lines lines' tally ahead done sends again comes.outcome out' sent tally' result ok says sound work counts;
-      }
-
-  pub event_unsaid : (w' : World) (out' sent : Side) (tally' : Tally) → Sound w → AtWork w → w.answers ≡ [] → AllFlip w.book.live → (is_move input ≡ false → packs' ≡ packs) → comes_with None
-      → IsSaid out out' lines' sent (waiting_text mid)
-      → EventStops line input playing.Sink (by_sides w packs.tells packs.held out0 lines0 tally) (by_sides w' packs'.tells packs'.held out' sent tally')
-  event_unsaid w' out' sent tally' sound work none noise still comes says =
-      let acts : List Act = event_acts line input comes.tried w in (
-        λ is. ap held_at (still is),
-        inr (record {
-          tried = comes.tried;
-          noise = noise;
-          leaves = comes.leaves;
-          stops = acts_unsaid (writes_by w input) acts w mid packs packs' out0 out lines0 lines lines' tally ahead done sends again comes.outcome out' sent tally' w'
-              (waiting_said w acts (events_alone w line input comes.tried sound work (comes.may refl) none)) says;
-        }),
-      )
-
-  pub event_halted : (w' : World) (tally' : Tally) (halt : Stop) → AllFlip w.book.live → (is_move input ≡ false → packs' ≡ packs) → comes_with (Some halt)
-      → EventStops line input (from_stop halt) (by_sides w packs.tells packs.held out0 lines0 tally) (by_sides w' packs'.tells packs'.held out lines' tally')
-  event_halted w' tally' stop.Sink noise still comes = (
-    λ is. ap held_at (still is),
-    inr (record {
-      tried = comes.tried;
-      noise = noise;
-      leaves = comes.leaves;
-      stops = acts_halted (writes_by w input) (event_acts line input comes.tried w) w mid packs packs' out0 out lines0 lines lines' tally ahead done sends again w' tally' comes.outcome;
-    }),
-  )
-  event_halted w' tally' stop.Store noise still comes =
-      let failed = comes.before refl in
-      record {
-        move = comes.moves refl;
-        packs = λ t. packs_by (writes_by w input) refl t (failed.packs t);
-        out = λ t. ahead_said (writes_by w input) out0 out lines0 lines ahead done sends t;
-        trace = λ t. failed.text t ∙ ahead_told (writes_by w input) out0 out lines0 lines ahead done sends (again t);
-        passes = none_passed (writes_by w input) [] w mid packs packs' out0 out lines0 lines lines' tally ahead done sends again w' tally' (comes.unsent refl) failed.text;
-      }
-    where
-      packs_by : (b : Bool) → writes_by w input ≡ b → IsTrue packs'.tells → (packs'.held ≡ packs.held) ⊎ IsNextBlock w packs.held packs'.held
-          → (packs'.held ≡ packs.held) ⊎ ((writes_by w input ≡ true) × IsNextBlock w packs.held packs'.held)
-      packs_by b is t (inl same) = inl same
-      packs_by true is t (inr next) = inr (is, next)
-      packs_by false is t (inr next) = inl (comes.leaves is t)
-
--- THE SENDING that was to come before it failed.
-pub event_unsent : {A E : Type 0} (line : ℕ) (input : Input) (w new : World) (packs : PacksAt) (out0 out lines0 lines : Side) (tally tally' : Tally) (failed : E)
-    → SendsAhead {T = A} (writes_by w input) out0 out lines0 lines (Err failed)
-    → EventStops line input playing.Sink (by_sides w packs.tells packs.held out0 lines0 tally) (by_sides new packs.tells packs.held out lines tally')
-event_unsent line input w new packs out0 out lines0 lines tally tally' failed sends = (
-  λ still. refl,
-  inl (record { writes = sends.stopped; held = refl; passes = unsent_passes w new packs.tells packs.tells packs.held packs.held tally tally' out0 out lines0 lines (is_said sends.says) }),
-)
+        whole : {from_out from_lines : List ℕ} → Passes from_out from_lines (all_for old.out ++ []) (all_for old.lines ++ []) old stopped → Passes from_out from_lines (all_for old.out) (all_for old.lines) old stopped
+        whole = passes_all (λ t. sym (append-nil (all_for old.out))) (λ t. sym (append-nil (all_for old.lines)))
 
 -- A SUBMISSION, ahead of which nothing is sent
-module _ (packs : PacksAt) (out lines lines' : Side) (line : ℕ) (r : Request) (w mid : World) (tally : Tally) (again : IsTrue lines'.tells → IsTrue lines.tells) where
-  abbrev submits_with : Option Stop → Type 0
-  submits_with halt = Submits tells took lines lines' line r w mid lines.kept lines'.kept halt
+nothing_sent : (s : Spot) → Sends {T = Unit {0}} {E = SinkFailed} false (Ok tt) s s
+nothing_sent s = still_ahead false s refl
 
-  none_sent : SendsAhead {T = Unit {0}} {E = SinkFailed} false out out lines lines (Ok tt)
-  none_sent = none_ahead out lines
-
-  pub submission_done : (out' sent : Side) (tally' : Tally) {A E : Type 0} (result : Result A E) → Sound w → AtWork w → submits_with None → IsOk result → Says out out' lines' sent result (waiting_text mid)
-      → Counts (waiting mid) (waiting_text mid) tally tally'
-      → PlaysSubmission line r (by_sides w packs.tells packs.held out lines tally) (by_sides (all_taken mid) packs.tells packs.held out' sent tally')
-  submission_done out' sent tally' result sound work submits ok says counts =
-      let acts : List Act = submit_acts r line submits.slot submits.held w in
-      let all : Does (record { packs = true; trace = lines'.tells }) acts (as_site w packs.held lines.took lines.kept) (as_site mid packs.held lines'.took lines'.kept) = submits.outcome true packs.held in
-      record {
-        slot = submits.slot;
-        held = submits.held;
-        may = submits.may;
-        is = submits.is;
-        packs = all.does.packs refl;
-        same = refl;
-        passes = (acts_passed false acts w mid packs packs out out lines lines lines' tally (Ok tt) refl none_sent again (submits.outcome packs.tells packs.held) out' sent tally' result ok says).kept refl;
-        plays = acts_played false acts w mid packs packs out out lines lines lines' tally (Ok tt) refl none_sent again (submits.outcome packs.tells packs.held) out' sent tally' result ok says sound work counts;
-      }
-
-  pub submission_unsaid : (w' : World) (out' sent : Side) (tally' : Tally) → Sound w → AtWork w → submits_with None → IsSaid out out' lines' sent (waiting_text mid)
-      → SubmissionStops line r playing.Sink (by_sides w packs.tells packs.held out lines tally) (by_sides w' packs.tells packs.held out' sent tally')
-  submission_unsaid w' out' sent tally' sound work submits says =
-      let acts : List Act = submit_acts r line submits.slot submits.held w in
-      record {
-        slot = submits.slot;
-        held = submits.held;
-        may = submits.may;
-        is = submits.is;
-        same = refl;
-        stops = acts_unsaid false acts w mid packs packs out out lines lines lines' tally (Ok tt) refl none_sent again (submits.outcome packs.tells packs.held) out' sent tally' w'
-            (waiting_said w acts (submissions_alone w line submits.slot r submits.held sound work submits.may)) says;
-      }
-
-  pub submission_halted : (w' : World) (tally' : Tally) → submits_with (Some stop.Sink)
-      → SubmissionStops line r playing.Sink (by_sides w packs.tells packs.held out lines tally) (by_sides w' packs.tells packs.held out lines' tally')
-  submission_halted w' tally' submits = record {
-    slot = submits.slot;
-    held = submits.held;
-    may = submits.may;
-    is = submits.is;
+module _ {T : Type 0} {line : ℕ} {r : Request} {old mid : Spot} where
+  pub asked_halted : {e : SinkFailed} → SubmitsAt {T = T} line r (Err e) old mid → SubmissionStops line r playing.Sink old mid
+  asked_halted submits = subst (λ (s : Spot). SubmissionStops line r playing.Sink old s) (sym submits.same) (record {
+    slot = submits.does.slot;
+    held = submits.does.held;
+    may = submits.does.may;
+    is = submits.does.is;
     same = refl;
-    stops = acts_halted false (submit_acts r line submits.slot submits.held w) w mid packs packs out out lines lines lines' tally (Ok tt) refl none_sent again w' tally' (submits.outcome packs.tells packs.held);
-  }
+    stops = acts_halted (nothing_sent old) mid.driver.world old.packs mid.lines submits.again mid.driver (submits.does.outcome old.packs.tells old.packs.held);
+  })
 
--- ---- THE SAME at the spots between the calls
-module _ {T A E : Type 0} {line : ℕ} {r : Request} {old mid new : Spot} (sound : Sound old.driver.world) (work : AtWork old.driver.world) where
-  asked_said : {result : Result A E} {x : T} → SubmitsAt line r (Ok x) old mid → SaysText (waiting mid.driver.world) (waiting_text mid.driver.world) result mid new
-      → Says old.out new.out mid.lines new.lines result (waiting_text mid.driver.world)
-  asked_said {result} submits said = subst (λ (s : Spot). Says s.out new.out mid.lines new.lines result (waiting_text mid.driver.world)) submits.same said.says
+  module _ {x : T} {A E : Type 0} {new : Spot} (sound : Sound old.driver.world) (work : AtWork old.driver.world) (submits : SubmitsAt line r (Ok x) old mid) where
+    asked_says : {result : Result A E} → SaysText (waiting mid.driver.world) (waiting_text mid.driver.world) result mid new → Says old.out new.out mid.lines new.lines result (waiting_text mid.driver.world)
+    asked_says {result} said = subst (λ (s : Spot). Says s.out new.out mid.lines new.lines result (waiting_text mid.driver.world)) submits.same said.says
 
-  asked_left : {result : Result A E} {x : T} → SubmitsAt line r (Ok x) old mid → SaysText (waiting mid.driver.world) (waiting_text mid.driver.world) result mid new
-      → new ≡ record old { driver = new.driver; out = new.out; lines = new.lines; tally = new.tally }
-  asked_left submits said = said.same ∙ ap (λ (s : Spot). record s { driver = new.driver; out = new.out; lines = new.lines; tally = new.tally }) submits.same
+    asked_packs : {result : Result A E} → SaysText (waiting mid.driver.world) (waiting_text mid.driver.world) result mid new → record new { packs = old.packs } ≡ new
+    asked_packs said = ap (λ (s : Spot). record new { packs = s.packs }) (sym submits.same) ∙ said_packs said
 
-  pub asked_done : {x : T} {y : A} → SubmitsAt line r (Ok x) old mid → SaysText {E = E} (waiting mid.driver.world) (waiting_text mid.driver.world) (Ok y) mid new
-      → new.driver ≡ record mid.driver { world = all_taken mid.driver.world } → PlaysSubmission line r (seen old) (seen new)
-  asked_done {x} {y} submits said taken =
-      subst (λ (s : Spot). PlaysSubmission line r (seen old) (seen s))
-      (sym (asked_left submits said ∙ ap (λ (d : State). record old { driver = d; out = new.out; lines = new.lines; tally = new.tally }) taken))
-      (submission_done old.packs old.out old.lines mid.lines line r old.driver.world mid.driver.world old.tally submits.again new.out new.lines new.tally (Ok y) sound work submits.does refl
-      (asked_said submits said) (subst (λ (s : Spot). Counts (waiting mid.driver.world) (waiting_text mid.driver.world) s.tally new.tally) submits.same said.counts))
+    pub asked_done : {y : A} → SaysText {E = E} (waiting mid.driver.world) (waiting_text mid.driver.world) (Ok y) mid new → new.driver ≡ record mid.driver { world = all_taken mid.driver.world }
+        → PlaysSubmission line r old new
+    asked_done said taken =
+        let does = submits.does.outcome old.packs.tells old.packs.held in
+        subst (λ (s : Spot). PlaysSubmission line r old s) (asked_packs said) (record {
+          slot = submits.does.slot;
+          held = submits.does.held;
+          may = submits.does.may;
+          is = submits.does.is;
+          packs = (submits.does.outcome true old.packs.held).does.packs refl;
+          same = refl;
+          passes = (acts_passed (nothing_sent old) mid.driver.world old.packs mid.lines submits.again does new (asked_says said)).kept refl;
+          plays = acts_played (nothing_sent old) mid.driver.world old.packs mid.lines submits.again does new (asked_says said) sound work (ap (λ (d : State). d.world) taken)
+              (subst (λ (s : Spot). Counts (waiting mid.driver.world) (waiting_text mid.driver.world) s.tally new.tally) submits.same said.counts);
+        })
 
-  pub asked_unsaid : {x : T} {e : E} → SubmitsAt line r (Ok x) old mid → SaysText {T = A} (waiting mid.driver.world) (waiting_text mid.driver.world) (Err e) mid new
-      → SubmissionStops line r playing.Sink (seen old) (seen new)
-  asked_unsaid submits said =
-      subst (λ (s : Spot). SubmissionStops line r playing.Sink (seen old) (seen s)) (sym (asked_left submits said))
-      (submission_unsaid old.packs old.out old.lines mid.lines line r old.driver.world mid.driver.world old.tally submits.again new.driver.world new.out new.lines new.tally sound work submits.does
-      (is_said (asked_said submits said)))
+    pub asked_unsaid : {e : E} → SaysText {T = A} (waiting mid.driver.world) (waiting_text mid.driver.world) (Err e) mid new → SubmissionStops line r playing.Sink old new
+    asked_unsaid said = subst (λ (s : Spot). SubmissionStops line r playing.Sink old s) (asked_packs said) (record {
+      slot = submits.does.slot;
+      held = submits.does.held;
+      may = submits.does.may;
+      is = submits.does.is;
+      same = refl;
+      stops = acts_unsaid (nothing_sent old) mid.driver.world old.packs mid.lines submits.again (submits.does.outcome old.packs.tells old.packs.held) new
+          (waiting_said old.driver.world (submit_acts r line submits.does.slot submits.does.held old.driver.world)
+          (submissions_alone old.driver.world line submits.does.slot r submits.does.held sound work submits.does.may)) (is_said (asked_says said));
+    })
 
-pub asked_halted : {T : Type 0} {line : ℕ} {r : Request} {old new : Spot} {e : SinkFailed} → SubmitsAt {T = T} line r (Err e) old new → SubmissionStops line r playing.Sink (seen old) (seen new)
-asked_halted {line = line} {r = r} {old = old} {new = new} submits =
-    subst (λ (s : Spot). SubmissionStops line r playing.Sink (seen old) (seen s)) (sym submits.same)
-    (submission_halted old.packs old.out old.lines new.lines line r old.driver.world new.driver.world old.tally submits.again new.driver.world old.tally submits.does)
+-- AN EVENT: the sending that was to come ahead of it failed,
+pub came_unsent : {A E : Type 0} {line : ℕ} {input : Input} {old ahead : Spot} {failed : E} → Sends {T = A} (writes_by old.driver.world input) (Err failed) old ahead → EventStops line input playing.Sink old ahead
+came_unsent sends =
+    let same = ap (λ (s : Spot). s.packs.held) sends.same in
+    (λ still. same, inl (record { writes = sends.stopped; held = same; passes = unsent_passes (is_said sends.says) }))
 
--- an event, ahead of which text was sent
-pub came_unsent : {A E : Type 0} {line : ℕ} {input : Input} {old ahead : Spot} {failed : E} → Sends {T = A} (writes_by old.driver.world input) (Err failed) old ahead
-    → EventStops line input playing.Sink (seen old) (seen ahead)
-came_unsent {line = line} {input = input} {old = old} {ahead = ahead} {failed = failed} sends =
-    subst (λ (s : Spot). EventStops line input playing.Sink (seen old) (seen s)) (sym sends.same)
-    (event_unsent line input old.driver.world old.driver.world old.packs old.out ahead.out old.lines ahead.lines old.tally old.tally failed sends.ahead)
+abbrev ComesFrom : ℕ → Input → (old ahead mid : Spot) → Option Stop → Type 0
+ComesFrom line input old ahead mid halt = Comes telling held_at tells took old.packs mid.packs ahead.lines mid.lines line input old.driver.world mid.driver.world ahead.lines.kept mid.lines.kept halt
 
 module _ {line : ℕ} {input : Input} {old ahead mid : Spot} {unit : Unit {0}} (sends : Sends {E = SinkFailed} (writes_by old.driver.world input) (Ok unit) old ahead) where
-  came : {result : Result (Unit {0}) Stop} → ComesAt line input result ahead mid
-      → Comes telling held_at tells took old.packs mid.packs ahead.lines mid.lines line input old.driver.world mid.driver.world ahead.lines.kept mid.lines.kept (stop_in result)
+  came : {result : Result (Unit {0}) Stop} → ComesAt line input result ahead mid → ComesFrom line input old ahead mid (stop_in result)
   came {result} comes =
       subst (λ (s : Spot). Comes telling held_at tells took s.packs mid.packs ahead.lines mid.lines line input s.driver.world mid.driver.world ahead.lines.kept mid.lines.kept (stop_in result)) sends.same comes.does
 
-  came_left : {result : Result (Unit {0}) Stop} → ComesAt line input result ahead mid → mid ≡ record old { driver = mid.driver; packs = mid.packs; out = ahead.out; lines = mid.lines }
-  came_left comes = comes.same ∙ ap (λ (s : Spot). record s { driver = mid.driver; packs = mid.packs; lines = mid.lines }) sends.same
+  still_held : {result : Result (Unit {0}) Stop} → ComesAt line input result ahead mid → is_move input ≡ false → mid.packs.held ≡ old.packs.held
+  still_held comes is = ap held_at (comes.still is) ∙ ap (λ (s : Spot). s.packs.held) sends.same
 
-  still_held : {result : Result (Unit {0}) Stop} → ComesAt line input result ahead mid → is_move input ≡ false → mid.packs ≡ old.packs
-  still_held comes is = comes.still is ∙ ap (λ (s : Spot). s.packs) sends.same
+  -- or the driver stopped in it,
+  pub came_halted : {halt : Stop} → AllFlip old.driver.world.book.live → ComesAt line input (Err halt) ahead mid → EventStops line input (from_stop halt) old mid
+  came_halted {halt} noise at = subst (λ (s : Spot). EventStops line input (from_stop halt) old s) (sym at.same) (by halt (came at))
+    where
+      by : (halt : Stop) → ComesFrom line input old ahead mid (Some halt) → EventStops line input (from_stop halt) old (record ahead { driver = mid.driver; packs = mid.packs; lines = mid.lines })
+      by stop.Sink comes = (
+        still_held at,
+        inr (record { tried = comes.tried; noise = noise; leaves = comes.leaves; stops = acts_halted sends mid.driver.world mid.packs mid.lines at.again_lines mid.driver comes.outcome }),
+      )
+      by stop.Store comes =
+          let failed = comes.before refl in
+          record {
+            move = comes.moves refl;
+            packs = λ t. packs_by (writes_by old.driver.world input) refl t (failed.packs t);
+            out = λ t. ahead_said sends t;
+            trace = λ t. failed.text t ∙ ahead_told sends (at.again_lines t);
+            passes = none_passed sends mid.driver.world mid.packs mid.lines at.again_lines mid.driver (comes.unsent refl) failed.text;
+          }
+        where
+          packs_by : (b : Bool) → writes_by old.driver.world input ≡ b → IsTrue mid.packs.tells → (mid.packs.held ≡ old.packs.held) ⊎ IsNextBlock old.driver.world old.packs.held mid.packs.held
+              → (mid.packs.held ≡ old.packs.held) ⊎ ((writes_by old.driver.world input ≡ true) × IsNextBlock old.driver.world old.packs.held mid.packs.held)
+          packs_by b is t (inl same) = inl same
+          packs_by true is t (inr next) = inr (is, next)
+          packs_by false is t (inr next) = inl (comes.leaves is t)
 
-  pub came_halted : {halt : Stop} → AllFlip old.driver.world.book.live → ComesAt line input (Err halt) ahead mid → EventStops line input (from_stop halt) (seen old) (seen mid)
-  came_halted {halt} noise comes =
-      subst (λ (s : Spot). EventStops line input (from_stop halt) (seen old) (seen s)) (sym (came_left comes))
-      (event_halted old.packs mid.packs old.out ahead.out old.lines ahead.lines mid.lines line input old.driver.world mid.driver.world old.tally (Ok unit) refl sends.ahead comes.again_lines
-      mid.driver.world old.tally halt noise (still_held comes) (came comes))
+  module _ {A E : Type 0} {new : Spot} {done : Unit {0}} (sound : Sound old.driver.world) (work : AtWork old.driver.world) (comes : ComesAt line input (Ok done) ahead mid) (none : old.driver.world.answers ≡ []) where
+    came_says : {result : Result A E} → SaysText (waiting mid.driver.world) (waiting_text mid.driver.world) result mid new → Says ahead.out new.out mid.lines new.lines result (waiting_text mid.driver.world)
+    came_says {result} said = subst (λ (s : Spot). Says s.out new.out mid.lines new.lines result (waiting_text mid.driver.world)) comes.same said.says
 
-  module _ {A E : Type 0} {new : Spot} {done : Unit {0}} (sound : Sound old.driver.world) (work : AtWork old.driver.world) (comes : ComesAt line input (Ok done) ahead mid) where
-    came_said : {result : Result A E} → SaysText (waiting mid.driver.world) (waiting_text mid.driver.world) result mid new → Says ahead.out new.out mid.lines new.lines result (waiting_text mid.driver.world)
-    came_said {result} said = subst (λ (s : Spot). Says s.out new.out mid.lines new.lines result (waiting_text mid.driver.world)) comes.same said.says
+    -- or it came, and its answers were said,
+    pub came_done : {y : A} → SaysText {E = E} (waiting mid.driver.world) (waiting_text mid.driver.world) (Ok y) mid new → new.driver ≡ record mid.driver { world = all_taken mid.driver.world }
+        → PlaysEvent line input old new
+    came_done said taken =
+        let is = came comes in
+        subst (λ (s : Spot). PlaysEvent line input old s) (said_packs said) (record {
+          passes = acts_passed sends mid.driver.world mid.packs mid.lines comes.again_lines is.outcome new (came_says said);
+          leaves = is.leaves;
+          tried = is.tried;
+          may = is.may refl;
+          reads = is.reads refl;
+          packs = is.outcome.does.packs;
+          plays = acts_played sends mid.driver.world mid.packs mid.lines comes.again_lines is.outcome new (came_says said) sound work (ap (λ (d : State). d.world) taken)
+              (subst (λ (n : Tally). Counts (waiting mid.driver.world) (waiting_text mid.driver.world) n new.tally) (ap (λ (s : Spot). s.tally) comes.same ∙ ap (λ (s : Spot). s.tally) sends.same) said.counts);
+        })
 
-    answered_left : {result : Result A E} → SaysText (waiting mid.driver.world) (waiting_text mid.driver.world) result mid new
-        → new ≡ record old { driver = new.driver; packs = mid.packs; out = new.out; lines = new.lines; tally = new.tally }
-    answered_left said = said.same ∙ ap (λ (s : Spot). record s { driver = new.driver; out = new.out; lines = new.lines; tally = new.tally }) (came_left comes)
-
-    pub came_done : {y : A} → old.driver.world.answers ≡ [] → SaysText {E = E} (waiting mid.driver.world) (waiting_text mid.driver.world) (Ok y) mid new
-        → new.driver ≡ record mid.driver { world = all_taken mid.driver.world } → PlaysEvent line input (seen old) (seen new)
-    came_done {y} none said taken =
-        subst (λ (s : Spot). PlaysEvent line input (seen old) (seen s))
-        (sym (answered_left said ∙ ap (λ (d : State). record old { driver = d; packs = mid.packs; out = new.out; lines = new.lines; tally = new.tally }) taken))
-        (event_done old.packs mid.packs old.out ahead.out old.lines ahead.lines mid.lines line input old.driver.world mid.driver.world old.tally (Ok unit) refl sends.ahead comes.again_lines
-        new.out new.lines new.tally (Ok y) sound work (came comes) refl (came_said said)
-        (subst (λ (s : Spot). Counts (waiting mid.driver.world) (waiting_text mid.driver.world) s.tally new.tally) (came_left comes) said.counts))
-
-    pub came_unsaid : {e : E} → old.driver.world.answers ≡ [] → AllFlip old.driver.world.book.live → SaysText {T = A} (waiting mid.driver.world) (waiting_text mid.driver.world) (Err e) mid new
-        → EventStops line input playing.Sink (seen old) (seen new)
-    came_unsaid none noise said =
-        subst (λ (s : Spot). EventStops line input playing.Sink (seen old) (seen s)) (sym (answered_left said))
-        (event_unsaid old.packs mid.packs old.out ahead.out old.lines ahead.lines mid.lines line input old.driver.world mid.driver.world old.tally (Ok unit) refl sends.ahead comes.again_lines
-        new.driver.world new.out new.lines new.tally sound work none noise (still_held comes) (came comes) (is_said (came_said said)))
+    -- or were to be.
+    pub came_unsaid : {e : E} → AllFlip old.driver.world.book.live → SaysText {T = A} (waiting mid.driver.world) (waiting_text mid.driver.world) (Err e) mid new → EventStops line input playing.Sink old new
+    came_unsaid noise said =
+        let is = came comes in
+        let acts : List Act = event_acts line input is.tried old.driver.world in
+        subst (λ (s : Spot). EventStops line input playing.Sink old s) (said_packs said) (
+          still_held comes,
+          inr (record {
+            tried = is.tried;
+            noise = noise;
+            leaves = is.leaves;
+            stops = acts_unsaid sends mid.driver.world mid.packs mid.lines comes.again_lines is.outcome new
+                (waiting_said old.driver.world acts (events_alone old.driver.world line input is.tried sound work (is.may refl) none)) (is_said (came_says said));
+          }),
+        )

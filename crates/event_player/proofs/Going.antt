@@ -22,18 +22,10 @@ use Rattle.driver_machine.specs.Runs.{Works, MaySubmit, MayCome}
 use Rattle.driver_laws.proofs.invariant.Calls.{event_works, submit_works}
 use Rattle.driver_laws.proofs.invariant.Sound.{sound_after}
 use Rattle.driver_laws.specs.answers.Packs.{packs_after_all}
-use Rattle.script_runs.specs.StopsPasses.{IsReadOf}
-use Rattle.script_runs.specs.StopsPasses.{ShowsAll}
-use Rattle.script_runs.specs.StopsPasses.{IsOfUnits, with_call}
-use Rattle.script_runs.proofs.StopsPasses.{events_go, submissions_go, drains_start, drains_go_on}
-use Rattle.script_runs.proofs.StopsPasses.{drain_finds_nothing, drain_ends}
-use Rattle.script_runs.proofs.StopsPasses.{calls_are_played, lines_play_nothing}
-use Rattle.script_runs.proofs.StopsPasses.{events_keep, submissions_keep}
-use Rattle.script_runs.proofs.StopsPasses.{events_keep_reach, submissions_keep_reach}
-use Rattle.script_runs.proofs.StopsPasses.{events_keep_lengths, first_events_keep_lengths, later_events_keep_lengths, empty_drains_keep_lengths, submissions_keep_lengths, drained_shows}
+use Rattle.script_runs.specs.StopsPasses.{IsReadOf, ShowsAll, IsOfUnits, with_call}
+use Rattle.script_runs.proofs.StopsPasses.{events_go, submissions_go, drains_start, drains_go_on, drain_finds_nothing, drain_ends, calls_are_played, lines_play_nothing, events_keep, submissions_keep, events_keep_reach, submissions_keep_reach, events_keep_lengths, first_events_keep_lengths, later_events_keep_lengths, empty_drains_keep_lengths, submissions_keep_lengths, drained_shows}
 use Rattle.script_runs.specs.Passes.{Falls}
-use Rattle.script_runs.proofs.Passes.{lines_ask_nothing, calls_ask}
-use Rattle.script_runs.proofs.Passes.{first_events_fall, drains_fall}
+use Rattle.script_runs.proofs.Passes.{lines_ask_nothing, calls_ask, first_events_fall, drains_fall}
 use Rattle.hp_driver.specs.Subsystem.{IsThere}
 use Rattle.driver_laws.specs.answers.Waiting.{all_taken}
 use Rattle.script_runs.proofs.LineLaws.{inputs_append, inputs_end}

@@ -22,19 +22,17 @@ use Rattle.driver_laws.specs.answers.Outcome.{IsFront}
 use Rattle.driver_laws.specs.answers.Packs.{packs_after_all}
 use Rattle.driver_laws.proofs.answers.Joined.{front_same, front_more, front_of_front}
 use Rattle.outside_traits.specs.declared.traits.PackCall.{PackCall}
-use Rattle.script_runs.specs.StopsPasses.{AskBelow}
-use Rattle.script_runs.specs.StopsPasses.{with_call}
+use Rattle.script_runs.specs.StopsPasses.{AskBelow, with_call, IsTorn}
 use Rattle.trace_lines.specs.answers.AnswerText.{out_text}
 use Rattle.hp_driver.specs.Subsystem.{IsThere}
 use Rattle.driver_laws.specs.answers.Waiting.{all_taken}
 use Rattle.script_runs.specs.declared.fault.PlayFault.{PlayFault}
 use Rattle.script_runs.specs.declared.fault.PlayFault.TheVariants as faults
 use Rattle.script_runs.specs.Ahead.{IsBetween}
-use Rattle.script_runs.specs.StopsPasses.{IsTorn}
 use Rattle.script_runs.specs.Stops.{Came, took, TakesRest, StopsAtStore}
-use Rattle.event_player.specs.Steps.{Stage, Passes, IsCut, IsAhead, PlaysEvent, PlaysDrain, HasDrained}
+use Rattle.event_player.specs.Steps.{Passes, IsCut, IsAhead, PlaysEvent, PlaysDrain, HasDrained}
 use Rattle.event_player.specs.Saying.{Side}
-use Rattle.event_player.specs.Spots.{Spot, seen, taking, Keeps, SendsRest}
+use Rattle.event_player.specs.Spots.{Spot, all_for, taking, Keeps, SendsRest}
 use Rattle.event_player.specs.Stops.{EventStops, StopsInput, StopsLine, StopsDraining, StopsScript, StopsAtMove, StopsAt, IsNext, Leaves}
 use Rattle.event_player.proofs.Contexts.{first_stops, idle_stops, later_stops}
 use Rattle.event_player.proofs.Ahead.{nothing_more, between_by, told_more}
@@ -45,23 +43,23 @@ use Rattle.script_runs.proofs.LineLaws.{inputs_append, inputs_end}
 use Rattle.event_player.proofs.Whole.{PlayedTo, PlaysTo, EndsAt, ends_at}
 
 -- A DRAIN that stops: its first event,
-pub first_halts : (line : ℕ) (fault : PlayFault) (input : Input) (old new : Stage) → next_event old.world ≡ Some input → IsThere old.world input → old.world.answers ≡ []
-    → EventStops line input fault old new → IsTrue new.packs_tell → StopsInput line says.Drain fault old new
+pub first_halts : (line : ℕ) (fault : PlayFault) (input : Input) (old new : Spot) → next_event old.driver.world ≡ Some input → IsThere old.driver.world input → old.driver.world.answers ≡ []
+    → EventStops line input fault old new → IsTrue new.packs.tells → StopsInput line says.Drain fault old new
 first_halts line fault input old new is there none stops packs script tables first last done said taken less next told =
     first_stops script tables first last done said taken line old less next told fault input new packs is there none stops
 
-pub idle_halts : (line : ℕ) (old new : Stage) → next_event old.world ≡ None → new.held ≡ old.held
-    → Passes old.out_took old.trace_took old.said (old.taken ++ moment_text (Idle line)) old new → StopsInput line says.Drain faults.Sink old new
+pub idle_halts : (line : ℕ) (old new : Spot) → next_event old.driver.world ≡ None → new.packs.held ≡ old.packs.held
+    → Passes old.out.took old.lines.took (all_for old.out) (all_for old.lines ++ moment_text (Idle line)) old new → StopsInput line says.Drain faults.Sink old new
 idle_halts line old new over same passes script tables first last done said taken less next told =
     idle_stops script tables first last done said taken line old less next told new over same passes
 
 -- the events behind the first one
-pub rest_halts : (line : ℕ) (fault : PlayFault) (input : Input) (old mid new : Stage) → IsTrue mid.packs_tell → next_event old.world ≡ Some input → old.world.answers ≡ [] → PlaysEvent line input old mid
+pub rest_halts : (line : ℕ) (fault : PlayFault) (input : Input) (old mid new : Spot) → IsTrue mid.packs.tells → next_event old.driver.world ≡ Some input → old.driver.world.answers ≡ [] → PlaysEvent line input old mid
     → StopsDraining line fault mid new → StopsInput line says.Drain fault old new
 rest_halts line fault input old mid new packs is none plays stops script tables first last done said taken less next told =
     stops script tables first (done ++ line_for line says.Drain ∷ []) next.later said taken
     (record {
-      moments = with_call told.moments line says.Drain old.world acts;
+      moments = with_call told.moments line says.Drain old.driver.world acts;
       drained = at_mid;
       inputs = next.inputs ∙ sym (append_assoc (inputs_before [] done) (record { line = line; input = says.Drain } ∷ []) next.later)
           ∙ ap (λ (ns : List Numbered). ns ++ next.later) (sym (inputs_more done line says.Drain));
@@ -69,18 +67,18 @@ rest_halts line fault input old mid new packs is none plays stops script tables 
     })
   where
     acts : List Act
-    acts = event_acts line input plays.tried old.world
+    acts = event_acts line input plays.tried old.driver.world
 
-    goes : HasDrained script tables first (packs_after_all old.world old.held acts) line (done ++ line_for line says.Drain ∷ []) (all_taken (after_all old.world acts)) (with_call told.moments line says.Drain old.world acts)
-    goes = drain_first script tables first last line input plays.tried old.held done old.world told.moments less is none plays.may (plays.reads packs) told.run
+    goes : HasDrained script tables first (packs_after_all old.driver.world old.packs.held acts) line (done ++ line_for line says.Drain ∷ []) (all_taken (after_all old.driver.world acts)) (with_call told.moments line says.Drain old.driver.world acts)
+    goes = drain_first script tables first last line input plays.tried old.packs.held done old.driver.world told.moments less is none plays.may (plays.reads packs) told.run
 
-    at_mid : HasDrained script tables first mid.held line (done ++ line_for line says.Drain ∷ []) mid.world (with_call told.moments line says.Drain old.world acts)
+    at_mid : HasDrained script tables first mid.packs.held line (done ++ line_for line says.Drain ∷ []) mid.driver.world (with_call told.moments line says.Drain old.driver.world acts)
     at_mid =
-        subst (λ (held : ℕ → Pack). HasDrained script tables first held line (done ++ line_for line says.Drain ∷ []) mid.world (with_call told.moments line says.Drain old.world acts)) (sym (plays.packs packs))
-        (subst (λ (x : World). HasDrained script tables first (packs_after_all old.world old.held acts) line (done ++ line_for line says.Drain ∷ []) x (with_call told.moments line says.Drain old.world acts)) (sym plays.plays.world) goes)
+        subst (λ (held : ℕ → Pack). HasDrained script tables first held line (done ++ line_for line says.Drain ∷ []) mid.driver.world (with_call told.moments line says.Drain old.driver.world acts)) (sym (plays.packs packs))
+        (subst (λ (x : World). HasDrained script tables first (packs_after_all old.driver.world old.packs.held acts) line (done ++ line_for line says.Drain ∷ []) x (with_call told.moments line says.Drain old.driver.world acts)) (sym plays.plays.world) goes)
 
-pub draining_halts : (line turn : ℕ) (fault : PlayFault) (input : Input) (old mid new : Stage) → next_event mid.world ≡ Some input → IsThere mid.world input → mid.world.answers ≡ []
-    → Draining line turn old mid → EventStops line input fault mid new → IsTrue new.packs_tell → StopsDraining line fault old new
+pub draining_halts : (line turn : ℕ) (fault : PlayFault) (input : Input) (old mid new : Spot) → next_event mid.driver.world ≡ Some input → IsThere mid.driver.world input → mid.driver.world.answers ≡ []
+    → Draining line turn old mid → EventStops line input fault mid new → IsTrue new.packs.tells → StopsDraining line fault old new
 draining_halts line turn fault input old mid new is there none so stops packs script tables first done later said taken told =
     let now : SoDrained script tables first done told.moments line turn old mid = so script tables first done told.moments told.drained in
     later_stops script tables first line done later said taken mid new fault input
@@ -97,13 +95,13 @@ next_inputs s done rest number input is =
           ∙ inputs_end [] (record { line = number; input = input } ∷ inputs_before end rest) done;
     }
 
-module _ (s : Script) (i : ℕ) (line : Line) (fault : PlayFault) (old mid new : Stage) (here : drop i s.lines ≡ line ∷ drop (i + 1) s.lines) where
-  line_by : (statement : Statement) → line.statement ≡ statement → StopsLine line.number statement fault mid new → (tables : ℕ → Option Table) → PlayedTo s tables old mid i → StopsAt fault s tables old.held old.said old.taken new
+module _ (s : Script) (i : ℕ) (line : Line) (fault : PlayFault) (old mid new : Spot) (here : drop i s.lines ≡ line ∷ drop (i + 1) s.lines) where
+  line_by : (statement : Statement) → line.statement ≡ statement → StopsLine line.number statement fault mid new → (tables : ℕ → Option Table) → PlayedTo s tables old mid i → StopsAt fault s tables old.packs.held (all_for old.out) (all_for old.lines) new
   line_by (Declares u kind) at stops tables so = absurd stops
   line_by (Plays input) at stops tables so =
       let ahead : AreNumbered so.last s.count (line ∷ drop (i + 1) s.lines) = subst (AreNumbered so.last s.count) here so.ahead in
       let is : line ≡ line_for line.number input = ap (λ (st : Statement). record { number = line.number; statement = st }) at in
-      stops s tables old.held so.last (take i s.lines) old.said old.taken ahead.0
+      stops s tables old.packs.held so.last (take i s.lines) (all_for old.out) (all_for old.lines) ahead.0
       (next_inputs s (take i s.lines) (drop (i + 1) s.lines) line.number input
       (sym (take-append-drop i s.lines) ∙ ap (λ (xs : List Line). take i s.lines ++ xs) (here ∙ ap (λ (l : Line). l ∷ drop (i + 1) s.lines) is)))
       (record { moments = so.moments; run = so.run; rule = so.rule })
@@ -112,13 +110,13 @@ module _ (s : Script) (i : ℕ) (line : Line) (fault : PlayFault) (old mid new :
   line_halts before stops tables run = line_by line.statement refl stops tables (before tables run)
 
 -- or the drain behind the last one
-pub end_halts : (s : Script) (i number : ℕ) (fault : PlayFault) (old mid new : Stage) → length s.lines ≤ i → number ≡ s.count + 1 → StopsInput number says.Drain fault mid new → PlaysTo s old mid i
+pub end_halts : (s : Script) (i number : ℕ) (fault : PlayFault) (old mid new : Spot) → length s.lines ≤ i → number ≡ s.count + 1 → StopsInput number says.Drain fault mid new → PlaysTo s old mid i
     → (tables : ℕ → Option Table) → StopsScript s tables fault old new
 end_halts s i number fault old mid new all is stops before tables run =
     let so : PlayedTo s tables old mid i = before tables run in
     let last : so.last ≤ s.count = subst (AreNumbered so.last s.count) (drop_all i s.lines all) so.ahead in
     let end : List Numbered = record { line = s.count + 1; input = says.Drain } ∷ [] in
-    subst (λ (k : ℕ). StopsInput k says.Drain fault mid new) is stops s tables old.held so.last (take i s.lines) old.said old.taken (behind so.last s.count last)
+    subst (λ (k : ℕ). StopsInput k says.Drain fault mid new) is stops s tables old.packs.held so.last (take i s.lines) (all_for old.out) (all_for old.lines) (behind so.last s.count last)
     (record {
       later = [];
       inputs = ap (inputs_before end) (sym (take_all i s.lines all)) ∙ inputs_end [] end (take i s.lines);
@@ -129,19 +127,19 @@ end_halts s i number fault old mid new all is stops before tables run =
     behind a b le = omega (arith, le)
 
 -- or the last sending
-pub sending_halts : (s : Script) (i number : ℕ) (old mid drained new : Stage) → length s.lines ≤ i → number ≡ s.count + 1 → PlaysDrain number mid drained → PlaysTo s old mid i → new.held ≡ drained.held
-    → Passes drained.out_took drained.trace_took drained.said drained.taken drained new → (tables : ℕ → Option Table) → StopsScript s tables faults.Sink old new
+pub sending_halts : (s : Script) (i number : ℕ) (old mid drained new : Spot) → length s.lines ≤ i → number ≡ s.count + 1 → PlaysDrain number mid drained → PlaysTo s old mid i → new.packs.held ≡ drained.packs.held
+    → Passes drained.out.took drained.lines.took (all_for drained.out) (all_for drained.lines) drained new → (tables : ℕ → Option Table) → StopsScript s tables faults.Sink old new
 sending_halts s i number old mid drained new all is drains before same passes tables run =
     let ends : EndsAt s tables old drained = ends_at s i number old mid drained all is drains before tables run in
-    let whole : Whole s tables old.held drained.held ends.moments = whole_run s tables old.held drained.held (s.count + 1) _ drained.world ends.moments ends.run in
+    let whole : Whole s tables old.packs.held drained.packs.held ends.moments = whole_run s tables old.packs.held drained.packs.held (s.count + 1) _ drained.driver.world ends.moments ends.run in
     let inputs : inputs_of s ≡ played ends.moments = sym (ends.run.inputs ∙ inputs_append [] s.lines (line_for (s.count + 1) says.Drain ∷ [])) in
-    let cut : IsCut s tables old.held ends.moments old.said old.taken new =
+    let cut : IsCut s tables old.packs.held ends.moments (all_for old.out) (all_for old.lines) new =
     (nothing_more ends.rule false new (record { sent = λ on. absurd (false≢true on); kept = λ off. passes }) whole.behind same).0 in
     record {
       reached = record {
         sent = cut.sent;
         late = cut.late;
-        came = subst (Came s tables old.held) (sym cut.cut)
+        came = subst (Came s tables old.packs.held) (sym cut.cut)
             (record { later = []; follows = whole.follows; inputs = inputs ∙ sym (append-nil (played ends.moments)) });
         ahead = cut.ahead;
       };
@@ -176,22 +174,22 @@ rest_on start old new sent all rest again less before = record {
 }
 
 -- what was sent by the rule is a front of what each sink took
-module _ {script : Script} {tables : ℕ → Option Table} {first : ℕ → Pack} {moments : List Moment} {said taken : List ℕ} {now : Stage}
+module _ {script : Script} {tables : ℕ → Option Table} {first : ℕ → Pack} {moments : List Moment} {said taken : List ℕ} {now : Spot}
     (rule : IsAhead script tables first moments said taken now) where
-  pub sent_lines : IsTrue now.trace_tells → IsFront (taken ++ trace_text rule.at.sent) now.trace_took
+  pub sent_lines : IsTrue now.lines.tells → IsFront (taken ++ trace_text rule.at.sent) now.lines.took
   sent_lines t =
-      front_of_front (taken ++ trace_text rule.at.sent) (taken ++ trace_text (rule.at.sent ++ rule.at.texts.told)) now.trace_took
+      front_of_front (taken ++ trace_text rule.at.sent) (taken ++ trace_text (rule.at.sent ++ rule.at.texts.told)) now.lines.took
       (record {
         rest = trace_text rule.at.texts.told;
         whole = sym (told_more taken (taken ++ trace_text rule.at.sent) ((taken ++ trace_text rule.at.sent) ++ trace_text rule.at.texts.told) rule.at.sent rule.at.texts.told refl refl);
       }) (rule.at.texts.trace t).least
 
-  pub sent_answers : IsTrue now.out_tells → IsFront (said ++ out_text rule.at.sent) now.out_took
+  pub sent_answers : IsTrue now.out.tells → IsFront (said ++ out_text rule.at.sent) now.out.took
   sent_answers t = (rule.at.texts.out t).least
 
 -- THE WHOLE PLAY, from a start on: it stopped, and where the packs failed the rest was sent.
 module _ (s : Script) (tables : ℕ → Option Table) (first : ℕ → Pack) (start old new : Spot) (keeps : Keeps start old) where
-  store_stops : StopsAtMove s tables first start.out.took start.lines.took (seen old) → SendsRest old new
+  store_stops : StopsAtMove s tables first start.out.took start.lines.took old → SendsRest old new
       → StopsAtStore s tables first old.packs.held (taking start.out new.out) (taking start.lines new.lines)
   store_stops e rest = record {
     held = e.held;
@@ -205,7 +203,7 @@ module _ (s : Script) (tables : ℕ → Option Table) (first : ℕ → Pack) (st
         (rest_on start.out old.out new.out (out_text e.rule.at.sent) (out_text e.done) rest.answers rest.again keeps.later_out (λ t. (sent_answers e.rule t, e.rule.out t)));
   }
 
-  pub stopped_leaves : (fault : PlayFault) (call : PackCall) → AreTablesOf (drives_of s) first tables → StopsAt fault s tables first start.out.took start.lines.took (seen old)
+  pub stopped_leaves : (fault : PlayFault) (call : PackCall) → AreTablesOf (drives_of s) first tables → StopsAt fault s tables first start.out.took start.lines.took old
       → (fault ≡ faults.Store → SendsRest old new) → ((fault ≡ faults.Store → ⊥) → new ≡ old)
       → Leaves fault s first new.packs.held call (taking start.out new.out) (taking start.lines new.lines)
   stopped_leaves faults.Store call read is rest same =

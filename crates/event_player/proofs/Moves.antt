@@ -14,8 +14,7 @@ use Rattle.driver_machine.specs.Events.{event_acts, in_hand, in_hand_by, or_noth
 use Rattle.driver_machine.specs.Sound.{Sound}
 use Rattle.driver_machine.specs.Runs.{Run, MayCome}
 use Rattle.driver_laws.specs.answers.Packs.{ReadAll}
-use Rattle.script_runs.specs.StopsPasses.{IsReadOf}
-use Rattle.script_runs.specs.StopsPasses.{AllFlip}
+use Rattle.script_runs.specs.StopsPasses.{IsReadOf, AllFlip}
 use Rattle.hp_driver.specs.Subsystem.{IsThere, is_move, writes_by}
 use Rattle.hp_driver.proofs.Moves.{tried_by_rules, read_from}
 use Rattle.script_runs.specs.Ahead.{SaysOneSector}

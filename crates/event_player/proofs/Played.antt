@@ -21,12 +21,13 @@ use Rattle.event_player.specs.Calls.{MayGoOn}
 use Rattle.event_player.specs.Plays.{Tallied}
 use Rattle.event_player.specs.Playing.{HasRun, counted, one_request, one_noise}
 use Rattle.event_player.specs.Saying.{Side}
-use Rattle.event_player.specs.Spots.{Begins, PacksAt, Spot, seen, IsAtStart, Caused, Keeps, PlaysAs, PlaysAt, PlaysOver, PlaysTheScript, Sends, SendsRest, StopsAs, TurnsOut}
+use Rattle.event_player.specs.Spots.{PacksAt, Spot, Caused, Keeps, Sends, SendsRest, all_for}
+use Rattle.event_player.specs.Turns.{Begins, IsAtStart, PlaysAs, PlaysAt, PlaysOver, PlaysTheScript, StopsAs, TurnsOut}
 use Rattle.event_player.specs.Steps.{MayPlay, PlaysDrain, PlaysScript, Ready}
 use Rattle.event_player.specs.Stops.{StopsAt, StopsInput, StopsScript}
 use Rattle.event_player.proofs.Halting.{line_halts, end_halts, sending_halts, stopped_leaves}
 use Rattle.event_player.proofs.Rooms.{ReadyBehind}
-use Rattle.event_player.proofs.Saying.{all_sent, is_said, unsent_passes}
+use Rattle.event_player.proofs.Saying.{is_said, unsent_passes}
 use Rattle.event_player.proofs.Spots.{caused_behind, goes_on, keeps_join, keeps_none, sent_keeps, stopped, stopped_behind}
 use Rattle.event_player.proofs.Whole.{PlaysTo, here_is, next_may, next_plays, next_ready, plays_end, plays_none_yet, starts_ready, starts_run, tally_whole}
 
@@ -36,9 +37,9 @@ pub record IsPlayedTo (s : Script) (i : ℕ) (start now : Spot) : Type 0 where
   pub outstanding : now.driver.outstanding ≡ start.driver.outstanding
   pub keeps : Keeps start now
   pub ready : ReadyBehind s (take i s.lines) now.driver.world
-  pub plays : IsTrue now.packs.tells → PlaysTo s (seen start) (seen now) i
+  pub plays : IsTrue now.packs.tells → PlaysTo s start now i
 
-none_kept : (side : Side) → side.kept ≡ [] → side.took ++ side.kept ≡ side.took
+none_kept : (side : Side) → side.kept ≡ [] → all_for side ≡ side.took
 none_kept side none = ap (λ (xs : List ℕ). side.took ++ xs) none ∙ append-nil side.took
 
 pub played_none : (s : Script) (start : Spot) → IsScript s → IsAtStart s start → IsPlayedTo s 0 start start
@@ -47,7 +48,7 @@ played_none s start script at = record {
   outstanding = refl;
   keeps = keeps_none start;
   ready = at.ready;
-  plays = λ t. plays_none_yet s (seen start) script (sym (none_kept start.out at.kept)) (sym (none_kept start.lines at.sent));
+  plays = λ t. plays_none_yet s start script (sym (none_kept start.out at.kept)) (sym (none_kept start.lines at.sent));
 }
 
 -- a line more
@@ -61,14 +62,14 @@ module _ (stored : Stored) (i : ℕ) (item : Kept) (is : item ≡ get_or stored.
     outstanding = turns.goes.outstanding ∙ so.outstanding;
     keeps = keeps_join so.keeps turns.keeps;
     ready = next_ready stored i item is lt mid.driver.world new.driver.world turns.plays.brings so.ready;
-    plays = λ t. next_plays stored i item is lt (seen start) (seen mid) (seen new) (turns.plays.plays t) (so.plays (turns.keeps.told.never_again t));
+    plays = λ t. next_plays stored i item is lt start mid new (turns.plays.plays t) (so.plays (turns.keeps.told.never_again t));
   }
 
   pub line_stopped : {V W : Type 0} {new : Spot} (result : Result W PlayFault) (fault : PlayFault) → IsErrAnd result (λ x. x ≡ fault)
       → PlaysAt {V = V} item.number (line_of (said_by stored.text item)).statement (Err fault) mid new → PlaysTheScript (meaning_of stored) result start new
   line_stopped {new = new} result fault err turns =
       stopped_behind result fault err so.keeps turns
-      (λ stops t. line_halts (meaning_of stored) i (line_of (said_by stored.text item)) fault (seen start) (seen mid) (seen new) (here_is stored i item is lt)
+      (λ stops t. line_halts (meaning_of stored) i (line_of (said_by stored.text item)) fault start mid new (here_is stored i item is lt)
       (so.plays (turns.keeps.told.never_again t)) (stops t))
 
 -- no line is left
@@ -82,27 +83,26 @@ module _ (s : Script) (i number : ℕ) (all : length s.lines ≤ i) (last : numb
       → TurnsOut {V = V} (PlaysAs (PlaysDrain number) (Plays Drain)) (StopsAs (StopsInput number Drain)) (Err fault) mid new → PlaysTheScript s result start new
   drain_stopped {new = new} result fault err turns =
       stopped_behind result fault err so.keeps turns
-      (λ stops t. end_halts s i number fault (seen start) (seen mid) (seen new) all last (stops t) (so.plays (turns.keeps.told.never_again t)))
+      (λ stops t. end_halts s i number fault start mid new all last (stops t) (so.plays (turns.keeps.told.never_again t)))
 
   module _ {V : Type 0} {x : V} {drained : Spot} (drains : TurnsOut (PlaysAs (PlaysDrain number) (Plays Drain)) (StopsAs (StopsInput number Drain)) (Ok x) mid drained) where
     pub sending_stopped : {A W : Type 0} {e : SinkFailed} {new : Spot} (result : Result W PlayFault) → IsErrAnd result (λ x. x ≡ faults.Sink) → Sends {T = A} true (Err e) drained new → PlaysTheScript s result start new
     sending_stopped {new = new} result err sends =
         let before = keeps_join so.keeps drains.keeps in
-        stopped result faults.Sink err (keeps_join before (sent_keeps sends)) (caused_behind new faults.Sink before sends.ahead.says.failed)
+        stopped result faults.Sink err (keeps_join before (sent_keeps sends)) (caused_behind new faults.Sink before sends.says.failed)
         (λ t.
         let told = (sent_keeps sends).told.never_again t in
-        sending_halts s i number (seen start) (seen mid) (seen drained) (seen new) all last (drains.plays.plays told) (so.plays (drains.keeps.told.never_again told))
+        sending_halts s i number start mid drained new all last (drains.plays.plays told) (so.plays (drains.keeps.told.never_again told))
         (ap (λ (x : Spot). x.packs.held) sends.same)
-        (unsent_passes drained.driver.world new.driver.world drained.packs.tells new.packs.tells drained.packs.held new.packs.held drained.tally new.tally drained.out new.out drained.lines new.lines
-        (is_said sends.ahead.says)))
+        (unsent_passes (is_said sends.says)))
 
-    pub script_played : {A E W : Type 0} {y : A} {new : Spot} (z : W) → Sends {E = E} true (Ok y) drained new → PlaysTheScript s (Ok z) start new
+    pub script_played : {W : Type 0} {y : Unit {0}} {new : Spot} (z : W) → Sends {E = SinkFailed} true (Ok y) drained new → PlaysTheScript s (Ok z) start new
     script_played {new = new} z sends =
         let driver = ap (λ (x : Spot). x.driver) sends.same in
         record {
           plays = λ t.
               let told = (sent_keeps sends).told.never_again t in
-              plays_end s i number (seen start) (seen mid) (seen drained) (seen new) all last (drains.plays.plays told) (all_sent drained new sends) (so.plays (drains.keeps.told.never_again told));
+              plays_end s i number start mid drained new all last (drains.plays.plays told) sends (so.plays (drains.keeps.told.never_again told));
           goes = goes_on driver (record { going = drains.goes.going; outstanding = drains.goes.outstanding ∙ so.outstanding });
           stops = tt;
           caused = tt;
@@ -132,19 +132,19 @@ begins_at {start} s setups requests noises set is kept sent count asked read non
 }
 
 module _ (s : Script) (start : Spot) (begins : Begins s start) where
-  ends_whole : (new : Spot) → IsScript s → IsTrue start.packs.tells → ((tables : ℕ → Option Table) → PlaysScript s tables (seen start) (seen new))
+  ends_whole : (new : Spot) → IsScript s → IsTrue start.packs.tells → ((tables : ℕ → Option Table) → PlaysScript s tables start new)
       → Tallied s start.packs.held new.packs.held new.out.tells start.out.took new.out.took new.lines.tells start.lines.took new.lines.took new.tally
   ends_whole new script told goes =
       subst (λ (xs : List ℕ). Tallied s start.packs.held new.packs.held new.out.tells start.out.took new.out.took new.lines.tells xs new.lines.took new.tally) (none_kept start.lines begins.start.sent)
       (subst (λ (xs : List ℕ). Tallied s start.packs.held new.packs.held new.out.tells xs new.out.took new.lines.tells (start.lines.took ++ start.lines.kept) new.lines.took new.tally)
       (none_kept start.out begins.start.kept)
-      (tally_whole s begins.tables (seen start) (seen new) script (begins.read told) begins.tally (goes begins.tables begins.run)))
+      (tally_whole s begins.tables start new script (begins.read told) begins.tally (goes begins.tables begins.run)))
 
-  ends_stopped : (new : Spot) (fault : PlayFault) → ((tables : ℕ → Option Table) → StopsScript s tables fault (seen start) (seen new))
-      → StopsAt fault s begins.tables start.packs.held start.out.took start.lines.took (seen new)
+  ends_stopped : (new : Spot) (fault : PlayFault) → ((tables : ℕ → Option Table) → StopsScript s tables fault start new)
+      → StopsAt fault s begins.tables start.packs.held start.out.took start.lines.took new
   ends_stopped new fault stops =
-      subst (λ (xs : List ℕ). StopsAt fault s begins.tables start.packs.held start.out.took xs (seen new)) (none_kept start.lines begins.start.sent)
-      (subst (λ (xs : List ℕ). StopsAt fault s begins.tables start.packs.held xs (start.lines.took ++ start.lines.kept) (seen new)) (none_kept start.out begins.start.kept)
+      subst (λ (xs : List ℕ). StopsAt fault s begins.tables start.packs.held start.out.took xs new) (none_kept start.lines begins.start.sent)
+      (subst (λ (xs : List ℕ). StopsAt fault s begins.tables start.packs.held xs (start.lines.took ++ start.lines.kept) new) (none_kept start.out begins.start.kept)
       (stops begins.tables begins.run))
 
   -- ---- what is sent behind it

@@ -10,11 +10,8 @@ use Rattle.driver_machine.specs.Lines.{lines_of_all}
 use Rattle.driver_machine.specs.Sound.{Sound}
 use Rattle.driver_laws.proofs.invariant.Sound.{sound_after}
 use Rattle.driver_laws.specs.answers.Outcome.{IsNextBlock}
-use Rattle.script_runs.specs.StopsPasses.{with_call}
-use Rattle.script_runs.proofs.StopsPasses.{calls_are_played, lines_play_nothing}
-use Rattle.script_runs.specs.StopsPasses.{AsksBelow, AskBelow, IsWithinReach, StayFrom}
-use Rattle.script_runs.proofs.StopsPasses.{next_blocks_stay}
-use Rattle.script_runs.proofs.StopsPasses.{answers_keep_reach}
+use Rattle.script_runs.specs.StopsPasses.{with_call, AsksBelow, AskBelow, IsWithinReach, StayFrom}
+use Rattle.script_runs.proofs.StopsPasses.{calls_are_played, lines_play_nothing, next_blocks_stay, answers_keep_reach}
 use Rattle.driver_laws.specs.answers.Waiting.{all_taken}
 use Rattle.driver_laws.proofs.answers.Taking.{taken_by}
 

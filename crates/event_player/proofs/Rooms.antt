@@ -27,7 +27,8 @@ use Rattle.hp_driver.specs.Subsystem.{State}
 use Rattle.driver_laws.specs.answers.Waiting.{takings, all_taken}
 use Rattle.script_runs.specs.Steps.{AreUnits}
 use Rattle.event_player.specs.Playing.{counted, one_request, one_noise, one_fault}
-use Rattle.event_player.specs.Steps.{Stage, PlaysEvent, PlaysSubmission, Ready, Brings, MayAsk, MayPlay}
+use Rattle.event_player.specs.Spots.{Spot}
+use Rattle.event_player.specs.Steps.{PlaysEvent, PlaysSubmission, Ready, Brings, MayAsk, MayPlay}
 use Rattle.driver_laws.proofs.answers.Taking.{taken_by, none_waits}
 use Rattle.script_runs.proofs.Fitting.{within_more, units_stay, few_lines, Found, found, set_up, may_turn, may_strike, may_arm}
 use Rattle.script_runs.proofs.Rooms.{nothing_armed}
@@ -79,29 +80,29 @@ with_more : (input : Input) (xs : List ℕ) (id : ℕ) → Contains xs id → Co
 with_more (script.Submit r) xs id has = Contains-later id r.id xs has
 with_more other xs id has = has
 
-event_ready : (line : ℕ) (input : Input) (old new : Stage) → PlaysEvent line input old new → (s : Script) (r n f : ℕ) (xs : List ℕ) → Ready s r n f xs old.world
-    → Ready s r (n + noises_of input) (f + faults_of input) xs new.world
+event_ready : (line : ℕ) (input : Input) (old new : Spot) → PlaysEvent line input old new → (s : Script) (r n f : ℕ) (xs : List ℕ) → Ready s r n f xs old.driver.world
+    → Ready s r (n + noises_of input) (f + faults_of input) xs new.driver.world
 event_ready line input old new plays s r n f xs ready =
     subst (Ready s r (n + noises_of input) (f + faults_of input) xs) (sym plays.plays.world)
-    (ready_behind s r (n + noises_of input) (f + faults_of input) xs old.world (event_acts line input plays.tried old.world) ready.units ready.room ready.slots
-    (events_add r n f old.world line input plays.tried plays.plays.run ready.within)
-    (events_add_none xs old.world line input plays.tried plays.plays.sound plays.plays.work plays.may ready.ids))
+    (ready_behind s r (n + noises_of input) (f + faults_of input) xs old.driver.world (event_acts line input plays.tried old.driver.world) ready.units ready.room ready.slots
+    (events_add r n f old.driver.world line input plays.tried plays.plays.run ready.within)
+    (events_add_none xs old.driver.world line input plays.tried plays.plays.sound plays.plays.work plays.may ready.ids))
 
 more_noises : (n a b : ℕ) → a ≡ b → n + a ≤ n + b
 more_noises n a b is = omega (arith, is)
 
-pub event_brings : (line : ℕ) (input : Input) (old new : Stage) → PlaysEvent line input old new → Brings (Plays input) old.world new.world
+pub event_brings : (line : ℕ) (input : Input) (old new : Spot) → PlaysEvent line input old new → Brings (Plays input) old.driver.world new.driver.world
 event_brings line input old new plays s r n f xs ready =
-    ready_more s r (r + one_request (Plays input)) (n + noises_of input) (n + one_noise (Plays input)) (f + faults_of input) (f + one_fault (Plays input)) xs (with_id (Plays input) xs) new.world
+    ready_more s r (r + one_request (Plays input)) (n + noises_of input) (n + one_noise (Plays input)) (f + faults_of input) (f + one_fault (Plays input)) xs (with_id (Plays input) xs) new.driver.world
     (omega arith) (more_noises n (noises_of input) (one_noise (Plays input)) (same_noises input)) (more_noises f (faults_of input) (one_fault (Plays input)) (same_faults input))
     (with_more input xs) (event_ready line input old new plays s r n f xs ready)
 
 -- and one of a drain nothing;
-pub drain_brings : (line : ℕ) (input : Input) (old new : Stage) → next_event old.world ≡ Some input → PlaysEvent line input old new → Brings (Plays script.Drain) old.world new.world
+pub drain_brings : (line : ℕ) (input : Input) (old new : Spot) → next_event old.driver.world ≡ Some input → PlaysEvent line input old new → Brings (Plays script.Drain) old.driver.world new.driver.world
 drain_brings line input old new is plays s r n f xs ready =
-    let can : CanCome old.world input = next_can old.world input plays.plays.sound is in
-    ready_more s r (r + 0) (n + noises_of input) (n + 0) (f + faults_of input) (f + 0) xs xs new.world (omega arith)
-    (nothing_more n (noises_of input) (nothing_armed old.world input can).0) (nothing_more f (faults_of input) (nothing_armed old.world input can).1)
+    let can : CanCome old.driver.world input = next_can old.driver.world input plays.plays.sound is in
+    ready_more s r (r + 0) (n + noises_of input) (n + 0) (f + faults_of input) (f + 0) xs xs new.driver.world (omega arith)
+    (nothing_more n (noises_of input) (nothing_armed old.driver.world input can).0) (nothing_more f (faults_of input) (nothing_armed old.driver.world input can).1)
     (λ id has. has) (event_ready line input old new plays s r n f xs ready)
   where
     nothing_more : (n a : ℕ) → a ≡ 0 → n + a ≤ n + 0
@@ -116,24 +117,24 @@ brings_both old mid new one other s r n f xs ready =
     (other s (r + 0) (n + 0) (f + 0) xs (one s r n f xs ready))
 
 -- a submission brings one request.
-pub submission_brings : (line : ℕ) (r : Request) (old new : Stage) → PlaysSubmission line r old new → Brings (Plays (script.Submit r)) old.world new.world
+pub submission_brings : (line : ℕ) (r : Request) (old new : Spot) → PlaysSubmission line r old new → Brings (Plays (script.Submit r)) old.driver.world new.driver.world
 submission_brings line r old new plays s k n f xs ready =
-    let acts : List Act = submit_acts r line plays.slot plays.held old.world in
+    let acts : List Act = submit_acts r line plays.slot plays.held old.driver.world in
     subst (Ready s (k + 1) (n + 0) (f + 0) (r.id ∷ xs)) (sym plays.plays.world)
-    (ready_behind s (k + 1) (n + 0) (f + 0) (r.id ∷ xs) old.world acts ready.units ready.room ready.slots
-    (within_more (k + 1) (k + 1) n (n + 0) f (f + 0) (after_all old.world acts) (omega arith) (omega arith) (omega arith)
-    (submissions_add k n f old.world line plays.slot r plays.held plays.plays.run ready.within))
-    (behind (refusal_of r old.world) refl))
+    (ready_behind s (k + 1) (n + 0) (f + 0) (r.id ∷ xs) old.driver.world acts ready.units ready.room ready.slots
+    (within_more (k + 1) (k + 1) n (n + 0) f (f + 0) (after_all old.driver.world acts) (omega arith) (omega arith) (omega arith)
+    (submissions_add k n f old.driver.world line plays.slot r plays.held plays.plays.run ready.within))
+    (behind (refusal_of r old.driver.world) refl))
   where
-    behind : (refused : Option AnswerKind) → refusal_of r old.world ≡ refused
-        → AreOf (r.id ∷ xs) (after_all old.world (submit_acts r line plays.slot plays.held old.world))
-    behind None is = ids.submissions_add xs old.world line plays.slot r plays.held plays.plays.sound plays.plays.work plays.may (plays.is is).id ready.ids
+    behind : (refused : Option AnswerKind) → refusal_of r old.driver.world ≡ refused
+        → AreOf (r.id ∷ xs) (after_all old.driver.world (submit_acts r line plays.slot plays.held old.driver.world))
+    behind None is = ids.submissions_add xs old.driver.world line plays.slot r plays.held plays.plays.sound plays.plays.work plays.may (plays.is is).id ready.ids
     behind (Some kind) is =
         let other : Held = record plays.held { id = r.id } in
-        let same : submit_acts r line plays.slot other old.world ≡ submit_acts r line plays.slot plays.held old.world =
-        ap (λ (o : Option AnswerKind). submit_by o r line plays.slot other old.world) is ∙ sym (ap (λ (o : Option AnswerKind). submit_by o r line plays.slot plays.held old.world) is) in
-        subst (λ (acts : List Act). AreOf (r.id ∷ xs) (after_all old.world acts)) same
-        (ids.submissions_add xs old.world line plays.slot r other plays.plays.sound plays.plays.work
+        let same : submit_acts r line plays.slot other old.driver.world ≡ submit_acts r line plays.slot plays.held old.driver.world =
+        ap (λ (o : Option AnswerKind). submit_by o r line plays.slot other old.driver.world) is ∙ sym (ap (λ (o : Option AnswerKind). submit_by o r line plays.slot plays.held old.driver.world) is) in
+        subst (λ (acts : List Act). AreOf (r.id ∷ xs) (after_all old.driver.world acts)) same
+        (ids.submissions_add xs old.driver.world line plays.slot r other plays.plays.sound plays.plays.work
         (record { unit = plays.may.unit; fresh = plays.may.fresh; new = λ none. absurd (none-some kind (sym none ∙ is)) }) refl ready.ids)
 
 -- COUNTS AND IDS of lines, one list behind the other

@@ -14,7 +14,8 @@ use Rattle.script_runs.specs.declared.fault.PlayFault.{PlayFault}
 use Rattle.script_runs.specs.declared.fault.PlayFault.TheVariants as faults
 use Rattle.script_runs.specs.Faults.{from_stop}
 use Rattle.event_player.specs.Calls.{KeepsGoing}
-use Rattle.event_player.specs.Spots.{Spot, SaysText, Sends, SubmitsAt, ComesAt, IdlesAt, Keeps, Caused, TurnsOut}
+use Rattle.event_player.specs.Spots.{Spot, SaysText, Sends, SubmitsAt, ComesAt, IdlesAt, Keeps, Caused}
+use Rattle.event_player.specs.Turns.{TurnsOut}
 
 stays : (n : ℕ) → n ≤ n
 stays n = omega arith
@@ -68,10 +69,10 @@ said_keeps {old = old} {new = new} said = record {
 
 pub sent_keeps : {T E : Type 0} {writes : Bool} {result : Result T E} {old new : Spot} → Sends writes result old new → Keeps old new
 sent_keeps {old = old} {new = new} sends = record {
-  told = record { never_again = subst (λ (s : Spot). IsTrue s.packs.tells → IsTrue old.packs.tells) (sym sends.same) (λ t. t); never_again_out = sends.ahead.says.again; never_again_trace = sends.ahead.says.again_lines };
+  told = record { never_again = subst (λ (s : Spot). IsTrue s.packs.tells → IsTrue old.packs.tells) (sym sends.same) (λ t. t); never_again_out = sends.says.again; never_again_trace = sends.says.again_lines };
   later = subst (λ (s : Spot). old.packs.faults ≤ s.packs.faults) (sym sends.same) (stays old.packs.faults);
-  later_out = sends.ahead.says.later;
-  later_lines = sends.ahead.says.later_lines;
+  later_out = sends.says.later;
+  later_lines = sends.says.later_lines;
   requests = ap (λ (s : Spot). s.tally.requests) sends.same;
   loans = ap (λ (s : Spot). s.loans) sends.same;
 }

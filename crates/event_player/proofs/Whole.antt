@@ -1,6 +1,6 @@
 -- A script from its first line to its end.
-use Rattle.std.proofs.Common.{◌≡◌, inl, inr, ℕ, zero, suc, ◌+◌, ◌^◌, ◌<◌, ◌≤◌, true, IsTrue, List, [], ◌∷◌, ◌++◌, length, map, take, drop, get_or, Option, None, refl, sym, ap, subst, arith, ◌∙◌, add-one, drop-cons}
-use Rattle.std.specs.Prelude.{is_some, min, unwrap_or}
+use Rattle.std.proofs.Common.{◌≡◌, inl, inr, ℕ, zero, suc, ◌+◌, ◌^◌, ◌<◌, ◌≤◌, true, List, [], ◌∷◌, ◌++◌, length, map, take, drop, get_or, Option, None, refl, sym, ap, subst, arith, ◌∙◌, add-one, drop-cons}
+use Rattle.std.specs.Prelude.{Ok, is_some, min, unwrap_or}
 use Rattle.std.proofs.lemmas.List.{take_more, take_all, drop_all, take-append-drop, length-map, length-replicate, get_or-map, get_or_past}
 use Rattle.std.proofs.lemmas.Bool.{cases_lt, false≢true}
 use Rattle.pack_geometry.specs.declared.DriveKind.{DriveKind}
@@ -22,10 +22,8 @@ use Rattle.driver_machine.specs.Events.{next_event}
 use Rattle.driver_machine.specs.Guards.{IsSetUp}
 use Rattle.driver_machine.specs.Sound.{Sound}
 use Rattle.driver_laws.proofs.invariant.Starts.{sound_new}
-use Rattle.script_runs.proofs.StopsPasses.{starts}
-use Rattle.script_runs.proofs.StopsPasses.{starts_kept, runs_are_legal}
+use Rattle.script_runs.proofs.StopsPasses.{starts, starts_kept, runs_are_legal, starts_within_reach}
 use Rattle.script_runs.specs.StopsPasses.{AskBelow}
-use Rattle.script_runs.proofs.StopsPasses.{starts_within_reach}
 use Rattle.driver_laws.proofs.answers.Starts.{starts_with_none, starts_with_room}
 use Rattle.driver_laws.proofs.answers.Ids.{starts_of_none}
 use Rattle.trace_lines.specs.answers.Counting.{CountsAll, tally_by}
@@ -34,32 +32,35 @@ use Rattle.hp_driver.specs.Subsystem.{State}
 use Rattle.script_runs.specs.Steps.{AreUnits, tables_in, AreSetFor}
 use Rattle.event_player.specs.Plays.{Plays as IsPlayed, Tallied}
 use Rattle.event_player.specs.Playing.{HasRun, counted, one_request, one_noise}
-use Rattle.event_player.specs.Steps.{Stage, IsAhead, GoesOn, PlaysLine, PlaysDrain, Drains, EndsWith, PlaysScript, Ready, Brings, MayPlay, HasData}
+use Rattle.outside_traits.specs.declared.traits.SinkFailed.{SinkFailed}
+use Rattle.event_player.specs.Spots.{Sends, Spot, all_for}
+use Rattle.event_player.specs.Steps.{IsAhead, GoesOn, PlaysLine, PlaysDrain, Drains, EndsWith, PlaysScript, Ready, Brings, MayPlay, HasData}
 use Rattle.event_player.proofs.Going.{line_for}
 use Rattle.script_runs.proofs.LineLaws.{inputs_append}
 use Rattle.event_player.proofs.Ahead.{starts_ahead}
+use Rattle.event_player.proofs.Saying.{sent_lines, sent_out}
 use Rattle.event_player.proofs.Wholes.{whole_run}
 use Rattle.event_player.proofs.Rooms.{ReadyBehind, ready_next, may_play}
 
 -- SO FAR the first lines are played.
-pub record PlayedTo (s : Script) (tables : ℕ → Option Table) (old now : Stage) (i : ℕ) : Type 0 where
+pub record PlayedTo (s : Script) (tables : ℕ → Option Table) (old now : Spot) (i : ℕ) : Type 0 where
   pub last : ℕ
   pub ahead : AreNumbered last s.count (drop i s.lines)
   pub moments : List Moment
-  pub run : HasRun s tables old.held now.held last (take i s.lines) now.world moments
-  pub rule : IsAhead s tables old.held moments old.said old.taken now
+  pub run : HasRun s tables old.packs.held now.packs.held last (take i s.lines) now.driver.world moments
+  pub rule : IsAhead s tables old.packs.held moments (all_for old.out) (all_for old.lines) now
   pub tally : CountsAll moments old.tally now.tally
 
-abbrev pub PlaysTo : Script → Stage → Stage → ℕ → Type 0
-PlaysTo s old now i = (tables : ℕ → Option Table) → HasRun s tables old.held old.held 0 [] old.world [] → PlayedTo s tables old now i
+abbrev pub PlaysTo : Script → Spot → Spot → ℕ → Type 0
+PlaysTo s old now i = (tables : ℕ → Option Table) → HasRun s tables old.packs.held old.packs.held 0 [] old.driver.world [] → PlayedTo s tables old now i
 
-pub plays_none_yet : (s : Script) (old : Stage) → IsScript s → old.out_took ≡ old.said → old.trace_took ≡ old.taken → PlaysTo s old old 0
+pub plays_none_yet : (s : Script) (old : Spot) → IsScript s → old.out.took ≡ all_for old.out → old.lines.took ≡ all_for old.lines → PlaysTo s old old 0
 plays_none_yet s old is out trace tables run = record {
   last = 0;
   ahead = is.numbers;
   moments = [];
   run = run;
-  rule = starts_ahead s tables old.held old (whole_run s tables old.held old.held 0 [] old.world [] run).behind out trace;
+  rule = starts_ahead s tables old.packs.held old (whole_run s tables old.packs.held old.packs.held 0 [] old.driver.world [] run).behind out trace;
   tally = counts_none old.tally old.tally refl;
 }
 
@@ -82,86 +83,78 @@ declared_run s tables first held last done w moments line u kind at run = record
   long = run.long;
 }
 
-module _ (s : Script) (tables : ℕ → Option Table) (i : ℕ) (line : Line) (old mid new : Stage) (here : drop i s.lines ≡ line ∷ drop (i + 1) s.lines)
+module _ (s : Script) (tables : ℕ → Option Table) (i : ℕ) (line : Line) (old mid new : Spot) (here : drop i s.lines ≡ line ∷ drop (i + 1) s.lines)
     (more : take (i + 1) s.lines ≡ take i s.lines ++ line ∷ []) where
   line_next : (statement : Statement) → line.statement ≡ statement → PlaysLine line.number statement mid new → PlayedTo s tables old mid i → PlayedTo s tables old new (i + 1)
   line_next (Declares u kind) at plays so =
       let ahead : AreNumbered so.last s.count (line ∷ drop (i + 1) s.lines) = subst (AreNumbered so.last s.count) here so.ahead in
-      subst (λ (now : Stage). PlayedTo s tables old now (i + 1)) (sym plays) (record {
+      subst (λ (now : Spot). PlayedTo s tables old now (i + 1)) (sym plays) (record {
         last = so.last;
         ahead = earlier so.last line.number s.count (drop (i + 1) s.lines) ahead.0 ahead.1;
         moments = so.moments;
-        run = subst (λ (done : List Line). HasRun s tables old.held mid.held so.last done mid.world so.moments) (sym more)
-            (declared_run s tables old.held mid.held so.last (take i s.lines) mid.world so.moments line u kind at so.run);
+        run = subst (λ (done : List Line). HasRun s tables old.packs.held mid.packs.held so.last done mid.driver.world so.moments) (sym more)
+            (declared_run s tables old.packs.held mid.packs.held so.last (take i s.lines) mid.driver.world so.moments line u kind at so.run);
         rule = so.rule;
         tally = so.tally;
       })
   line_next (Plays input) at plays so =
       let ahead : AreNumbered so.last s.count (line ∷ drop (i + 1) s.lines) = subst (AreNumbered so.last s.count) here so.ahead in
-      let goes : GoesOn s tables old.held (take i s.lines) so.moments line.number input mid new =
-      plays s tables old.held so.last (take i s.lines) so.moments ahead.0 so.run in
+      let goes : GoesOn s tables old.packs.held (take i s.lines) so.moments line.number input mid new =
+      plays s tables old.packs.held so.last (take i s.lines) so.moments ahead.0 so.run in
       let is : line ≡ line_for line.number input = ap (λ (st : Statement). record { number = line.number; statement = st }) at in
       record {
         last = line.number;
         ahead = ahead.1;
         moments = so.moments ++ goes.more;
-        run = subst (λ (done : List Line). HasRun s tables old.held new.held line.number done new.world (so.moments ++ goes.more))
+        run = subst (λ (done : List Line). HasRun s tables old.packs.held new.packs.held line.number done new.driver.world (so.moments ++ goes.more))
             (sym (more ∙ ap (λ (l : Line). take i s.lines ++ l ∷ []) is)) goes.run;
-        rule = goes.rule old.said old.taken so.rule;
+        rule = goes.rule (all_for old.out) (all_for old.lines) so.rule;
         tally = counts_more old.tally mid.tally new.tally so.moments goes.more so.tally goes.tally;
       }
 
-pub plays_next : (s : Script) (i : ℕ) (line : Line) (old mid new : Stage) → drop i s.lines ≡ line ∷ drop (i + 1) s.lines → take (i + 1) s.lines ≡ take i s.lines ++ line ∷ []
+pub plays_next : (s : Script) (i : ℕ) (line : Line) (old mid new : Spot) → drop i s.lines ≡ line ∷ drop (i + 1) s.lines → take (i + 1) s.lines ≡ take i s.lines ++ line ∷ []
     → PlaysLine line.number line.statement mid new → PlaysTo s old mid i → PlaysTo s old new (i + 1)
 plays_next s i line old mid new here more plays before tables run = line_next s tables i line old mid new here more line.statement refl plays (before tables run)
 
 -- the end: the drain behind the last line, and all that is kept is sent.
-pub record IsAllSent (old new : Stage) : Type 0 where
-  pub world : new.world ≡ old.world
-  pub held : new.held ≡ old.held
-  pub tally : new.tally ≡ old.tally
-  pub out : IsTrue new.out_tells → IsTrue old.out_tells × (new.out_took ≡ old.said)
-  pub trace : IsTrue new.trace_tells → IsTrue old.trace_tells × (new.trace_took ≡ old.taken)
-
-pub record EndsAt (s : Script) (tables : ℕ → Option Table) (old now : Stage) : Type 0 where
+pub record EndsAt (s : Script) (tables : ℕ → Option Table) (old now : Spot) : Type 0 where
   pub moments : List Moment
-  pub run : HasRun s tables old.held now.held (s.count + 1) (s.lines ++ line_for (s.count + 1) says.Drain ∷ []) now.world moments
-  pub over : next_event now.world ≡ None
-  pub rule : IsAhead s tables old.held moments old.said old.taken now
+  pub run : HasRun s tables old.packs.held now.packs.held (s.count + 1) (s.lines ++ line_for (s.count + 1) says.Drain ∷ []) now.driver.world moments
+  pub over : next_event now.driver.world ≡ None
+  pub rule : IsAhead s tables old.packs.held moments (all_for old.out) (all_for old.lines) now
   pub tally : CountsAll moments old.tally now.tally
 
-pub ends_at : (s : Script) (i number : ℕ) (old mid new : Stage) → length s.lines ≤ i → number ≡ s.count + 1 → PlaysDrain number mid new → PlaysTo s old mid i
-    → (tables : ℕ → Option Table) → HasRun s tables old.held old.held 0 [] old.world [] → EndsAt s tables old new
+pub ends_at : (s : Script) (i number : ℕ) (old mid new : Spot) → length s.lines ≤ i → number ≡ s.count + 1 → PlaysDrain number mid new → PlaysTo s old mid i
+    → (tables : ℕ → Option Table) → HasRun s tables old.packs.held old.packs.held 0 [] old.driver.world [] → EndsAt s tables old new
 ends_at s i number old mid new all is drains before tables run =
     let so : PlayedTo s tables old mid i = before tables run in
     let none : drop i s.lines ≡ [] = drop_all i s.lines all in
     let last : so.last ≤ s.count = subst (AreNumbered so.last s.count) none so.ahead in
-    let ends : Drains s tables old.held (take i s.lines) so.moments (s.count + 1) mid new =
-    subst (λ (n : ℕ). PlaysDrain n mid new) is drains s tables old.held so.last (take i s.lines) so.moments (behind so.last s.count last) so.run in
+    let ends : Drains s tables old.packs.held (take i s.lines) so.moments (s.count + 1) mid new =
+    subst (λ (n : ℕ). PlaysDrain n mid new) is drains s tables old.packs.held so.last (take i s.lines) so.moments (behind so.last s.count last) so.run in
     record {
       moments = so.moments ++ ends.goes.more;
-      run = subst (λ (done : List Line). HasRun s tables old.held new.held (s.count + 1) (done ++ line_for (s.count + 1) says.Drain ∷ []) new.world (so.moments ++ ends.goes.more))
+      run = subst (λ (done : List Line). HasRun s tables old.packs.held new.packs.held (s.count + 1) (done ++ line_for (s.count + 1) says.Drain ∷ []) new.driver.world (so.moments ++ ends.goes.more))
           (take_all i s.lines all) ends.goes.run;
       over = ends.over;
-      rule = ends.goes.rule old.said old.taken so.rule;
+      rule = ends.goes.rule (all_for old.out) (all_for old.lines) so.rule;
       tally = counts_more old.tally mid.tally new.tally so.moments ends.goes.more so.tally ends.goes.tally;
     }
   where
     behind : (a b : ℕ) → a ≤ b → a < b + 1
     behind a b le = omega (arith, le)
 
-pub plays_end : (s : Script) (i number : ℕ) (old mid drained new : Stage) → length s.lines ≤ i → number ≡ s.count + 1 → PlaysDrain number mid drained → IsAllSent drained new → PlaysTo s old mid i
-    → (tables : ℕ → Option Table) → PlaysScript s tables old new
+pub plays_end : {x : Unit {0}} (s : Script) (i number : ℕ) (old mid drained new : Spot) → length s.lines ≤ i → number ≡ s.count + 1 → PlaysDrain number mid drained
+    → Sends {E = SinkFailed} true (Ok x) drained new → PlaysTo s old mid i → (tables : ℕ → Option Table) → PlaysScript s tables old new
 plays_end s i number old mid drained new all is drains sent before tables run =
     let ends : EndsAt s tables old drained = ends_at s i number old mid drained all is drains before tables run in
     record {
       moments = ends.moments;
-      run = subst (λ (held : ℕ → Pack). HasRun s tables old.held held (s.count + 1) (s.lines ++ line_for (s.count + 1) says.Drain ∷ []) new.world ends.moments) (sym sent.held)
-          (subst (λ (w : World). HasRun s tables old.held drained.held (s.count + 1) (s.lines ++ line_for (s.count + 1) says.Drain ∷ []) w ends.moments) (sym sent.world) ends.run);
-      over = ap next_event sent.world ∙ ends.over;
-      out = λ t. (sent.out t).1 ∙ ends.rule.out (sent.out t).0;
-      trace = λ t. (sent.trace t).1 ∙ ends.rule.trace (sent.trace t).0;
-      tally = subst (CountsAll ends.moments old.tally) (sym sent.tally) ends.tally;
+      run = subst (λ (x : Spot). HasRun s tables old.packs.held x.packs.held (s.count + 1) (s.lines ++ line_for (s.count + 1) says.Drain ∷ []) x.driver.world ends.moments) (sym sent.same) ends.run;
+      over = ap (λ (x : Spot). next_event x.driver.world) sent.same ∙ ends.over;
+      out = λ t. sent_out sent refl t ∙ ends.rule.out (sent.says.again t);
+      trace = λ t. sent_lines sent refl t ∙ ends.rule.trace (sent.says.again_lines t);
+      tally = subst (λ (x : Spot). CountsAll ends.moments old.tally x.tally) (sym sent.same) ends.tally;
     }
 
 -- WHAT A WRITE WRITES is there, where statements are well formed.
@@ -214,7 +207,7 @@ module _ (stored : Stored) (i : ℕ) (item : Kept) (is : item ≡ get_or stored.
       subst (λ (front : List Line). ReadyBehind (meaning_of stored) front new) (sym more_is)
       (ready_next (meaning_of stored) (take i (meaning_of stored).lines) line old new brings ready)
 
-  pub next_plays : (old mid new : Stage) → PlaysLine item.number line.statement mid new → PlaysTo (meaning_of stored) old mid i → PlaysTo (meaning_of stored) old new (i + 1)
+  pub next_plays : (old mid new : Spot) → PlaysLine item.number line.statement mid new → PlaysTo (meaning_of stored) old mid i → PlaysTo (meaning_of stored) old new (i + 1)
   next_plays old mid new plays before = plays_next (meaning_of stored) i line old mid new here_is more_is plays before
 
   pub next_data : AreWell (known_of {D = List ℕ} {N = List ℕ} []) (map (λ (l : Numbered). l.statement) (lines_in stored)) → HasData (seen stored.text item).statement
@@ -229,12 +222,12 @@ module _ (stored : Stored) (i : ℕ) (item : Kept) (is : item ≡ get_or stored.
           ∙ ap (λ (l : Numbered). l.statement) seen_at
 
 -- AT THE END a run is a legal run of its script.
-pub plays_whole : (s : Script) (tables : ℕ → Option Table) (old new : Stage) → IsScript s → AreTablesOf (drives_of s) old.held tables → EndsWith s tables old new
-    → IsPlayed s old.held new.held new.out_tells old.said new.out_took new.trace_tells old.taken new.trace_took
+pub plays_whole : (s : Script) (tables : ℕ → Option Table) (old new : Spot) → IsScript s → AreTablesOf (drives_of s) old.packs.held tables → EndsWith s tables old new
+    → IsPlayed s old.packs.held new.packs.held new.out.tells (all_for old.out) new.out.took new.lines.tells (all_for old.lines) new.lines.took
 plays_whole s tables old new is read ends = record {
   tables = tables;
   moments = ends.moments;
-  run = runs_are_legal s tables old.held new.held (s.count + 1) ends.moments new.world is
+  run = runs_are_legal s tables old.packs.held new.packs.held (s.count + 1) ends.moments new.driver.world is
       inputs read ends.run.so_far ends.run.kept ends.over;
   reach = λ top below tables_below. (ends.run.reach top (subst (AskBelow top (drives_of s)) (sym inputs) below) tables_below).packs;
   long = ends.run.long;
@@ -246,9 +239,9 @@ plays_whole s tables old new is read ends = record {
     inputs = ends.run.inputs ∙ inputs_append [] s.lines (line_for (s.count + 1) says.Drain ∷ [])
 
 -- and its tally is that of the run.
-pub tally_whole : (s : Script) (tables : ℕ → Option Table) (old new : Stage) → IsScript s → AreTablesOf (drives_of s) old.held tables
+pub tally_whole : (s : Script) (tables : ℕ → Option Table) (old new : Spot) → IsScript s → AreTablesOf (drives_of s) old.packs.held tables
     → old.tally ≡ tally_by (counted one_request s.lines) [] [] → EndsWith s tables old new
-    → Tallied s old.held new.held new.out_tells old.said new.out_took new.trace_tells old.taken new.trace_took new.tally
+    → Tallied s old.packs.held new.packs.held new.out.tells (all_for old.out) new.out.took new.lines.tells (all_for old.lines) new.lines.took new.tally
 unfolding plays_whole
 tally_whole s tables old new is read none_yet ends = record {
   plays = plays_whole s tables old new is read ends;

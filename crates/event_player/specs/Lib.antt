@@ -7,6 +7,7 @@ pub mod Calls
 pub mod Answering
 pub mod Stops
 pub mod Spots
+pub mod Turns
 pub use Rattle.script_runs.specs.declared.fault.PlayFault
 pub use Rattle.script_runs.specs.Lengths
 pub use Rattle.script_runs.specs.Faults

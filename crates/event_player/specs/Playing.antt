@@ -6,10 +6,7 @@ use Rattle.trace_replay.specs.Moments.{Moment, played}
 use Rattle.trace_replay.specs.Script.{Script, Submit, Noise, Arm, Statement, Plays as PlaysInput, Line, drives_of, inputs_before}
 use Rattle.trace_replay.specs.Runs.{start_of}
 use Rattle.driver_machine.specs.World.{World}
-use Rattle.script_runs.specs.StopsPasses.{IsSoFar}
-use Rattle.script_runs.specs.StopsPasses.{IsKept}
-use Rattle.script_runs.specs.StopsPasses.{AskBelow, TablesBelow, IsWithinReach}
-use Rattle.script_runs.specs.StopsPasses.{AreAsLong}
+use Rattle.script_runs.specs.StopsPasses.{IsSoFar, IsKept, AskBelow, TablesBelow, IsWithinReach, AreAsLong}
 use Rattle.script_runs.specs.Passes.{AreAsked}
 
 -- HOW MUCH lines bring: so many requests, noises, and lines that arm faults

@@ -1,5 +1,5 @@
 -- A TEXT IS SAID: it is put behind what is kept for the sink of the answers. Before any of that goes out, all lines that are kept are sent.
-use Rattle.std.specs.Prelude.{◌≡◌, ◌⊎◌, ℕ, ◌≤◌, Bool, true, false, IsTrue, List, [], ◌++◌, Result, OnOk, OnErr}
+use Rattle.std.specs.Prelude.{◌≡◌, ◌⊎◌, ℕ, ◌≤◌, Bool, IsTrue, List, ◌++◌, Result, OnOk, OnErr}
 use Rattle.outside_traits.specs.Causes.{Rose}
 use Rattle.script_runs.specs.Ahead.{IsBetween}
 
@@ -26,10 +26,3 @@ pub record Says {T E : Type 0} (out out' lines lines' : Side) (result : Result T
   pub later : out.faults ≤ out'.faults
   pub later_lines : lines.faults ≤ lines'.faults
   pub failed : OnErr result (Rose out.faults out'.faults ⊎ Rose lines.faults lines'.faults)
-
--- BEFORE A MOVE THAT MAY WRITE all text is sent, lines first; before any other event nothing is.
-pub record SendsAhead {T E : Type 0} (writes : Bool) (out out' lines lines' : Side) (result : Result T E) : Type 0 where
-  pub says : Says out out' lines lines' result []
-  pub still : writes ≡ false → (out' ≡ out) × (lines' ≡ lines)
-  pub emptied : OnOk result (writes ≡ true → (out'.kept ≡ []) × (lines'.kept ≡ []))
-  pub stopped : OnErr result (writes ≡ true)

@@ -1,15 +1,12 @@
--- WHERE A CALL OF THE PLAYER STANDS: the driver, the packs, the two sinks and the tally; and what each call comes to there.
-use Rattle.std.specs.Prelude.{◌≡◌, ◌⊎◌, ℕ, ◌≤◌, Bool, false, IsTrue, List, [], Option, Result, OnOk, IfOk, IfErr, IsErrOf}
+-- WHERE A CALL OF THE PLAYER STANDS: the driver, the packs, the two sinks and the tally; and what calls of the driver and of the sinks do there.
+use Rattle.std.specs.Prelude.{◌≡◌, ◌⊎◌, ℕ, ◌≤◌, Bool, true, false, IsTrue, List, [], ◌++◌, Result, OnOk, OnErr}
 use Rattle.pack_geometry.specs.Pack.{Pack}
-use Rattle.pack_geometry.specs.PackTable.{AreTablesOf}
-use Rattle.pack_geometry.specs.TableSpelling.{Table}
 use Rattle.outside_traits.specs.Causes.{Rose, HasCause}
 use Rattle.outside_traits.specs.Gathers.{Gathers}
-use Rattle.outside_traits.specs.declared.traits.PackCall.{PackCall}
 use Rattle.outside_traits.specs.declared.traits.SinkFailed.{SinkFailed}
 use Rattle.trace_replay.specs.requests.Requests as told
 use Rattle.trace_replay.specs.Moments.{Answered, Idle}
-use Rattle.trace_replay.specs.Script.{Script, Input, Statement, drives_of}
+use Rattle.trace_replay.specs.Script.{Input}
 use Rattle.trace_replay.specs.Text.{moment_text}
 use Rattle.driver_laws.specs.answers.Outcome.{stop_in}
 use Rattle.driver_laws.specs.declared.answers.outcome.Stop.{Stop}
@@ -17,16 +14,12 @@ use Rattle.hp_driver.specs.Passes.{HasCauses}
 use Rattle.hp_driver.specs.Subsystem.{State, Submits, Comes, sink_in, is_move}
 use Rattle.script_runs.specs.declared.fault.PlayFault.{PlayFault}
 use Rattle.script_runs.specs.declared.fault.PlayFault.TheVariants as faults
-use Rattle.script_runs.specs.Faults.{HaveTold, Rise}
+use Rattle.script_runs.specs.Faults.{HaveTold}
 use Rattle.trace_lines.specs.declared.answers.tally.Tally.{Tally}
-use Rattle.trace_lines.specs.answers.Counting.{Counts, tally_by}
+use Rattle.trace_lines.specs.answers.Counting.{Counts}
 use Rattle.script_runs.specs.Stops.{Took, TakesRest}
-use Rattle.event_player.specs.Saying.{Side, side, Says, SendsAhead}
-use Rattle.event_player.specs.Steps.{Stage, by_sides, Brings, PlaysLine, PlaysScript, Ready}
-use Rattle.event_player.specs.Calls.{KeepsGoing, MayGoOn}
-use Rattle.event_player.specs.Playing.{HasRun, counted, one_request}
-use Rattle.event_player.specs.Plays.{Tallied}
-use Rattle.event_player.specs.Stops.{Leaves, StopsLine, StopsScript}
+use Rattle.event_player.specs.Saying.{Side, side, Says}
+use Rattle.event_player.specs.Calls.{KeepsGoing}
 
 -- the packs: whether they tell, what they hold, and their count of faults
 pub record PacksAt : Type 0 where
@@ -79,8 +72,13 @@ taking old new = record { tells = new.tells; before = old.took; after = new.took
 abbrev pub emptied : Side → Side
 emptied s = record s { kept = [] }
 
-abbrev pub seen : Spot → Stage
-seen s = by_sides s.driver.world s.packs.tells s.packs.held s.out s.lines s.tally
+-- all that was said for a sink: what it took, and what is kept
+abbrev pub all_for : Side → List ℕ
+all_for s = s.took ++ s.kept
+
+-- the place with other packs
+abbrev pub holding : Spot → (ℕ → Pack) → Spot
+holding s held = record s { packs = record s.packs { held = held } }
 
 -- A TEXT IS SAID with these answers, and both are counted.
 pub record SaysText {T E : Type 0} (answers : List Answered) (text : List ℕ) (result : Result T E) (old new : Spot) : Type 0 where
@@ -89,9 +87,12 @@ pub record SaysText {T E : Type 0} (answers : List Answered) (text : List ℕ) (
   pub requests : new.tally.requests ≡ old.tally.requests
   pub same : new ≡ record old { driver = new.driver; out = new.out; lines = new.lines; tally = new.tally }
 
--- TEXT IS SENT ahead of what may write.
+-- BEFORE A MOVE THAT MAY WRITE all text is sent, lines first; before any other event nothing is.
 pub record Sends {T E : Type 0} (writes : Bool) (result : Result T E) (old new : Spot) : Type 0 where
-  pub ahead : SendsAhead writes old.out new.out old.lines new.lines result
+  pub says : Says old.out new.out old.lines new.lines result []
+  pub still : writes ≡ false → new ≡ old
+  pub emptied : OnOk result (writes ≡ true → (new.out.kept ≡ []) × (new.lines.kept ≡ []))
+  pub stopped : OnErr result (writes ≡ true)
   pub same : new ≡ record old { out = new.out; lines = new.lines }
 
 -- THE REST IS SENT, lines first, whatever comes of it.
@@ -141,52 +142,3 @@ abbrev pub Caused : PlayFault → Spot → Spot → Type 0
 Caused faults.Store old new = Rose old.packs.faults new.packs.faults
 Caused faults.Sink old new = Rose old.out.faults new.out.faults ⊎ Rose old.lines.faults new.lines.faults
 Caused fault old new = ⊥
-
--- HOW A CALL TURNS OUT: it came to this, and another call may follow; or it stopped so, for a cause.
-pub record TurnsOut {V : Type 0} (Plays : Spot → Spot → Type 0) (Stops : PlayFault → Spot → Spot → Type 0) (result : Result V PlayFault) (old new : Spot) : Type 0 where
-  pub plays : OnOk result (Plays old new)
-  pub goes : OnOk result (KeepsGoing old.driver new.driver)
-  pub stops : IfErr result (λ fault. Stops fault old new)
-  pub caused : IfErr result (λ fault. Caused fault old new)
-  pub keeps : Keeps old new
-
--- WHERE THE PACKS TELL, what was to be played is, or the stop is that of it; and the statement brings what it says.
-pub record PlaysAs (Plays : Stage → Stage → Type 0) (statement : Statement) (old new : Spot) : Type 0 where
-  pub plays : IsTrue new.packs.tells → Plays (seen old) (seen new)
-  pub brings : Brings statement old.driver.world new.driver.world
-
-abbrev pub StopsAs : (PlayFault → Stage → Stage → Type 0) → PlayFault → Spot → Spot → Type 0
-StopsAs Stops fault old new = IsTrue new.packs.tells → Stops fault (seen old) (seen new)
-
--- A STATEMENT is played so at a line.
-abbrev pub PlaysAt : {V : Type 0} → (line : ℕ) → Statement → Result V PlayFault → Spot → Spot → Type 0
-PlaysAt line statement = TurnsOut (PlaysAs (PlaysLine line statement) statement) (StopsAs (StopsLine line statement))
-
--- A SCRIPT is played from a start at which nothing is kept.
-pub record IsAtStart (script : Script) (s : Spot) : Type 0 where
-  pub may : MayGoOn s.driver
-  pub ready : Ready script 0 0 0 [] s.driver.world
-  pub outstanding : s.driver.outstanding ≡ counted one_request script.lines
-  pub kept : s.out.kept ≡ []
-  pub sent : s.lines.kept ≡ []
-
--- with the tables of its packs, and a tally of none
-pub record Begins (script : Script) (s : Spot) : Type 0 where
-  pub tables : ℕ → Option Table
-  pub read : IsTrue s.packs.tells → AreTablesOf (drives_of script) s.packs.held tables
-  pub run : HasRun script tables s.packs.held s.packs.held 0 [] s.driver.world []
-  pub start : IsAtStart script s
-  pub tally : s.tally ≡ tally_by (counted one_request script.lines) [] []
-
-abbrev pub PlaysTheScript : {V : Type 0} → Script → Result V PlayFault → Spot → Spot → Type 0
-PlaysTheScript script = TurnsOut (λ old new. IsTrue new.packs.tells → (tables : ℕ → Option Table) → PlaysScript script tables (seen old) (seen new))
-    (StopsAs (λ fault old new. (tables : ℕ → Option Table) → StopsScript script tables fault old new))
-
--- THE WHOLE PLAY of units that are set up, from what packs and sinks were to what they are.
-pub record PlaysOver (script : Script) (result : Result Tally PlayFault) (packs packs' : PacksAt) (out out' lines lines' : Side) : Type 0 where
-  pub tallied : IfOk result (λ tally. IsTrue packs'.tells → Tallied script packs.held packs'.held out'.tells out.took out'.took lines'.tells lines.took lines'.took tally)
-  pub requests : IfOk result (λ tally. tally.requests ≡ counted one_request script.lines)
-  pub stopped : IfErr result (λ fault. IsTrue packs'.tells → (call : PackCall) → Leaves fault script packs.held packs'.held call (taking out out') (taking lines lines'))
-  pub too_long : (unit n : ℕ) → IsErrOf result (faults.TooLong unit n) → ⊥
-  pub told : HaveTold packs.tells packs'.tells out.tells out'.tells lines.tells lines'.tells
-  pub causes : Rise packs.faults packs'.faults out.faults out'.faults lines.faults lines'.faults result

@@ -2,9 +2,10 @@
 ghost use Rattle.hp_driver.specs.Inputs.{input_of};
 ghost use Rattle.hp_driver.specs.Subsystem.{IsAsked, IsThere, asked, writes_by};
 ghost use Rattle.event_player.specs.Calls.{MayGoOn};
-ghost use Rattle.event_player.specs.Spots.{Sends, TurnsOut, seen};
+ghost use Rattle.event_player.specs.Spots.{Sends};
 ghost use Rattle.event_player.specs.Steps.{PlaysEvent, PlaysSubmission};
 ghost use Rattle.event_player.specs.Stops.{EventStops, SubmissionStops};
+ghost use Rattle.event_player.specs.Turns.{TurnsOut};
 
 use crate::answers::say_answers;
 use crate::venue::Venue;
@@ -22,8 +23,7 @@ pub(crate) fn ask<V: Venue>(
 ) -> Result<(), PlayFault>
     requires ready { MayGoOn (V.at venue.old).driver }
     requires asked { IsAsked (V.at venue.old).driver request bytes.now }
-    ensures { TurnsOut (λ old new. PlaysSubmission number (asked request bytes.now) (seen old) (seen new))
-        (λ fault old new. SubmissionStops number (asked request bytes.now) fault (seen old) (seen new)) result (V.at venue.old) (V.at venue.new) }
+    ensures { TurnsOut (PlaysSubmission number (asked request bytes.now)) (SubmissionStops number (asked request bytes.now)) result (V.at venue.old) (V.at venue.new) }
 {
     venue.law();
     venue.submit(number, request, bytes)?;
@@ -48,8 +48,7 @@ fn send_ahead<V: Venue>(venue: &mut V, event: &Event) -> Result<(), SinkFailed>
 pub(crate) fn happen<V: Venue>(venue: &mut V, number: u64, event: Event) -> Result<(), PlayFault>
     requires ready { MayGoOn (V.at venue.old).driver }
     requires there { IsThere (V.at venue.old).driver.world (input_of event) }
-    ensures { TurnsOut (λ old new. PlaysEvent number (input_of event) (seen old) (seen new)) (λ fault old new. EventStops number (input_of event) fault (seen old) (seen new))
-        result (V.at venue.old) (V.at venue.new) }
+    ensures { TurnsOut (PlaysEvent number (input_of event)) (EventStops number (input_of event)) result (V.at venue.old) (V.at venue.new) }
 {
     venue.law();
     send_ahead(venue, &event)?;

@@ -2,9 +2,9 @@
 ghost use Rattle.std.specs.Prelude.{◌≤◌, length};
 ghost use Rattle.trace_replay.specs.Script.{Plays, Drain};
 ghost use Rattle.event_player.specs.Calls.{MayGoOn};
-ghost use Rattle.event_player.specs.Spots.{TurnsOut, PlaysAs, StopsAs};
 ghost use Rattle.event_player.specs.Steps.{GoesOnDraining, PlaysDrain};
 ghost use Rattle.event_player.specs.Stops.{StopsDraining, StopsInput};
+ghost use Rattle.event_player.specs.Turns.{TurnsOut, PlaysAs, StopsAs};
 
 use crate::calls::happen;
 use crate::venue::Venue;

@@ -14,8 +14,9 @@ ghost use Rattle.script_runs.specs.Lengths.{IsTooLong};
 ghost use Rattle.script_runs.specs.Faults.{IsPlaying, IsBefore, IsLongFor, AreUntouched, HaveTold, Rise};
 ghost use Rattle.event_player.specs.Playing.{counted, one_request};
 ghost use Rattle.event_player.specs.Saying.{side};
-ghost use Rattle.event_player.specs.Spots.{Begins, IsAtStart, PlaysOver, PlaysTheScript, SendsRest, emptied, packs_at};
+ghost use Rattle.event_player.specs.Spots.{SendsRest, emptied, packs_at};
 ghost use Rattle.event_player.specs.Stops.{Leaves};
+ghost use Rattle.event_player.specs.Turns.{Begins, IsAtStart, PlaysOver, PlaysTheScript};
 ghost use Rattle.script_runs.specs.declared.fault.PlayFault.TheVariants.{Store};
 ghost use Rattle.script_runs.specs.Stops.{took};
 

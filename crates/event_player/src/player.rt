@@ -12,8 +12,9 @@ ghost use Rattle.trace_replay.specs.Script.{Noise as NoiseInput, Plays};
 ghost use Rattle.trace_lines.specs.answers.AnswerText.{said_text};
 ghost use Rattle.hp_driver.specs.Inputs.{input_of};
 ghost use Rattle.event_player.specs.Calls.{MayGoOn};
-ghost use Rattle.event_player.specs.Spots.{SaysText, PlaysAt};
+ghost use Rattle.event_player.specs.Spots.{SaysText};
 ghost use Rattle.event_player.specs.Steps.{IsNoEvent, MayPlay, HasData};
+ghost use Rattle.event_player.specs.Turns.{PlaysAt};
 
 use crate::calls::{ask, happen};
 use crate::drains::drain;

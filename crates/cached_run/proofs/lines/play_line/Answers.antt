@@ -1,4 +1,3 @@
-use Rattle.std.specs.Prelude.{None, Some}
 use Rattle.script_reader.specs.declared.cached.statement.Statement.TheVariants as says
 use Rattle.cached_run.proofs.Causes.{on_ok_map}
 use Rattle.cached_run.proofs.Playing.{line_plays, may_as, numbered_so, plays_none}

@@ -20,7 +20,7 @@ event-requires g c =
 pub returns-in_err-send_ahead : goal.returns-in_err-send_ahead
 returns-in_err-send_ahead g c =
     let sends = c.in_err-send_ahead.ensures in
-    stopped c.from_residual.result faults.Sink c.from_residual.ensures.1 (sent_keeps sends) sends.ahead.says.failed (came_unsent sends)
+    stopped c.from_residual.result faults.Sink c.from_residual.ensures.1 (sent_keeps sends) sends.says.failed (came_unsent sends)
 
 pub returns-in_err-event : goal.returns-in_err-event
 returns-in_err-event g c =

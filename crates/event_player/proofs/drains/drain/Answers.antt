@@ -3,7 +3,7 @@ use Rattle.hp_driver.specs.Inputs.{input_of}
 use Rattle.hp_driver.specs.Subsystem.{State}
 use Rattle.script_runs.specs.declared.fault.PlayFault.TheVariants as faults
 use Rattle.trace_replay.specs.Script.{Plays, Drain}
-use Rattle.event_player.specs.Spots.{Spot, seen}
+use Rattle.event_player.specs.Spots.{Spot}
 use Rattle.event_player.specs.Steps.{Brings}
 use Rattle.event_player.proofs.Draining.{drain_plays}
 use Rattle.event_player.proofs.Halting.{idle_halts, first_halts, rest_halts}
@@ -24,7 +24,7 @@ returns-in_err-idle g c =
     let new : Spot = g.V.Venue.at c.idle.new.self in
     let idles = c.in_err-idle.ensures in
     stopped c.from_residual.result faults.Sink c.from_residual.ensures.1 (idle_keeps idles) (inr idles.gathers.cause.failed)
-    (λ t. idle_halts c.args.number (seen old) (seen new) c.in_default.ensures.over (ap (λ (s : Spot). s.packs.held) idles.same) (idle_passes c.args.number _ old new idles))
+    (λ t. idle_halts c.args.number old new c.in_default.ensures.over (ap (λ (s : Spot). s.packs.held) idles.same) (idle_passes c.args.number _ old new idles))
 
 pub returns-in_default : goal.returns-in_default
 returns-in_default g c =
@@ -66,8 +66,8 @@ returns g c =
     let goes = c.in_ok-go_on.ensures in
     record {
       plays = record {
-        plays = λ t. drain_plays c.args.number first (seen old) (seen mid) (seen new) (goes.keeps.told.never_again t) c.in-Some.ensures.next c.requires.ready.none_waits c.requires.few happens.plays (goes.plays.plays t);
-        brings = brings_both old.driver.world mid.driver.world new.driver.world (drain_brings c.args.number first (seen old) (seen mid) c.in-Some.ensures.next happens.plays) goes.plays.brings;
+        plays = λ t. drain_plays c.args.number first old mid new (goes.keeps.told.never_again t) c.in-Some.ensures.next c.requires.ready.none_waits c.requires.few happens.plays (goes.plays.plays t);
+        brings = brings_both old.driver.world mid.driver.world new.driver.world (drain_brings c.args.number first old mid c.in-Some.ensures.next happens.plays) goes.plays.brings;
       };
       goes = record { going = goes.goes.going; outstanding = goes.goes.outstanding ∙ happens.goes.outstanding };
       stops = tt;

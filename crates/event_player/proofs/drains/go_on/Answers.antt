@@ -1,6 +1,6 @@
 use Rattle.std.proofs.Common.{refl, ◌∙◌}
 use Rattle.hp_driver.specs.Inputs.{input_of}
-use Rattle.event_player.specs.Spots.{Spot, seen}
+use Rattle.event_player.specs.Spots.{Spot}
 use Rattle.event_player.proofs.Draining.{draining_starts, draining_next, draining_over, draining_never}
 use Rattle.event_player.proofs.Halting.{draining_halts}
 use Rattle.event_player.proofs.Inputs.{plays_none}
@@ -16,7 +16,7 @@ loop-turn-init g c =
       outstanding = refl;
       keeps = keeps_none old;
       brings = still_brings old.driver.world;
-      plays = λ t. draining_starts c.args.number (seen old);
+      plays = λ t. draining_starts c.args.number old;
     }
 
 pub loop-turn-preserved : goal.loop-turn-preserved
@@ -31,8 +31,8 @@ loop-turn-preserved g c =
       ready = record { going = happens.goes.going; none_waits = plays_none happens.plays.plays };
       outstanding = happens.goes.outstanding ∙ so.outstanding;
       keeps = keeps_join so.keeps happens.keeps;
-      brings = brings_both old.driver.world mid.driver.world new.driver.world so.brings (drain_brings c.args.number event (seen mid) (seen new) c.in-Some.ensures.next happens.plays);
-      plays = λ t. draining_next c.args.number c.loop-turn.turn event (seen old) (seen mid) (seen new) t c.in-Some.ensures.next so.ready.none_waits happens.plays (so.plays (happens.keeps.told.never_again t));
+      brings = brings_both old.driver.world mid.driver.world new.driver.world so.brings (drain_brings c.args.number event mid new c.in-Some.ensures.next happens.plays);
+      plays = λ t. draining_next c.args.number c.loop-turn.turn event old mid new t c.in-Some.ensures.next so.ready.none_waits happens.plays (so.plays (happens.keeps.told.never_again t));
     }
 
 pub returns-in_default : goal.returns-in_default
