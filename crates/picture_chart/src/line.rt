@@ -1,6 +1,6 @@
 //! A line of a chart.
 
-ghost use Rattle.std.specs.Prelude.{◌≡◌, ◌∷◌, [], ◌++◌, true, decimal, IfOk, OnOk};
+ghost use Rattle.std.specs.Prelude.{◌≡◌, ◌↔◌, ◌∷◌, [], ◌++◌, true, decimal, All, IsTrue, IfOk, OnOk};
 ghost use Rattle.picture_chart.specs.Charts.{is_plain, plain_of, front, goes_on, ended, with_text, fitted, blanks, at_left, at_right, line_of, text_of, IsChartLine, IsChart};
 
 use arrayvec::ArrayVec;
@@ -130,14 +130,18 @@ impl ChartLine {
     }
 
     /// Puts a number at the right of `width` characters, after a blank.
-    pub(crate) fn put_count(&mut self, number: u64, width: usize) {
+    pub(crate) fn put_count(&mut self, number: u64, width: usize)
+        ensures { self.new ≡ with_text self.old (32 ∷ at_right width (decimal number)) }
+    {
         let mut buffer = Buffer::new();
         self.put_byte(b' ');
         self.put_right(buffer.format(number).as_bytes(), width);
     }
 
     /// Whether it has nothing except blanks.
-    pub(crate) fn is_blank(&self) -> bool {
+    pub(crate) fn is_blank(&self) -> bool
+        ensures { IsTrue result ↔ All (λ byte. byte ≡ 32) self.now }
+    {
         self.text.iter().all(|byte| *byte == b' ')
     }
 
