@@ -1,5 +1,5 @@
 // Where answers are written: what is gathered for their sink, what is counted of them, and the lines of blocks.
-ghost use Rattle.std.specs.Prelude.{◌≡◌, ◌≤◌, [], IfOk, take};
+ghost use Rattle.std.specs.Prelude.{◌≡◌, ◌≤◌, [], IfOk, replicate, take};
 ghost use Rattle.trace_lines.specs.answers.AnswerText.{block_text};
 ghost use Rattle.trace_lines.specs.answers.Counting.{Counts, tally_by};
 ghost use Rattle.event_player.specs.Saying.{side, Says};
@@ -97,8 +97,12 @@ pub struct Forms {
 }
 
 impl Forms {
-    /// Creates forms on which nothing is written.
-    pub fn new() -> Forms {
+    /// Creates forms on which nothing is written: a block of zeros, and empty lines.
+    pub fn new() -> Forms
+        ensures block { result.block ≡ replicate 512 0 }
+        ensures line { result.line ≡ [] }
+        ensures fill { result.fill ≡ [] }
+    {
         Forms {
             block: [0; 512],
             line: BlockLine::new(),
