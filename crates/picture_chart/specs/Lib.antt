@@ -1,3 +1,2 @@
 pub mod Charts
 pub mod Pages
-pub mod Strips

@@ -1,9 +1,5 @@
 //! Strips: a sign for each column.
 
-ghost use Rattle.std.specs.Prelude.{◌≡◌, ◌+◌, ◌%◌, ◌/◌, [], ◌∷◌, ◌++◌, length, codes, decimal, fold, map, slice_index};
-ghost use Rattle.picture_chart.specs.Charts.{line_of};
-ghost use Rattle.picture_chart.specs.Strips.{arm_sign, condition_sign, count_sign, line_sign, row_of, sign_of, with_holder, with_signs};
-
 use crate::ChartLine;
 use crate::line::{line_of, line_with};
 use crate::rows::Row;
@@ -31,9 +27,7 @@ enum View<'a> {
 }
 
 /// The first byte of a sign.
-fn first_byte(sign: &str) -> u8
-    ensures { length sign.now ≡ 1 → result ≡ slice_index sign.now 0 }
-{
+fn first_byte(sign: &str) -> u8 {
     match sign.as_bytes() {
         [byte, ..] => *byte,
         [] => b' ',
@@ -41,16 +35,12 @@ fn first_byte(sign: &str) -> u8
 }
 
 /// The last digit of a number.
-fn digit_byte(number: u64) -> u8
-    ensures { result ≡ 48 + number % 10 }
-{
+fn digit_byte(number: u64) -> u8 {
     b'0' + (number % 10) as u8
 }
 
 /// A count as a digit: blank for none, a plus above nine.
-fn count_byte(count: u64) -> u8
-    ensures { result ≡ count_sign count }
-{
+fn count_byte(count: u64) -> u8 {
     match count {
         0 => b' ',
         1..=9 => digit_byte(count),
@@ -59,9 +49,7 @@ fn count_byte(count: u64) -> u8
 }
 
 /// The condition of a drive.
-fn condition_byte(cell: &Cell) -> u8
-    ensures { result ≡ condition_sign cell.now }
-{
+fn condition_byte(cell: &Cell) -> u8 {
     if cell.offline {
         b'-'
     } else if cell.locked {
@@ -72,17 +60,13 @@ fn condition_byte(cell: &Cell) -> u8
 }
 
 /// Where an arm is, from 0 to 9.
-fn arm_byte(cylinder: u32, top: u32) -> u8
-    ensures { result ≡ arm_sign cylinder top }
-{
+fn arm_byte(cylinder: u32, top: u32) -> u8 {
     let ninth = u64::from(cylinder) * 9 / u64::from(top.max(1));
     digit_byte(ninth.min(9))
 }
 
 /// The digit of a line's number at a place; blank if the number has none there, or if the line before it is the same.
-fn line_byte(place: u64, before: u32, line: u32) -> u8
-    ensures { result ≡ line_sign place before line }
-{
+fn line_byte(place: u64, before: u32, line: u32) -> u8 {
     if line == before || place > u64::from(line) {
         b' '
     } else {
@@ -91,9 +75,7 @@ fn line_byte(place: u64, before: u32, line: u32) -> u8
 }
 
 /// The drive of an adapter that holds the adapter after most of a column's events, by its number at the adapter.
-fn holder_byte(column: &Column, units: &[u8], adapter: u8) -> u8
-    ensures { result ≡ (fold (with_holder column.now adapter) (0, 32) units.now).1 }
-{
+fn holder_byte(column: &Column, units: &[u8], adapter: u8) -> u8 {
     let mut most = 0;
     let mut sign = b' ';
     for unit in units.iter() {
@@ -107,9 +89,7 @@ fn holder_byte(column: &Column, units: &[u8], adapter: u8) -> u8
 }
 
 /// How many drives of an adapter position at once in a column, at most.
-fn together_byte(column: &Column, adapter: u8) -> u8
-    ensures { result ≡ count_sign (slice_index column.now.head.together adapter) }
-{
+fn together_byte(column: &Column, adapter: u8) -> u8 {
     match column.head.together.get(usize::from(adapter)) {
         Some(count) => count_byte(*count as u64),
         None => b' ',
@@ -117,9 +97,7 @@ fn together_byte(column: &Column, adapter: u8) -> u8
 }
 
 /// The sign of a column; `before` is the line of the column before it.
-fn sign(column: &Column, before: u32, view: View<'_>) -> u8
-    ensures { result ≡ sign_of view.entry before column.now }
-{
+fn sign(column: &Column, before: u32, view: View<'_>) -> u8 {
     match view {
         View::Line { place } => line_byte(place, before, column.head.line),
         View::Holder { units, adapter } => holder_byte(column, units, adapter),
@@ -135,9 +113,7 @@ fn sign(column: &Column, before: u32, view: View<'_>) -> u8
 }
 
 /// A row of a view.
-fn row_of(label: ChartLine, columns: &[Column], view: View<'_>) -> Row
-    ensures { result ≡ record { label = label; strip = with_signs view.entry 0 [] columns.now } }
-{
+fn row_of(label: ChartLine, columns: &[Column], view: View<'_>) -> Row {
     let mut strip = ChartLine::new();
     let mut before = 0;
     for column in columns.iter() {
@@ -148,17 +124,12 @@ fn row_of(label: ChartLine, columns: &[Column], view: View<'_>) -> Row
 }
 
 /// The digits of the script's lines at a place.
-fn place_row(label: &[u8], columns: &[Column], place: u64) -> Row
-    ensures { result ≡ row_of (label.now ∷ []) (View.Line place) columns.now }
-{
+fn place_row(label: &[u8], columns: &[Column], place: u64) -> Row {
     row_of(line_of(label), columns, View::Line { place })
 }
 
 /// The numbers of the script's lines, where they begin, a row for each place of their digits.
-pub(crate) fn line_rows(columns: &[Column]) -> [Row; 7]
-    ensures { result ≡ map (λ place. row_of ([] ∷ []) (View.Line place) columns.now) (1000000 ∷ 100000 ∷ 10000 ∷ 1000 ∷ 100 ∷ 10 ∷ [])
-        ++ row_of (codes "line" ∷ []) (View.Line 1) columns.now ∷ [] }
-{
+pub(crate) fn line_rows(columns: &[Column]) -> [Row; 7] {
     [
         place_row(b"", columns, 1_000_000),
         place_row(b"", columns, 100_000),
@@ -171,10 +142,7 @@ pub(crate) fn line_rows(columns: &[Column]) -> [Row; 7]
 }
 
 /// Who holds an adapter, and how many of its drives position.
-pub(crate) fn adapter_rows(columns: &[Column], units: &[u8], adapter: u8) -> [Row; 2]
-    ensures { result ≡ row_of (codes "adapter " ∷ decimal adapter ∷ codes " held by" ∷ []) (View.Holder units.entry adapter) columns.now
-        ∷ row_of (codes "  positioning" ∷ []) (View.Together adapter) columns.now ∷ [] }
-{
+pub(crate) fn adapter_rows(columns: &[Column], units: &[u8], adapter: u8) -> [Row; 2] {
     let mut label = line_with(b"adapter ", u64::from(adapter));
     label.put(b" held by");
     let together = View::Together { adapter };
@@ -185,10 +153,7 @@ pub(crate) fn adapter_rows(columns: &[Column], units: &[u8], adapter: u8) -> [Ro
 }
 
 /// What befell a drive, its condition, its arm, from 0 to a cylinder `top`, and its queue.
-pub(crate) fn unit_rows(columns: &[Column], unit: u8, top: u32) -> [Row; 4]
-    ensures { result ≡ row_of (codes "  marks" ∷ []) (View.Marks unit) columns.now ∷ row_of (codes "  off, locked" ∷ []) (View.Conditions unit) columns.now
-        ∷ row_of (codes "  arm to " ∷ decimal top ∷ []) (View.Arm unit top) columns.now ∷ row_of (codes "  queue" ∷ []) (View.Queue unit) columns.now ∷ [] }
-{
+pub(crate) fn unit_rows(columns: &[Column], unit: u8, top: u32) -> [Row; 4] {
     let conditions = View::Conditions { unit };
     let arm = line_with(b"  arm to ", u64::from(top));
     [
