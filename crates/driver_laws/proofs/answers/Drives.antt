@@ -55,10 +55,6 @@ pub armed_more : (kind : FaultKind) (times more : ℕ) (d : DriveState) → time
 armed_more kind times more d few = put_armed kind (times_armed kind d.armed + times) more d.armed (omega (arith, few))
 
 -- WHAT A DRIVE DOES
-effect_armed : (f : Function) (d : DriveState) → (effect f d).armed ≡ d.armed
-effect_armed function.Nop d = refl
-effect_armed other d = refl
-
 either : {A : Type 0} (P : A → Type 0) (b : Bool) (x y : A) → P x → P y → P (if b then x else y)
 either P true x y holds fails = holds
 either P false x y holds fails = fails
@@ -69,18 +65,6 @@ performed_armed f d = first_of (search rules, grind arith)
 arrived_armed : (w : Work) (d : DriveState) → (arrived_from w d).armed ≡ d.armed
 arrived_armed work.Ready d = refl
 arrived_armed other d = refl
-
-marked_armed : (kind : DriveKind) (d : DriveState) → (with_mark_bits kind d).armed ≡ d.armed
-marked_armed Rp06 d = refl
-marked_armed other d = refl
-
-fault_bits_armed : (kind : FaultKind) (d : DriveState) → (with_fault_bits kind d).armed ≡ d.armed
-fault_bits_armed fault.Seek d = refl
-fault_bits_armed other d = refl
-
--- a fault that strikes is used
-faulted_armed : (kind : FaultKind) (d : DriveState) → IsArmedBy 0 d.armed (with_fault_bits kind (fault_used kind d)).armed
-faulted_armed kind d = first_of (search rules, grind arith)
 
 moved_armed : (v : Moved) (block : ℕ) (d : DriveState) → IsArmedBy 0 d.armed (after_move v block d).armed
 moved_armed v block d = first_of (search rules, grind arith)

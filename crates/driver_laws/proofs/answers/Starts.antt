@@ -29,10 +29,6 @@ set_up_unarmed (s ∷ setups) units are u =
     set_up_unarmed setups (set units s.unit (new_unit s))
     (λ x. set_related (λ (old new : UnitView). IsUnarmed old → IsUnarmed new) (λ v is. is) units s.unit x (new_unit s) no_unit (λ is. refl) (are x)) u
 
-none_times : (kind : FaultKind) → times_armed kind none_armed ≡ 0
-none_times fault.Seek = refl
-none_times other = refl
-
 no_times : (kind : FaultKind) (a : Armed) → a ≡ none_armed → times_armed kind a ≤ 1000 * 0
 no_times kind a is = first_of (search rules, grind arith)
 

@@ -37,9 +37,6 @@ pub record AdapterLeft (u : ℕ) (old : AdapterView) (v : UnitView) (z : Adapter
   pub bits : (k : ℕ) → k < 8 → k ≢ drive_of u → bit_at z.state.attentions k ≡ bit_at old.state.attentions k
   pub bit : bit_at z.state.attentions (drive_of u) ≡ (if v.drive.attention then 1 else 0)
 
-attentions_adapter : (a : AdapterState) (n : ℕ) → IsAdapter a → IsAdapter (record a { attentions = n })
-attentions_adapter a n k = first_of (search rules, grind arith)
-
 -- only the attentions change, and those that wait
 pub state_left : (u : ℕ) (s : Scene) → SceneOk u s → SceneAdapter u s → (v : UnitView) (h : Held) (n : ℕ) (queue : List ℕ) → (s.unit.phase ≡ Transferring → ⊥)
     → ((x : ℕ) → Among x queue → x ≢ u → Among x s.adapter.queue) → (Among u queue → v.phase ≡ Queued) → Once queue → n < 256

@@ -21,11 +21,6 @@ use Rattle.driver_laws.proofs.invariant.EachDeed.{deed_left}
 attentions_on : (w : World) (x n : ℕ) (h : Held) (a : AdapterState) → Transfers w x h a → Transfers w x h (record a { attentions = n })
 attentions_on w x n h a is = first_of (search rules, grind arith)
 
--- what a transfer of the unit itself is in the world
-has_own : (w : World) (u : ℕ) (v : UnitView) (h : Held) (a : AdapterState) → unit_at w u ≡ v → (v.phase ≡ Transferring → slot_at w (slot_in_hand v) ≡ Some h)
-    → HasTransferFor v h a → Transfers w u h a
-has_own w u v h a here slot is = first_of (search rules, grind arith)
-
 module _ (w now : World) (u : ℕ) (s : Sound w) (c : Changed w now u) (lt : u < 32) (v : UnitView) (z : AdapterView) (h : Held)
     (here : unit_at now u ≡ v) (slot : v.phase ≡ Transferring → slot_at now (slot_in_hand v) ≡ Some h)
     (is : AdapterLeft u (adapter_at w (adapter_of u)) v z h) where

@@ -35,14 +35,6 @@ abbrev pub AreStepsTo : ℕ → List RetryStep → Type 0
 AreStepsTo c [] = Unit {0}
 AreStepsTo c (step ∷ steps) = IsStepTo c step × AreStepsTo c steps
 
-offset_to : (c : ℕ) (code : Option OffsetCode) → AreStepsTo c (offset_steps code)
-offset_to c None = tt
-offset_to c (Some code) = (tt, tt)
-
-seek_to : (b : Bool) (c : ℕ) (steps : List RetryStep) → AreStepsTo c steps → AreStepsTo c (if b then steps else Seek c ∷ steps)
-seek_to true c steps are = are
-seek_to false c steps are = (refl, are)
-
 steps_to : (c : ℕ) (step : retried.Step) → AreStepsTo c (steps_for c step)
 steps_to c step = first_of (search rules, grind arith)
 

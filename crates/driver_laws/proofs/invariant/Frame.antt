@@ -55,11 +55,6 @@ pub record Changed (w now : World) (u : ℕ) : Type 0 where
       → slot_at now (slot_in_hand (unit_at w x)) ≡ slot_at w (slot_in_hand (unit_at w x))
   pub leaves : LeavesOthers u (adapter_at w (adapter_of u)) (adapter_at now (adapter_of u))
 
--- where a unit waits, its phase says nothing of a request
-waiting_any : (x : ℕ) (v : UnitView) (a : AdapterView) (g h : Held) (phase : Phase) → is_waiting phase ≡ true → IsPhase x v a g phase → IsPhase x v a h phase
-waiting_any x v a g h Waiting waits is = is
-waiting_any x v a g h other waits is = absurd (false≢true waits)
-
 pub phase_for : (x : ℕ) (v : UnitView) (a : AdapterView) (g h : Held) (phase : Phase) → (is_waiting phase ≡ false → h ≡ g) → IsPhase x v a g phase
     → IsPhase x v a h phase
 phase_for x v a g h phase same is = first_of (search rules, grind arith)

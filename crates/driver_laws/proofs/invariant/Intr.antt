@@ -20,15 +20,7 @@ use Rattle.driver_laws.proofs.invariant.Scene.{same_ask, begun_as, SceneOk, phas
 use Rattle.driver_laws.proofs.invariant.DeedFacts.{transfer_at}
 use Rattle.driver_laws.proofs.invariant.AdapterLeft.{SceneAdapter, AdapterLeft, is_queued, not_queued}
 
--- THE DATA INTERRUPT. A drive whose last verdict was clean shows no errors.
-clear_shown : (d : DriveState) (a : AdapterState) → a.verdict ≡ verdict.Clean → IsShown d a → IsClear d
-clear_shown d a last is = first_of (search rules, grind arith)
-
-interrupted_by : (moved : ℕ) (last : Moved) (v : UnitView) (h : Held) → IsBegun v h → IsStopped v.drive → (last ≡ verdict.Clean → IsClear v.drive)
-    → IsEndedAt last moved (segment_of (transfer_of v)).count → IsFor h.write last
-    → IsTask (in_phase (Due (interrupted moved last)) v) h (interrupted moved last)
-interrupted_by moved last v h h0 h1 h2 h3 h4 = first_of (search rules, grind arith)
-
+-- THE DATA INTERRUPT.
 pub intr_phase : (line u p moved : ℕ) (last : Moved) (s : Scene) → SceneOk u s → May u (deed.Intr moved last) s
     → IsTask (effect line u p (deed.Intr moved last) s).unit s.held (interrupted moved last)
 intr_phase line u p moved last s ok may = first_of (search rules, grind arith)

@@ -90,11 +90,6 @@ record BegunWith (t : Option TransferState) (table : Option Table) (kind : Drive
   listed : (i : ℕ) → (unwrap_or t no_transfer).index ≡ Some i
       → slice_get (places_of table) i ≡ Some (place_at kind (first + (unwrap_or t no_transfer).done))
 
-begun_with : (t x : Option TransferState) (table other : Option Table) (kind like : DriveKind) (first count from many : ℕ) (write writes : Bool)
-    → BegunWith t table kind first count write → x ≡ t → other ≡ table → like ≡ kind → from ≡ first → many ≡ count → writes ≡ write
-    → BegunWith x other like from many writes
-begun_with t x table other kind like first count from many write writes is e f g h i j = first_of (search rules, grind arith)
-
 pub begun_as : (v x : UnitView) (h g : Held) → IsBegun v h → x.transfer ≡ v.transfer → x.table ≡ v.table → x.drive.kind ≡ v.drive.kind → IsSameAsk h g → IsBegun x g
 begun_as v x h g is transfer table kind ask = first_of (search rules, grind arith)
 
@@ -113,10 +108,6 @@ phase_held u v a h g (Due Command) ask is = (begun_as v v h g is.0 refl refl ref
 phase_held u v a h g (Due (GiveUp done)) ask is = (is.0, is.1, subst (λ l. done < l.count) (sym ask.loan) is.2)
 
 -- THE SECTORS OF A SEGMENT lie on the pack.
-segment_below : (index : Option ℕ) (job : Job) (done k : ℕ) → IsJob job → done < job.count → ((i : ℕ) → index ≡ Some i → i < 126)
-    → k < (segment_by index job done).count → (segment_by index job done).block + k < block_count job.kind
-segment_below index job done k h0 h1 h2 h3 = first_of (search rules, grind arith)
-
 pub block_below : (v : UnitView) (h : Held) (k : ℕ) → IsBegun v h → k < (segment_of (transfer_of v)).count
     → (segment_of (transfer_of v)).block + k < block_count v.drive.kind
 block_below v h k begun less = first_of (search rules, grind arith)

@@ -40,22 +40,6 @@ pub record IsSameBut (d e : DriveState) : Type 0 where
   pub work : e.work ≡ d.work
   pub attention : e.attention ≡ d.attention
 
--- a verdict names a place, errors, and the faults that are left
-same_but : {d : DriveState} {cc dc da la er1 er2 ec1 ec2 : ℕ} {armed : Armed}
-    → IsSameBut d (record d { cc = cc; dc = dc; da = da; la = la; er1 = er1; er2 = er2; ec1 = ec1; ec2 = ec2; armed = armed })
-same_but = record { kind = refl; work = refl; attention = refl }
-
-marked_same : (kind : DriveKind) (d : DriveState) → IsSameBut d (with_mark_bits kind d)
-marked_same Rp06 d = same_but
-marked_same other d = same_but
-
-faulted_same : (kind : FaultKind) (d : DriveState) → IsSameBut d (with_fault_bits kind (fault_used kind d))
-faulted_same fault.Seek d = same_but
-faulted_same other d = same_but
-
-moved_same : (v : Moved) (block : ℕ) (d : DriveState) → IsSameBut d (after_move v block d)
-moved_same v block d = first_of (search rules, grind arith)
-
 attention_stepped : (v : Moved) (a : AdapterState) (d : DriveState) → (drive_stepped v a d).attention ≡ d.attention
 attention_stepped v a d = first_of (search rules, grind arith)
 
@@ -140,26 +124,9 @@ pub sector_drive : (line u p block : ℕ) (t : deed.Tried) (s : Scene) → Scene
     → IsDrive (effect line u p (deed.Sector block t) s).unit.drive
 sector_drive line u p block t s ok may = drive_after_step t.verdict s.adapter.state s.unit.drive (next_below u s ok may.0) ok.drive
 
--- A SECTOR. A step takes 512 bytes, or what is left.
-still_placed : (address bytes sum : ℕ) → address + bytes ≡ sum → address + min 512 bytes + (bytes - min 512 bytes) ≡ sum
-still_placed address bytes sum e = omega arith
-
-still_counted : (bytes all moved : ℕ) → bytes ≡ all - 512 * moved → bytes - min 512 bytes ≡ all - 512 * (moved + 1)
-still_counted bytes all moved e = omega arith
-
-some_left : (n : ℕ) → (n == 0) ≡ false → 0 < n
-some_left n e = let ne : n ≢ 0 = eqb-false _ _ e in omega arith
-
-stopped_adapter : (a : AdapterState) (v : Moved) (late : Bool) → IsAdapter a → IsAdapter (record a { completion = true; verdict = v; data_late = late })
-stopped_adapter a v late k = first_of (search rules, grind arith)
-
+-- A SECTOR.
 stepped_adapter : (v : Moved) (a : AdapterState) → IsAdapter a → a.busy ≡ true → IsAdapter (stepped v a)
 stepped_adapter v a h0 h1 = first_of (search rules, grind arith)
-
--- where the completion goes up behind a clean sector, all moved
-all_moved : (bytes all moved count : ℕ) → bytes ≡ all - 512 * moved → 0 < bytes → all ≤ 512 * count → 512 * count < all + 512
-    → bytes - min 512 bytes ≡ 0 → moved + 1 ≡ count
-all_moved bytes all moved count counted some few many none = omega arith
 
 over_stepped : (v : Moved) (a : AdapterState) → IsAdapter a → a.busy ≡ true → a.completion ≡ false
     → IsEndedAt (stepped v a).verdict (stepped v a).moved (stepped v a).count

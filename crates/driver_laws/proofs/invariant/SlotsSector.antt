@@ -23,10 +23,6 @@ held_if : (b : Bool) (k : ℕ) (block : List ℕ) (h : Held)
 held_if true k block h = refl
 held_if false k block h = refl
 
-length-put_if : (b : Bool) (k : ℕ) (block : List ℕ) (blocks : List (List ℕ)) → length (put_if b k block blocks) ≡ length blocks
-length-put_if true k block blocks = length-set blocks k block
-length-put_if false k block blocks = refl
-
 pub sector_keeps : (line u p block : ℕ) (t : deed.Tried) (s : Scene) → Keeps s (effect line u p (deed.Sector block t) s)
 sector_keeps line u p block t s = first_of (search rules, grind arith)
 

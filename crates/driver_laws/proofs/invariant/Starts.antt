@@ -29,20 +29,6 @@ replicate_at zero i x = refl
 replicate_at (suc n) zero x = refl
 replicate_at (suc n) (suc i) x = replicate_at n i x
 
-some_sectors : (kind : DriveKind) → 0 < sectors_of kind
-some_sectors Rp06 = omega arith
-some_sectors other = omega arith
-
-first_addressed : (kind : DriveKind) (unit : ℕ) → is_addressed (attached kind unit) ≡ true
-first_addressed Rp06 unit = refl
-first_addressed other unit = refl
-
-attached_is : (kind : DriveKind) (unit : ℕ) → IsDrive (attached kind unit)
-attached_is kind unit = first_of (search rules, grind arith)
-
-attached_still : (kind : DriveKind) (unit : ℕ) → IsStill (attached kind unit)
-attached_still kind unit = record { work = refl; attention = refl; clear = record { er1 = refl; er2 = refl } }
-
 -- A UNIT AT THE START has no request, and its drive stands still.
 record IsIdle (v : UnitView) : Type 0 where
   pub queue : v.queue ≡ []
@@ -98,10 +84,6 @@ stands_at (s ∷ setups) units t zero once small lt e =
 stands_at (s ∷ setups) units t (suc k) once small lt e =
     stands_at setups (set units s.unit (new_unit s)) t k once.1 (subst (λ (n : ℕ). t.unit < n) (sym (length-set units s.unit (new_unit s))) small)
     (omega (arith, lt)) e
-
--- THE ADAPTERS
-new_adapter_is : IsAdapter new_adapter
-new_adapter_is = first_of (search rules, grind arith)
 
 no_frames : (n : ℕ) → frames_used (replicate n None) ≡ 0
 no_frames zero = refl

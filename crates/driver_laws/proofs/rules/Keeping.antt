@@ -131,27 +131,6 @@ unfolding unit_in sort_in
 no_line_idle s is idle = omega (arith, ap sort_in (sym is ∙ idle))
 
 -- ---- a verdict mark is of a marked sector
-sort : Moved → ℕ
-sort verdict.Clean = 0
-sort (verdict.Burst at q) = 1
-sort verdict.Hard = 2
-sort verdict.Marked = 3
-sort (verdict.Faulted k) = 4
-sort verdict.Offline = 5
-
-stop_sort : (online : Bool) (armed : Option FaultKind) (stop : Moved) → (if online then option_map verdict.Faulted armed else Some verdict.Offline) ≡ Some stop → sort stop ≡ 3 → ⊥
-unfolding sort
-stop_sort true None stop is three = none-some stop is
-stop_sort true (Some k) stop is three = omega (arith, three, ap sort (same_Some (verdict.Faulted k) stop is))
-stop_sort false armed stop is three = omega (arith, three, ap sort (same_Some verdict.Offline stop is))
-
-marked_by : (stop : Option Moved) (marked write : Bool) (places : Option (List ℕ)) → ((v : Moved) → stop ≡ Some v → sort v ≡ 3 → ⊥) → IsVerdictBy stop marked write places verdict.Marked → marked ≡ true
-unfolding sort
-marked_by (Some stop) marked write places never is = absurd (never stop refl (ap sort (sym is)))
-marked_by None true write places never is = refl
-marked_by None false true places never is = absurd (omega (arith, ap sort is))
-marked_by None false false places never is = absurd (read_is_none places is)
-
 abbrev AreTrue : Setup → (ℕ → List Deed) → Type 0
 AreTrue setup lines = (unit block : ℕ) → WasMarked block (lines unit) → model.is_marked (setup.packs unit) block ≡ true
 
