@@ -1,29 +1,24 @@
 -- The faults that are armed at a drive: no deed arms one, and a line of the script arms one for at most 1,000 times.
-use Rattle.std.proofs.Common.{◌≡◌, ℕ, ◌+◌, ◌-◌, ◌≤◌, Bool, true, false, refl, sym, ap, subst, arith, rules}
-use Rattle.std.specs.Prelude.{if◌then◌else◌, ◌==◌}
-use Rattle.pack_geometry.specs.declared.DriveKind.{DriveKind}
-use Rattle.pack_geometry.specs.declared.DriveKind.TheVariants.{Rp06}
+use Rattle.std.proofs.Common.{◌≡◌, ℕ, ◌+◌, ◌≤◌, Bool, true, false, refl, arith, rules}
+use Rattle.std.specs.Prelude.{if◌then◌else◌}
 use Rattle.pack_geometry.specs.Geometry.{place_at}
 use Rattle.drive_registers.specs.declared.Function.{Function}
 use Rattle.drive_registers.specs.declared.Function.TheVariants as function
-use Rattle.drive_registers.specs.Codes.{function_code, offset_code}
 use Rattle.hardware_table.specs.declared.Armed.{Armed}
 use Rattle.hardware_table.specs.declared.FaultKind.{FaultKind}
 use Rattle.hardware_table.specs.declared.FaultKind.TheVariants as fault
 use Rattle.hardware_table.specs.declared.Moved.{Moved}
 use Rattle.hardware_table.specs.declared.Moved.TheVariants as verdict
-use Rattle.hardware_table.specs.declared.Register.TheVariants as register
 use Rattle.hardware_table.specs.declared.Work.{Work}
 use Rattle.hardware_table.specs.declared.Work.TheVariants as work
-use Rattle.hardware_table.specs.Drive.{DriveState, with_register}
-use Rattle.hardware_table.specs.Functions.{effect, refusals, refused, performed}
+use Rattle.hardware_table.specs.Drive.{DriveState}
+use Rattle.hardware_table.specs.Functions.{effect, performed}
 use Rattle.hardware_table.specs.Events.{arrived_from, transfer_ended, online_set, fault_armed, times_armed, with_times}
-use Rattle.hardware_table.specs.Moves.{after_move, with_mark_bits, with_fault_bits, fault_used, was_read}
+use Rattle.hardware_table.specs.Moves.{after_move, was_read}
 use Rattle.hardware_table.specs.Noise.{Book, book_struck}
 use Rattle.hardware_table.specs.Adapter.{AdapterState, drive_stepped, stepped, next_block}
-use Rattle.trace_replay.specs.Drives.{addressed, search_place, offset_written, transfer_function}
+use Rattle.trace_replay.specs.Drives.{addressed, search_place, transfer_function}
 use Rattle.driver_machine.specs.declared.RetryStep.{RetryStep}
-use Rattle.driver_machine.specs.declared.RetryStep.TheVariants as step
 use Rattle.driver_machine.specs.Acts as deed
 use Rattle.driver_machine.specs.Acts.{Deed, Scene, stepping}
 

@@ -1,8 +1,7 @@
 -- At the start no slot has a request, and nothing is armed.
-use Rattle.std.proofs.Common.{◌≡◌, ℕ, zero, suc, ◌*◌, ◌≤◌, List, [], ◌∷◌, set, get_or, replicate, None, refl, ap, arith, ◌∙◌, rules}
+use Rattle.std.proofs.Common.{◌≡◌, ℕ, zero, suc, ◌*◌, ◌≤◌, List, [], ◌∷◌, set, get_or, replicate, None, refl, arith, rules}
 use Rattle.hardware_table.specs.declared.Armed.{Armed}
 use Rattle.hardware_table.specs.declared.FaultKind.{FaultKind}
-use Rattle.hardware_table.specs.declared.FaultKind.TheVariants as fault
 use Rattle.hardware_table.specs.Drive.{none_armed}
 use Rattle.hardware_table.specs.Events.{times_armed}
 use Rattle.driver_machine.specs.World.{UnitView, Setup, no_unit, new_unit, set_up}

@@ -1,13 +1,11 @@
 -- A drive stays one whose registers name places of it, whatever it does.
-use Rattle.std.proofs.Common.{◌≡◌, ℕ, ◌+◌, ◌%◌, ◌<◌, ◌≤◌, Bool, true, false, Some, None, refl, sym, ap, ◌∙◌, subst, arith, rules}
-use Rattle.std.specs.Prelude.{if◌then◌else◌, ◌==◌, ◌&&◌, not, bit_or, nat_lt}
-use Rattle.std.proofs.lemmas.Nat.{div-mul-add, mod-mul-add}
+use Rattle.std.proofs.Common.{◌≡◌, ℕ, ◌+◌, ◌%◌, ◌<◌, ◌≤◌, Bool, true, false, Some, None, refl, arith, rules}
+use Rattle.std.specs.Prelude.{if◌then◌else◌, ◌&&◌, not, bit_or, nat_lt}
 use Rattle.std.proofs.lemmas.Bool.Decides.{Decides-ltb}
 use Rattle.pack_geometry.specs.declared.DriveKind.{DriveKind}
 use Rattle.pack_geometry.specs.declared.DriveKind.TheVariants.{Rp06}
 use Rattle.pack_geometry.specs.declared.Place.{Place}
 use Rattle.pack_geometry.specs.Geometry.{cylinders_of, tracks_of, sectors_of, block_count, limit_of, IsInside, place_at, replacement_at, track_and_sector}
-use Rattle.drive_registers.specs.declared.Function.{Function}
 use Rattle.drive_registers.specs.declared.Function.TheVariants as function
 use Rattle.drive_registers.specs.declared.OffsetCode.{OffsetCode}
 use Rattle.drive_registers.specs.declared.OffsetCode.TheVariants as code
@@ -21,8 +19,8 @@ use Rattle.hardware_table.specs.declared.Moved.TheVariants as verdict
 use Rattle.hardware_table.specs.declared.Work.{Work}
 use Rattle.hardware_table.specs.declared.Work.TheVariants as work
 use Rattle.hardware_table.specs.declared.Register.TheVariants as register
-use Rattle.hardware_table.specs.Drive.{DriveState, on, track_in, sector_in, with_register}
-use Rattle.hardware_table.specs.Functions.{is_addressed, refusals, effect, refused, performed}
+use Rattle.hardware_table.specs.Drive.{DriveState, on, with_register}
+use Rattle.hardware_table.specs.Functions.{is_addressed, performed}
 use Rattle.hardware_table.specs.Events.{arrived_from, transfer_ended, attention_cleared, turned, fault_armed, online_set, locked_set}
 use Rattle.hardware_table.specs.Moves.{passed, after_move, with_mark_bits, with_fault_bits, fault_used}
 use Rattle.hardware_table.specs.Adapter.{AdapterState, stepped, drive_stepped, next_block}

@@ -1,22 +1,13 @@
 -- THE DATA INTERRUPT: it leaves a phase that holds, and a free adapter.
-use Rattle.std.proofs.Common.{◌≡◌, ℕ, true, refl, sym, ap, ◌∙◌, subst, arith, rules}
-use Rattle.std.specs.Prelude.{if◌then◌else◌}
+use Rattle.std.proofs.Common.{ℕ, true, refl, ap, arith, rules}
 use Rattle.std.proofs.lemmas.Bool.{false≢true}
 use Rattle.hardware_table.specs.declared.Moved.{Moved}
-use Rattle.hardware_table.specs.declared.Moved.TheVariants as verdict
-use Rattle.hardware_table.specs.declared.Work.TheVariants as work
-use Rattle.hardware_table.specs.Drive.{DriveState}
-use Rattle.hardware_table.specs.Moves.{after_move}
 use Rattle.hardware_table.specs.Adapter.{AdapterState, IsAdapter, completed}
-use Rattle.transfer_engine.specs.declared.job.Segment.{Segment}
-use Rattle.transfer_engine.specs.State.{segment_of}
-use Rattle.driver_machine.specs.declared.Phase.TheVariants.{Transferring, Due}
-use Rattle.driver_machine.specs.Acts.{Scene, effect, in_phase, interrupted}
+use Rattle.driver_machine.specs.Acts.{Scene, effect, interrupted}
 use Rattle.driver_machine.specs.Acts as deed
-use Rattle.driver_machine.specs.Sound.{IsBegun, IsPhase, IsTask, IsClear, IsShown, IsStopped, IsEndedAt, IsFor}
-use Rattle.driver_machine.specs.World.{UnitView, Held, transfer_of}
+use Rattle.driver_machine.specs.Sound.{IsTask}
 use Rattle.driver_machine.specs.Guards.{May}
-use Rattle.driver_laws.proofs.invariant.Scene.{same_ask, begun_as, SceneOk, phase_is}
+use Rattle.driver_laws.proofs.invariant.Scene.{SceneOk}
 use Rattle.driver_laws.proofs.invariant.DeedFacts.{transfer_at}
 use Rattle.driver_laws.proofs.invariant.AdapterLeft.{SceneAdapter, AdapterLeft, is_queued, not_queued}
 

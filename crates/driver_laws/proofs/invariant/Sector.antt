@@ -1,23 +1,19 @@
 -- A SECTOR is tried: the next one lies on the pack, and behind it phase, drive and adapter hold.
 use Rattle.std.proofs.Common.{◌≡◌, ◌≢◌, ℕ, ◌+◌, ◌<◌, ◌≤◌, Bool, true, false, List, Option, Some, None, refl, sym, ap, ◌∙◌, subst, arith, rules}
-use Rattle.std.specs.Prelude.{◌*◌, ◌-◌, if◌then◌else◌, ◌==◌, min, option_map}
-use Rattle.std.proofs.lemmas.Bool.{false≢true, eqb-true, eqb-false}
+use Rattle.std.specs.Prelude.{◌*◌, ◌-◌, if◌then◌else◌, option_map}
+use Rattle.std.proofs.lemmas.Bool.{false≢true}
 use Rattle.std.specs.Int.{bit_at}
-use Rattle.pack_geometry.specs.declared.DriveKind.{DriveKind}
-use Rattle.pack_geometry.specs.declared.DriveKind.TheVariants.{Rp06}
 use Rattle.pack_geometry.specs.Geometry.{block_count}
 use Rattle.fire_code.specs.Burst.{IsBurst}
 use Rattle.fire_code.specs.Remainder.{remainder}
 use Rattle.fire_code.proofs.Laws.{burst_begins}
-use Rattle.hardware_table.specs.declared.Armed.{Armed}
 use Rattle.hardware_table.specs.declared.FaultKind.{FaultKind}
-use Rattle.hardware_table.specs.declared.FaultKind.TheVariants as fault
 use Rattle.hardware_table.specs.declared.Moved.{Moved}
 use Rattle.hardware_table.specs.declared.Moved.TheVariants as verdict
 use Rattle.hardware_table.specs.declared.Work.TheVariants as work
 use Rattle.hardware_table.specs.Drive.{DriveState, is_writing}
 use Rattle.hardware_table.specs.Events.{transfer_ended}
-use Rattle.hardware_table.specs.Moves.{passed, after_move, with_mark_bits, with_fault_bits, fault_used, first_armed, stop_of, IsReadVerdict, IsVerdictBy, IsVerdict, was_read}
+use Rattle.hardware_table.specs.Moves.{passed, after_move, first_armed, stop_of, IsReadVerdict, IsVerdictBy, IsVerdict, was_read}
 use Rattle.hardware_table.specs.Adapter.{AdapterState, IsAdapter, bytes_between, bytes_loaded, stepped, drive_stepped, next_block, late_after, next_window}
 use Rattle.main_memory.specs.Blocks.{Loan}
 use Rattle.transfer_engine.specs.declared.job.Segment.{Segment}
@@ -28,17 +24,11 @@ use Rattle.driver_machine.specs.Acts.{Tried, Scene, effect}
 use Rattle.driver_machine.specs.Sound.{IsDrive, IsPhase, IsClear, IsUnderWay, IsEndedAt, IsBurstAt, IsFor, late_by}
 use Rattle.driver_machine.specs.World.{Held, transfer_of, drive_of, with_block_in}
 use Rattle.driver_machine.specs.Guards.{May, IsBusyFor}
-use Rattle.driver_laws.proofs.invariant.Drives.{by_if, drive_after_step}
+use Rattle.driver_laws.proofs.invariant.Drives.{drive_after_step}
 use Rattle.driver_laws.proofs.invariant.Scene.{SceneOk, phase_is, same_ask, begun_as, block_below, effect_ask}
 use Rattle.driver_laws.proofs.invariant.DeedFacts.{transfer_at}
-use Rattle.driver_laws.proofs.invariant.AdapterLeft.{loaded_many, SceneAdapter, AdapterLeft}
+use Rattle.driver_laws.proofs.invariant.AdapterLeft.{SceneAdapter, AdapterLeft}
 use Rattle.trace_replay.proofs.Kept.{stepped_kind}
-
--- A SECTOR. What a move leaves of the drive's kind, its work and its attention
-pub record IsSameBut (d e : DriveState) : Type 0 where
-  pub kind : e.kind ≡ d.kind
-  pub work : e.work ≡ d.work
-  pub attention : e.attention ≡ d.attention
 
 attention_stepped : (v : Moved) (a : AdapterState) (d : DriveState) → (drive_stepped v a d).attention ≡ d.attention
 attention_stepped v a d = first_of (search rules, grind arith)
