@@ -3,8 +3,6 @@ use Rattle.std.proofs.Common.{◌≡◌, ℕ, ◌-◌, Bool, true, false, List, 
 use Rattle.std.specs.Prelude.{if◌then◌else◌, find}
 use Rattle.std.proofs.lemmas.Option.{same_Some, none-some}
 use Rattle.std.proofs.lemmas.List.Elements.{All-head, All-tail}
-use Rattle.pack_geometry.specs.declared.DriveKind.{DriveKind}
-use Rattle.pack_geometry.specs.declared.DriveKind.TheVariants.{Rp06}
 use Rattle.pack_geometry.specs.declared.Place.{Place}
 use Rattle.pack_geometry.specs.Geometry.{place_at}
 use Rattle.fire_code.specs.Remainder.{remainder}
@@ -14,7 +12,6 @@ use Rattle.drive_registers.specs.declared.Function.TheVariants as function
 use Rattle.drive_registers.specs.Codes.{offset_code}
 use Rattle.hardware_table.specs.declared.Armed.{Armed}
 use Rattle.hardware_table.specs.declared.FaultKind.{FaultKind}
-use Rattle.hardware_table.specs.declared.FaultKind.TheVariants as fault
 use Rattle.hardware_table.specs.declared.Moved.{Moved}
 use Rattle.hardware_table.specs.declared.Moved.TheVariants as verdict
 use Rattle.hardware_table.specs.declared.Register.TheVariants as register
@@ -24,7 +21,7 @@ use Rattle.hardware_table.specs.Drive.{DriveState, with_register}
 use Rattle.hardware_table.specs.Adapter.{AdapterState, stepped, next_block}
 use Rattle.hardware_table.specs.Events.{arrived_from, transfer_ended, times_armed}
 use Rattle.hardware_table.specs.Functions.{performed}
-use Rattle.hardware_table.specs.Moves.{after_move, with_fault_bits, with_mark_bits, first_armed, stop_of, IsVerdictBy}
+use Rattle.hardware_table.specs.Moves.{after_move, first_armed, stop_of, IsVerdictBy}
 use Rattle.hardware_table.specs.Noise.{LiveNoise, is_at, oldest, flips, is_ended_by}
 use Rattle.trace_replay.specs.Moments.{Deed, Search, Seek, Recal, Offset, Centre, Clear, Pack, Transfer, Arrive, Sector}
 use Rattle.trace_replay.specs.Drives.{drive_after, addressed, search_place, offset_written, transfer_function}
@@ -42,14 +39,6 @@ performed_armed f d = search rules
 pub arrived_armed : (w : Work) (d : DriveState) → (arrived_from w d).armed ≡ d.armed
 arrived_armed work.Ready d = refl
 arrived_armed other d = refl
-
-pub bits_armed : (k : FaultKind) (d : DriveState) → (with_fault_bits k d).armed ≡ d.armed
-bits_armed fault.Seek d = refl
-bits_armed other d = refl
-
-pub marks_armed : (kind : DriveKind) (d : DriveState) → (with_mark_bits kind d).armed ≡ d.armed
-marks_armed Rp06 d = refl
-marks_armed other d = refl
 
 moved_less : (v : Moved) (block : ℕ) (d : DriveState) → IsLess (after_move v block d).armed d.armed
 moved_less v block d = search rules
@@ -85,10 +74,6 @@ offline_by stop marked write places is = search rules
 
 pub offline_verdict : (d : DriveState) (marked write : Bool) (places : Option (List ℕ)) → IsVerdictBy (stop_of d) marked write places verdict.Offline → d.online ≡ false
 offline_verdict d marked write places is = stop_tag d.online (first_armed d.armed) (offline_by (stop_of d) marked write places is)
-
--- a fault that strikes is armed
-pub fault_by : (stop : Option Moved) (k : FaultKind) (marked write : Bool) (places : Option (List ℕ)) → IsVerdictBy stop marked write places (verdict.Faulted k) → stop ≡ Some (verdict.Faulted k)
-fault_by stop k marked write places is = search rules
 
 -- some fault is armed where the first one is found
 pub find_first : {T : Type 0} (p : T → Bool) (P : T → Type 0) (xs : List T) (x : T) → All P xs → find p xs ≡ Some x → P x × (p x ≡ true)

@@ -14,10 +14,6 @@ pub one_try_less : (segment : Segment) (f : ℕ) → f < 28 → tries_left segme
 one_try_less OwnBlocks f few = omega (arith, few)
 one_try_less (Replacement block) f few = omega (arith, few)
 
-pub few_tries : (segment : Segment) → tries_left segment 0 ≤ 56
-few_tries OwnBlocks = omega arith
-few_tries (Replacement block) = omega arith
-
 pub few_steps : (segment : Segment) → steps_left segment 0 ≤ 36
 few_steps OwnBlocks = omega arith
 few_steps (Replacement block) = omega arith
