@@ -13,7 +13,7 @@ use Rattle.driver_laws.specs.rules.Measure.{blocks_waiting, blocks_of_units, blo
 use Rattle.driver_machine.specs.World.{World, Held, no_held, unit_at, slot_at, held_in, adapter_at, adapter_of}
 use Rattle.driver_machine.specs.Guards.{IsSetUp}
 use Rattle.driver_machine.specs.Sound.{Sound, slots_of, IsOutstanding, UnitOk}
-use Rattle.driver_laws.proofs.invariant.Deeds.{slot_there}
+use Rattle.driver_laws.proofs.invariant.Frame.{slot_there}
 use Rattle.driver_laws.proofs.invariant.SlotsLists.{Contains-first, Contains-later, contained_among}
 use Rattle.driver_laws.specs.shown.Shows.{Match, IsUnitSeen}
 use Rattle.script_runs.specs.StopsPasses.{ShowsAll, IsSoFar}

@@ -16,8 +16,7 @@ use Rattle.driver_machine.specs.Acts.{Submit, after, joined}
 use Rattle.driver_machine.specs.Guards.{IsSetUp, IsFresh, IsNew, IsApart}
 use Rattle.driver_machine.specs.Sound.{Sound, Among, slots_of, slots_made, frames_by, frames_used, IsMade}
 use Rattle.driver_laws.proofs.invariant.SlotsLists.{put_set, contained_among, Contains-first}
-use Rattle.driver_laws.proofs.invariant.Hand.{slot_there}
-use Rattle.driver_laws.proofs.invariant.Frame.{held_is}
+use Rattle.driver_laws.proofs.invariant.Frame.{slot_there, held_is}
 use Rattle.request_slots.specs.declared.asked.Asked.{Asked}
 use Rattle.request_slots.specs.Requests.{frames_lent, IsHeldFor}
 use Rattle.hp_core.specs.State.{State}

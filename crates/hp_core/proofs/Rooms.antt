@@ -9,9 +9,8 @@ use Rattle.driver_machine.specs.World.{World, Held, unit_at, held_in, slot_in_ha
 use Rattle.driver_machine.specs.Guards.{InHand}
 use Rattle.driver_machine.specs.Sound.{Sound, Among, slots_made, slot_made, frames_used, frames_by}
 use Rattle.driver_laws.proofs.invariant.SlotsEnd.{made_at}
-use Rattle.driver_laws.proofs.invariant.Hand.{slot_there}
 use Rattle.driver_laws.proofs.invariant.Frames.{frames_at, frames_put}
-use Rattle.driver_laws.proofs.invariant.Frame.{scene_ok, own_held, held_is}
+use Rattle.driver_laws.proofs.invariant.Frame.{scene_ok, slot_there, own_held, held_is}
 use Rattle.hp_core.specs.State.{refused_in, one_refused, HasRoom}
 use Rattle.hp_core.proofs.Deeds.{pigeons}
 

@@ -126,14 +126,6 @@ takings_add requests noises faults w within = record {
 }
 
 -- HOW MUCH NOISE MAY BE ARMED
-changed_capacity : (input : Input) (w : World) → (changed input w).book.capacity ≡ w.book.capacity
-changed_capacity (script.Turn u sector) w = refl
-changed_capacity (script.Noise noise) w = refl
-changed_capacity (script.Arm u kind times) w = refl
-changed_capacity (script.SetOnline u on) w = refl
-changed_capacity (script.SetLocked u on) w = refl
-changed_capacity input w = refl
-
 act_capacity : (w : World) (act : Act) → (after w act).book.capacity ≡ w.book.capacity
 act_capacity w act = first_of (search rules, grind arith)
 

@@ -1,29 +1,24 @@
 -- The faults that are armed at a drive: no deed arms one, and a line of the script arms one for at most 1,000 times.
-use Rattle.std.proofs.Common.{◌≡◌, ℕ, ◌+◌, ◌-◌, ◌≤◌, Bool, true, false, refl, sym, ap, subst, arith, rules}
-use Rattle.std.specs.Prelude.{if◌then◌else◌, ◌==◌}
-use Rattle.pack_geometry.specs.declared.DriveKind.{DriveKind}
-use Rattle.pack_geometry.specs.declared.DriveKind.TheVariants.{Rp06}
+use Rattle.std.proofs.Common.{◌≡◌, ℕ, ◌+◌, ◌≤◌, Bool, true, false, refl, arith, rules}
+use Rattle.std.specs.Prelude.{if◌then◌else◌}
 use Rattle.pack_geometry.specs.Geometry.{place_at}
 use Rattle.drive_registers.specs.declared.Function.{Function}
 use Rattle.drive_registers.specs.declared.Function.TheVariants as function
-use Rattle.drive_registers.specs.Codes.{function_code, offset_code}
 use Rattle.hardware_table.specs.declared.Armed.{Armed}
 use Rattle.hardware_table.specs.declared.FaultKind.{FaultKind}
 use Rattle.hardware_table.specs.declared.FaultKind.TheVariants as fault
 use Rattle.hardware_table.specs.declared.Moved.{Moved}
 use Rattle.hardware_table.specs.declared.Moved.TheVariants as verdict
-use Rattle.hardware_table.specs.declared.Register.TheVariants as register
 use Rattle.hardware_table.specs.declared.Work.{Work}
 use Rattle.hardware_table.specs.declared.Work.TheVariants as work
-use Rattle.hardware_table.specs.Drive.{DriveState, with_register}
-use Rattle.hardware_table.specs.Functions.{effect, refusals, refused, performed}
+use Rattle.hardware_table.specs.Drive.{DriveState}
+use Rattle.hardware_table.specs.Functions.{effect, performed}
 use Rattle.hardware_table.specs.Events.{arrived_from, transfer_ended, online_set, fault_armed, times_armed, with_times}
-use Rattle.hardware_table.specs.Moves.{after_move, with_mark_bits, with_fault_bits, fault_used, was_read}
+use Rattle.hardware_table.specs.Moves.{after_move, was_read}
 use Rattle.hardware_table.specs.Noise.{Book, book_struck}
 use Rattle.hardware_table.specs.Adapter.{AdapterState, drive_stepped, stepped, next_block}
-use Rattle.trace_replay.specs.Drives.{addressed, search_place, offset_written, transfer_function}
+use Rattle.trace_replay.specs.Drives.{addressed, search_place, transfer_function}
 use Rattle.driver_machine.specs.declared.RetryStep.{RetryStep}
-use Rattle.driver_machine.specs.declared.RetryStep.TheVariants as step
 use Rattle.driver_machine.specs.Acts as deed
 use Rattle.driver_machine.specs.Acts.{Deed, Scene, stepping}
 
@@ -55,10 +50,6 @@ pub armed_more : (kind : FaultKind) (times more : ℕ) (d : DriveState) → time
 armed_more kind times more d few = put_armed kind (times_armed kind d.armed + times) more d.armed (omega (arith, few))
 
 -- WHAT A DRIVE DOES
-effect_armed : (f : Function) (d : DriveState) → (effect f d).armed ≡ d.armed
-effect_armed function.Nop d = refl
-effect_armed other d = refl
-
 either : {A : Type 0} (P : A → Type 0) (b : Bool) (x y : A) → P x → P y → P (if b then x else y)
 either P true x y holds fails = holds
 either P false x y holds fails = fails
@@ -69,18 +60,6 @@ performed_armed f d = first_of (search rules, grind arith)
 arrived_armed : (w : Work) (d : DriveState) → (arrived_from w d).armed ≡ d.armed
 arrived_armed work.Ready d = refl
 arrived_armed other d = refl
-
-marked_armed : (kind : DriveKind) (d : DriveState) → (with_mark_bits kind d).armed ≡ d.armed
-marked_armed Rp06 d = refl
-marked_armed other d = refl
-
-fault_bits_armed : (kind : FaultKind) (d : DriveState) → (with_fault_bits kind d).armed ≡ d.armed
-fault_bits_armed fault.Seek d = refl
-fault_bits_armed other d = refl
-
--- a fault that strikes is used
-faulted_armed : (kind : FaultKind) (d : DriveState) → IsArmedBy 0 d.armed (with_fault_bits kind (fault_used kind d)).armed
-faulted_armed kind d = first_of (search rules, grind arith)
 
 moved_armed : (v : Moved) (block : ℕ) (d : DriveState) → IsArmedBy 0 d.armed (after_move v block d).armed
 moved_armed v block d = first_of (search rules, grind arith)

@@ -1,6 +1,5 @@
 -- The acts of an event ask for nothing and change no condition, but for the one act of an input that does.
 use Rattle.std.proofs.Common.{◌≡◌, ℕ, zero, suc, ◌+◌, Bool, true, false, List, [], ◌∷◌, ◌++◌, length, Option, Some, None, refl, arith, rules}
-use Rattle.hardware_table.specs.Adapter.{next_block}
 use Rattle.disksort.specs.declared.Waiter.{Waiter}
 use Rattle.trace_replay.specs.requests.Requests.{Request}
 use Rattle.trace_replay.specs.Script as script
@@ -8,9 +7,9 @@ use Rattle.trace_replay.specs.Script.{Input}
 use Rattle.trace_replay.specs.declared.requests.answers.AnswerKind.{AnswerKind}
 use Rattle.driver_machine.specs.World.{World, Held, unit_at, adapter_at, held_in, slot_in_hand, unit_on, unit_of, adapter_of}
 use Rattle.driver_machine.specs.Acts as deed
-use Rattle.driver_machine.specs.Acts.{Act, Refuse, Submit, Change, Nothing, Deed, Tried, after, after_all}
+use Rattle.driver_machine.specs.Acts.{Act, Refuse, Submit, Change, Deed, Tried, after, after_all}
 use Rattle.driver_machine.specs.Due.{next_of, command_of}
-use Rattle.driver_machine.specs.Events.{Part, followed, and_then, when_by, each, go_on, until, in_hand_by, in_hand, due_by, next_acts, due_acts, begun, choose_by, choose_acts, adapter_start, submit_by, refusal_of, can_arrive, can_move, can_attend, or_nothing, arrive_acts, move_acts, data_interrupt, steps_taken, attention, drives, attended, attend_acts}
+use Rattle.driver_machine.specs.Events.{Part, followed, and_then, when_by, each, go_on, until, in_hand_by, in_hand, due_by, next_acts, due_acts, begun, choose_by, choose_acts, adapter_start, submit_by, refusal_of, can_arrive, can_attend, or_nothing, arrive_acts, move_acts, data_interrupt, steps_taken, attention, drives, attended, attend_acts}
 use Rattle.driver_machine.specs.Runs.{Run}
 use Rattle.driver_laws.specs.answers.Counts.{IsWithin, noises_of, faults_of, bring_requests, bring_noises, bring_faults}
 use Rattle.driver_laws.specs.answers.Laws.{EventsAdd, SubmissionsAdd}

@@ -4,7 +4,7 @@ use Rattle.std.specs.Prelude.{Contains, slice_index_or, slice_set, unwrap_or}
 use Rattle.std.specs.Option.{option_map_or}
 use Rattle.std.proofs.lemmas.Bool.{cases_eq, cases_lt}
 use Rattle.std.proofs.lemmas.List.{get_or_past}
-use Rattle.std.proofs.lemmas.Option.{none-some, same_Some}
+use Rattle.std.proofs.lemmas.Option.{none-some}
 use Rattle.trace_replay.specs.Script as script
 use Rattle.trace_replay.specs.Script.{Input}
 use Rattle.driver_machine.specs.declared.Made.{Made}
@@ -16,7 +16,7 @@ use Rattle.driver_machine.proofs.Frame.{effect_same}
 use Rattle.driver_machine.specs.Runs.{Run, Works}
 use Rattle.driver_laws.proofs.invariant.Calls.{submit_works, event_works}
 use Rattle.driver_laws.proofs.invariant.SlotsLists.{Contains-first, Contains-later}
-use Rattle.driver_laws.proofs.invariant.Hand.{slot_there}
+use Rattle.driver_laws.proofs.invariant.Frame.{slot_there}
 use Rattle.driver_laws.proofs.invariant.Sound.{sound_after}
 use Rattle.driver_laws.specs.answers.Ids.{AreOf, ids_with, StartsOfNone, ActsAdd, RunsAdd, EventsAddNone, SubmissionsAdd, TakingAddsNone, NoOthers, OthersAreFresh}
 use Rattle.driver_laws.proofs.answers.Parts.{AreAll, Holds, all_submitted, all_of_event}

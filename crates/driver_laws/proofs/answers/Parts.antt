@@ -1,16 +1,13 @@
 -- What holds of each act of an event or of a submission, whatever the world.
-use Rattle.std.proofs.Common.{ℕ, zero, suc, Bool, true, false, List, [], ◌∷◌, ◌++◌, Option, None, Some}
-use Rattle.disksort.specs.declared.Waiter.{Waiter}
+use Rattle.std.proofs.Common.{ℕ, zero, suc, Bool, true, false, List, [], ◌∷◌, ◌++◌, Option, None, Some, rules}
 use Rattle.trace_replay.specs.requests.Requests.{Request}
-use Rattle.trace_replay.specs.Script as script
 use Rattle.trace_replay.specs.Script.{Input}
 use Rattle.trace_replay.specs.declared.requests.answers.AnswerKind.{AnswerKind}
 use Rattle.driver_machine.specs.World.{World, Held, adapter_of, unit_at, adapter_at, held_in, slot_in_hand, unit_on, unit_of}
 use Rattle.driver_machine.specs.Acts as deed
 use Rattle.driver_machine.specs.Acts.{Act, Refuse, Submit, Of, Change, Nothing, Deed, Tried, after_all}
-use Rattle.driver_machine.specs.Events.{Part, followed, and_then, when_by, each, go_on, until, in_hand, in_hand_by, due_by, next_acts, due_acts, begun, choose_by, choose_acts, adapter_start, submit_by, submit_acts, refusal_of, can_arrive, can_move, can_attend, or_nothing, data_interrupt, steps_taken, attention, drives, attended, event_acts}
-use Rattle.driver_machine.specs.Due.{next_of, command_of}
-use Rattle.hardware_table.specs.Adapter.{next_block}
+use Rattle.driver_machine.specs.Events.{Part, followed, and_then, when_by, each, go_on, until, in_hand, due_by, next_acts, due_acts, begun, choose_acts, adapter_start, submit_by, submit_acts, refusal_of, or_nothing, data_interrupt, steps_taken, attention, drives, attended, event_acts}
+use Rattle.driver_machine.specs.Due.{next_of}
 
 -- P holds of each act
 abbrev pub AreAll : (Act → Type 0) → List Act → Type 0
@@ -52,11 +49,7 @@ pub record Holds (P : Act → Type 0) : Type 0 where
 module _ (P : Act → Type 0) (holds : Holds P) where
   -- AT A UNIT
   all_in_hand : (line u : ℕ) (d : Deed) → Always P (in_hand line u d)
-  all_in_hand line u d w = by (unit_at w u).queue
-    where
-      by : (queue : List Waiter) → AreAll P (in_hand_by queue line u d w)
-      by [] = tt
-      by (x ∷ rest) = (holds.of line u (held_in w x.number).id d, tt)
+  all_in_hand line u d w = search rules
 
   all_next : (line u : ℕ) → Always P (next_acts line u)
   all_next line u w = by (next_of (unit_at w u) (held_in w (slot_in_hand (unit_at w u))))
@@ -73,12 +66,7 @@ module _ (P : Act → Type 0) (holds : Holds P) where
 
   -- ADAPTER START
   all_chosen : (line a : ℕ) → Always P (choose_acts line a)
-  all_chosen line a w = by (adapter_at w a).state.busy (adapter_at w a).queue
-    where
-      by : (busy : Bool) (queue : List ℕ) → AreAll P (choose_by busy queue line w)
-      by true queue = tt
-      by false [] = tt
-      by false (u ∷ rest) = all_begun line u (command_of (unit_at w u) (held_in w (slot_in_hand (unit_at w u)))) w
+  all_chosen line a w = search (rules, all_begun)
 
   all_started : (line a : ℕ) → Always P (adapter_start line a)
   all_started line a w = all_until P _ (choose_acts line a) (all_chosen line a) w
@@ -116,10 +104,4 @@ module _ (P : Act → Type 0) (holds : Holds P) where
       (all_started line a))
 
   pub all_of_event : (line : ℕ) (input : Input) (tried : Tried) (w : World) → P (Change input) → AreAll P (event_acts line input tried w)
-  all_of_event line (script.ArriveAt u) tried w change =
-      all_or_nothing (can_arrive (unit_at w u)) line (in_hand line u deed.Arrive) (all_in_hand line u deed.Arrive) w
-  all_of_event line (script.MoveAt a) tried w change =
-      all_or_nothing (can_move (adapter_at w a)) line (in_hand line (unit_of w a) (deed.Sector (next_block (adapter_at w a).state) tried))
-      (all_in_hand line (unit_of w a) (deed.Sector (next_block (adapter_at w a).state) tried)) w
-  all_of_event line (script.AttendTo a) tried w change = all_or_nothing (can_attend (adapter_at w a)) line (attended line a) (all_attended line a) w
-  all_of_event line input tried w change = (change, tt)
+  all_of_event line input tried w change = search (rules, all_or_nothing, all_in_hand, all_attended)

@@ -1,8 +1,7 @@
 -- At the start no slot has a request, and nothing is armed.
-use Rattle.std.proofs.Common.{◌≡◌, ℕ, zero, suc, ◌*◌, ◌≤◌, List, [], ◌∷◌, set, get_or, replicate, None, refl, ap, arith, ◌∙◌, rules}
+use Rattle.std.proofs.Common.{◌≡◌, ℕ, zero, suc, ◌*◌, ◌≤◌, List, [], ◌∷◌, set, get_or, replicate, None, refl, arith, rules}
 use Rattle.hardware_table.specs.declared.Armed.{Armed}
 use Rattle.hardware_table.specs.declared.FaultKind.{FaultKind}
-use Rattle.hardware_table.specs.declared.FaultKind.TheVariants as fault
 use Rattle.hardware_table.specs.Drive.{none_armed}
 use Rattle.hardware_table.specs.Events.{times_armed}
 use Rattle.driver_machine.specs.World.{UnitView, Setup, no_unit, new_unit, set_up}
@@ -28,10 +27,6 @@ set_up_unarmed [] units are u = are u
 set_up_unarmed (s ∷ setups) units are u =
     set_up_unarmed setups (set units s.unit (new_unit s))
     (λ x. set_related (λ (old new : UnitView). IsUnarmed old → IsUnarmed new) (λ v is. is) units s.unit x (new_unit s) no_unit (λ is. refl) (are x)) u
-
-none_times : (kind : FaultKind) → times_armed kind none_armed ≡ 0
-none_times fault.Seek = refl
-none_times other = refl
 
 no_times : (kind : FaultKind) (a : Armed) → a ≡ none_armed → times_armed kind a ≤ 1000 * 0
 no_times kind a is = first_of (search rules, grind arith)

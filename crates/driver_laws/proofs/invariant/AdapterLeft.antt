@@ -1,9 +1,9 @@
 -- What a change at one unit leaves of its adapter.
-use Rattle.std.proofs.Common.{◌≡◌, ◌≢◌, ℕ, ◌+◌, ◌-◌, ◌*◌, ◌<◌, ◌≤◌, Bool, true, false, List, refl, sym, ap, ◌∙◌, arith, rules}
-use Rattle.std.specs.Prelude.{if◌then◌else◌, ◌==◌}
+use Rattle.std.proofs.Common.{◌≡◌, ◌≢◌, ℕ, ◌<◌, Bool, true, false, List, refl, sym, ap, ◌∙◌, arith, rules}
+use Rattle.std.specs.Prelude.{if◌then◌else◌}
 use Rattle.std.proofs.lemmas.Bool.{false≢true}
 use Rattle.std.specs.Int.{bit_at}
-use Rattle.hardware_table.specs.Adapter.{AdapterState, IsAdapter, bytes_between}
+use Rattle.hardware_table.specs.Adapter.{IsAdapter}
 use Rattle.driver_machine.specs.declared.Phase.{Phase}
 use Rattle.driver_machine.specs.declared.Phase.TheVariants.{Waiting, Positioning, Queued, Transferring, Due}
 use Rattle.driver_machine.specs.declared.Task.TheVariants.{Clear, Judge, Steps, Command, GiveUp}
@@ -36,9 +36,6 @@ pub record AdapterLeft (u : ℕ) (old : AdapterView) (v : UnitView) (z : Adapter
   pub small : z.state.attentions < 256
   pub bits : (k : ℕ) → k < 8 → k ≢ drive_of u → bit_at z.state.attentions k ≡ bit_at old.state.attentions k
   pub bit : bit_at z.state.attentions (drive_of u) ≡ (if v.drive.attention then 1 else 0)
-
-attentions_adapter : (a : AdapterState) (n : ℕ) → IsAdapter a → IsAdapter (record a { attentions = n })
-attentions_adapter a n k = first_of (search rules, grind arith)
 
 -- only the attentions change, and those that wait
 pub state_left : (u : ℕ) (s : Scene) → SceneOk u s → SceneAdapter u s → (v : UnitView) (h : Held) (n : ℕ) (queue : List ℕ) → (s.unit.phase ≡ Transferring → ⊥)
@@ -96,6 +93,3 @@ pub due_left : (u : ℕ) (s : Scene) → SceneOk u s → SceneAdapter u s → (v
     → v.drive.attention ≡ s.unit.drive.attention → AdapterLeft u s.adapter v s.adapter h
 due_left u s ok at v h rests out same =
     task_left u s ok at v h (not_transferring s.unit.phase rests) (λ is. absurd (not_queued s.unit.phase out is)) same
-
-pub loaded_many : (blocks last skip count : ℕ) → 1 ≤ last → 1 ≤ count → 512 * count < bytes_between blocks last skip count + 512
-loaded_many blocks last skip count some more = first_of (search rules, grind arith)

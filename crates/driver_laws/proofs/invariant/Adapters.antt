@@ -1,18 +1,16 @@
 -- A change at one unit keeps what holds of its adapter.
 use Rattle.std.proofs.Common.{◌≡◌, ◌≢◌, inl, inr, ℕ, ◌<◌, true, Some, refl, sym, ap, ◌∙◌, subst, arith, rules}
-use Rattle.std.specs.Prelude.{if◌then◌else◌, unwrap_or}
+use Rattle.std.specs.Prelude.{if◌then◌else◌}
 use Rattle.std.specs.Int.{bit_at}
 use Rattle.std.proofs.lemmas.Bool.{cases_eq}
 use Rattle.hardware_table.specs.Adapter.{AdapterState}
-use Rattle.transfer_engine.specs.State.{segment_of}
 use Rattle.driver_machine.specs.declared.Phase.TheVariants.{Queued, Transferring}
-use Rattle.driver_machine.specs.World.{World, UnitView, AdapterView, Held, adapter_of, drive_of, unit_on, unit_at, adapter_at, slot_at, held_in, slot_in_hand, transfer_of, no_transfer}
+use Rattle.driver_machine.specs.World.{World, UnitView, AdapterView, Held, adapter_of, drive_of, unit_on, unit_at, adapter_at, slot_at, held_in, slot_in_hand}
 use Rattle.driver_machine.specs.Acts as deed
 use Rattle.driver_machine.specs.Acts.{Of, Deed, Scene, scene_of, with_scene, after}
 use Rattle.driver_machine.specs.Guards.{InHand, May}
 use Rattle.driver_machine.specs.Sound.{Among, Transfers, AdapterOk, Sound, is_waiting}
-use Rattle.driver_laws.proofs.invariant.Scene.{HasTransferFor}
-use Rattle.driver_laws.proofs.invariant.Frame.{Changed, drive_of-unit_on, unit_on-own, unit_on-small, adapter_of-small, drive_of-small, head_out, held_is, has_transfer, transfers_on, waits_on, raised_on, scene_ok, adapter_here, unit_here, slot_here, deed_changed}
+use Rattle.driver_laws.proofs.invariant.Frame.{Changed, drive_of-unit_on, unit_on-own, unit_on-small, adapter_of-small, transfers_on, waits_on, raised_on, scene_ok, adapter_here, unit_here, slot_here, deed_changed}
 use Rattle.driver_laws.proofs.invariant.Units.{deed_hand}
 use Rattle.driver_laws.proofs.invariant.AdapterLeft.{SceneAdapter, AdapterLeft}
 use Rattle.driver_laws.proofs.invariant.EachDeed.{deed_left}
@@ -20,11 +18,6 @@ use Rattle.driver_laws.proofs.invariant.EachDeed.{deed_left}
 -- a transfer goes on, whatever attentions come
 attentions_on : (w : World) (x n : ℕ) (h : Held) (a : AdapterState) → Transfers w x h a → Transfers w x h (record a { attentions = n })
 attentions_on w x n h a is = first_of (search rules, grind arith)
-
--- what a transfer of the unit itself is in the world
-has_own : (w : World) (u : ℕ) (v : UnitView) (h : Held) (a : AdapterState) → unit_at w u ≡ v → (v.phase ≡ Transferring → slot_at w (slot_in_hand v) ≡ Some h)
-    → HasTransferFor v h a → Transfers w u h a
-has_own w u v h a here slot is = first_of (search rules, grind arith)
 
 module _ (w now : World) (u : ℕ) (s : Sound w) (c : Changed w now u) (lt : u < 32) (v : UnitView) (z : AdapterView) (h : Held)
     (here : unit_at now u ≡ v) (slot : v.phase ≡ Transferring → slot_at now (slot_in_hand v) ≡ Some h)

@@ -1,5 +1,5 @@
 -- A POSITIONING ENDS: where it may come the unit positions, and it leaves a phase, a drive and an adapter that hold.
-use Rattle.std.proofs.Common.{◌≡◌, inl, inr, ℕ, ◌^◌, Bool, true, false, refl, sym, ap, ◌∙◌, subst, bit_or, arith, rules}
+use Rattle.std.proofs.Common.{◌≡◌, inr, ℕ, ◌^◌, Bool, true, false, refl, sym, ap, ◌∙◌, subst, bit_or, arith, rules}
 use Rattle.std.specs.Prelude.{if◌then◌else◌}
 use Rattle.std.proofs.lemmas.Bool.{false≢true}
 use Rattle.hardware_table.specs.declared.Work.{Work}

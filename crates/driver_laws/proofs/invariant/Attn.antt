@@ -1,6 +1,5 @@
 -- AN ATTENTION is taken: it leaves a phase, a drive and an adapter that hold.
-use Rattle.std.proofs.Common.{◌≡◌, inl, inr, ℕ, ◌-◌, ◌^◌, true, refl, sym, ap, ◌∙◌, bit_and, arith, rules}
-use Rattle.std.proofs.lemmas.Bool.{false≢true}
+use Rattle.std.proofs.Common.{◌≡◌, ℕ, ◌-◌, ◌^◌, true, refl, ap, bit_and, arith, rules}
 use Rattle.hardware_table.specs.Drive.{DriveState}
 use Rattle.hardware_table.specs.Events.{attention_cleared}
 use Rattle.driver_machine.specs.declared.Phase.TheVariants.{Positioning}

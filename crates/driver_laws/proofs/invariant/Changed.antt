@@ -1,7 +1,7 @@
 -- What a change of one unit and one slot leaves of the others.
-use Rattle.std.proofs.Common.{◌≡◌, ◌≢◌, inl, inr, ℕ, ◌+◌, ◌<◌, ◌≤◌, false, List, length, Option, Some, None, sym, ap, ◌∙◌, subst, arith, rules}
+use Rattle.std.proofs.Common.{◌≡◌, ◌≢◌, inl, inr, ℕ, ◌+◌, ◌<◌, ◌≤◌, false, List, length, Option, Some, None, sym, ◌∙◌, subst, arith, rules}
 use Rattle.std.proofs.lemmas.Bool.{cases_eq}
-use Rattle.pack_geometry.specs.Geometry.{limit_of, place_at}
+use Rattle.pack_geometry.specs.Geometry.{limit_of}
 use Rattle.pack_geometry.specs.declared.DriveKind.{DriveKind}
 use Rattle.disksort.specs.declared.Waiter.{Waiter}
 use Rattle.driver_machine.specs.declared.Phase.TheVariants.{Transferring}

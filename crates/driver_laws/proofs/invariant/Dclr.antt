@@ -1,5 +1,5 @@
 -- DCLR: the drive is clear, and phase, drive and adapter hold.
-use Rattle.std.proofs.Common.{ℕ, refl, sym, ap, arith, rules}
+use Rattle.std.proofs.Common.{ℕ, sym, ap, arith, rules}
 use Rattle.hardware_table.specs.declared.Moved.{Moved}
 use Rattle.driver_machine.specs.declared.Phase.TheVariants.{Due}
 use Rattle.driver_machine.specs.declared.Task.TheVariants.{Clear, Judge}
@@ -10,7 +10,6 @@ use Rattle.driver_machine.specs.Guards.{May}
 use Rattle.driver_machine.specs.DueFacts.{IsDue}
 use Rattle.driver_laws.proofs.invariant.Drives.{drive_clear}
 use Rattle.driver_laws.proofs.invariant.Scene.{SceneOk, phase_is, due_of}
-use Rattle.driver_laws.proofs.invariant.DeedFacts.{same_begun}
 use Rattle.driver_laws.proofs.invariant.AdapterLeft.{SceneAdapter, AdapterLeft, is_transferring, is_queued, due_left}
 
 -- DCLR: the drive is clear

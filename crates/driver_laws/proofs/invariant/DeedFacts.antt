@@ -1,6 +1,6 @@
 -- What several deeds share of transfers and tasks.
-use Rattle.std.proofs.Common.{◌≡◌, ℕ, ◌+◌, ◌<◌, Bool, Option, Some, None, refl, arith, rules}
-use Rattle.pack_geometry.specs.Geometry.{block_count, IsInside, place_at}
+use Rattle.std.proofs.Common.{◌≡◌, ℕ, ◌+◌, ◌<◌, Bool, Option, Some, None, arith, rules}
+use Rattle.pack_geometry.specs.Geometry.{IsInside, place_at}
 use Rattle.hardware_table.specs.declared.Moved.{Moved}
 use Rattle.transfer_engine.specs.declared.job.Job.{Job}
 use Rattle.transfer_engine.specs.State.{segment_by, begun, segment_of}
@@ -11,13 +11,7 @@ use Rattle.driver_machine.specs.Sound.{IsBegun, IsTask}
 use Rattle.driver_machine.specs.World.{UnitView, transfer_of, job_of, drive_of}
 use Rattle.driver_machine.specs.Guards.{IsBusyFor}
 use Rattle.driver_machine.specs.DueFacts.{IsJudged}
-use Rattle.driver_machine.proofs.DueFacts.{none_some}
-use Rattle.driver_laws.proofs.invariant.Drives.{place_inside}
-use Rattle.driver_laws.proofs.invariant.Scene.{same_ask, begun_as, SceneOk, phase_is, job_is, block_below, segment_some, HasTransfer}
-
--- the transfer of the request in hand is as before
-pub same_begun : (s : Scene) (x : UnitView) → IsBegun s.unit s.held → x.transfer ≡ s.unit.transfer → x.table ≡ s.unit.table → x.drive.kind ≡ s.unit.drive.kind → IsBegun x s.held
-same_begun s x is transfer table kind = begun_as s.unit x s.held s.held is transfer table kind (same_ask s.held)
+use Rattle.driver_laws.proofs.invariant.Scene.{SceneOk, phase_is, HasTransfer}
 
 -- the task of a verdict that is judged
 pub judged_is : (u moved : ℕ) (last : Moved) (s : Scene) → SceneOk u s → IsJudged s.unit moved last → IsTask s.unit s.held (Judge moved last)

@@ -1,13 +1,12 @@
 -- A deed at one unit is done where it may, and leaves what holds inside an event.
-use Rattle.std.proofs.Common.{◌≡◌, ◌≢◌, ◌⊎◌, inl, inr, ℕ, ◌+◌, ◌/◌, ◌<◌, ◌≤◌, Bool, true, false, List, [], length, Option, Some, None, sym, ap, subst, arith, ◌∙◌, get_or-set_same, rules}
+use Rattle.std.proofs.Common.{◌≡◌, ◌≢◌, ◌⊎◌, inl, inr, ℕ, ◌+◌, ◌<◌, ◌≤◌, Bool, true, false, [], length, Option, Some, None, sym, ap, subst, arith, ◌∙◌, rules}
 use Rattle.std.specs.Prelude.{slice_index_or, slice_set, sum_by, unwrap_or}
 use Rattle.std.proofs.lemmas.List.Sums.{sum_by-set}
-use Rattle.std.proofs.lemmas.List.Elements.{Contains-get_or}
 use Rattle.std.proofs.lemmas.List.{get_or_past}
 use Rattle.driver_machine.specs.declared.Task.TheVariants.{Command}
 use Rattle.driver_machine.specs.declared.Phase.{Phase}
 use Rattle.driver_machine.specs.declared.Phase.TheVariants.{Queued, Due}
-use Rattle.driver_machine.specs.World.{World, UnitView, AdapterView, Held, adapter_of, unit_at, adapter_at, slot_at, held_in, slot_in_hand, no_unit, no_held, new_adapter_view}
+use Rattle.driver_machine.specs.World.{World, UnitView, Held, adapter_of, unit_at, adapter_at, slot_at, held_in, slot_in_hand, no_unit, no_held}
 use Rattle.driver_machine.specs.Acts as deed
 use Rattle.driver_machine.specs.Acts.{Act, Of, Deed, Scene, effect, scene_of, with_scene, after}
 use Rattle.driver_machine.specs.Due.{next_of, next_by}
@@ -16,9 +15,9 @@ use Rattle.driver_machine.specs.Guards.{InHand, May, Allowed}
 use Rattle.driver_machine.specs.Sound.{Sound, IsOutstanding, WorkOf}
 use Rattle.driver_machine.specs.DueFacts.{IsDue}
 use Rattle.driver_machine.proofs.DueFacts.{due_facts, none_some, false_true}
-use Rattle.driver_machine.proofs.Frame.{other_unit, other_adapter}
 use Rattle.driver_machine.proofs.Until.{own_unit}
 use Rattle.driver_laws.specs.invariant.InvariantKept.{EachActKeeps}
+use Rattle.driver_laws.proofs.invariant.Frame.{slot_there}
 
 -- HOW MANY REQUESTS ARE OUTSTANDING.
 abbrev pub one_by : Bool → ℕ
@@ -139,15 +138,6 @@ one_most false = omega arith
 one_less : (line u p : ℕ) (d : Deed) (s : Scene) → one_in (Some (effect line u p d s).held) + ended_by d ≤ 1
 one_less line u p (deed.End kind) s = omega arith
 one_less line u p other s = one_most (effect line u p other s).held.ended
-
-pub slot_there : (slots : List (Option Held)) (p : ℕ) (h : Held) → slice_index_or slots p None ≡ Some h → p < length slots
-slot_there slots p h is = elim (less_or p (length slots)) [
-  | inl less ↦ less
-  | inr more ↦ absurd (none_some (sym (get_or_past slots p None more) ∙ is))
-]
-  where
-    less_or : (p n : ℕ) → (p < n) ⊎ (n ≤ p)
-    less_or p n = grind arith
 
 pub fewer : (w : World) (line u : ℕ) (d : Deed) → Sound w → u < 32 → 0 < length (unit_at w u).queue
     → outstanding (after w (deed_at line u d w)) + ended_by d ≤ outstanding w

@@ -1,11 +1,8 @@
 -- A STEP OF A RETRY: a seek stays on the drive, and behind each step phase, drive and adapter hold.
-use Rattle.std.proofs.Common.{◌≡◌, inl, ℕ, zero, suc, ◌+◌, ◌<◌, ◌≤◌, Bool, true, false, List, [], ◌∷◌, drop, length, Option, Some, None, refl, sym, ap, subst, arith, rules}
-use Rattle.std.specs.Prelude.{if◌then◌else◌, ◌==◌}
+use Rattle.std.proofs.Common.{◌≡◌, inl, ℕ, zero, suc, ◌+◌, ◌<◌, ◌≤◌, List, [], ◌∷◌, drop, length, refl, sym, ap, subst, arith, rules}
 use Rattle.pack_geometry.specs.Geometry.{cylinders_of, place_at}
-use Rattle.drive_registers.specs.declared.OffsetCode.{OffsetCode}
 use Rattle.hardware_table.specs.Drive.{DriveState}
 use Rattle.trace_replay.specs.declared.retry_offsets.Step as retried
-use Rattle.trace_replay.specs.declared.retry_offsets.Step.TheVariants as retry
 use Rattle.trace_replay.specs.Schedule.{step_after}
 use Rattle.transfer_engine.specs.declared.job.Job.{Job}
 use Rattle.transfer_engine.specs.State.{TransferState, segment_of}
@@ -18,7 +15,7 @@ use Rattle.driver_machine.specs.Acts as deed
 use Rattle.driver_machine.specs.Sound.{IsDrive, IsBegun, IsPhase, IsTask, IsStill, IsMoving}
 use Rattle.driver_machine.specs.World.{transfer_of}
 use Rattle.driver_machine.specs.Guards.{May}
-use Rattle.driver_machine.specs.Due.{steps_of, steps_for, offset_steps}
+use Rattle.driver_machine.specs.Due.{steps_of, steps_for}
 use Rattle.driver_machine.specs.DueFacts.{IsDue, IsStep}
 use Rattle.driver_laws.proofs.invariant.Drives.{some_cylinder, performed-seek, drive_seek, drive_recal, drive_offset}
 use Rattle.driver_laws.proofs.invariant.Scene.{SceneOk, phase_is, same_ask, begun_as, due_of}
@@ -34,14 +31,6 @@ IsStepTo c (Offset code) = Unit {0}
 abbrev pub AreStepsTo : ℕ → List RetryStep → Type 0
 AreStepsTo c [] = Unit {0}
 AreStepsTo c (step ∷ steps) = IsStepTo c step × AreStepsTo c steps
-
-offset_to : (c : ℕ) (code : Option OffsetCode) → AreStepsTo c (offset_steps code)
-offset_to c None = tt
-offset_to c (Some code) = (tt, tt)
-
-seek_to : (b : Bool) (c : ℕ) (steps : List RetryStep) → AreStepsTo c steps → AreStepsTo c (if b then steps else Seek c ∷ steps)
-seek_to true c steps are = are
-seek_to false c steps are = (refl, are)
 
 steps_to : (c : ℕ) (step : retried.Step) → AreStepsTo c (steps_for c step)
 steps_to c step = first_of (search rules, grind arith)

@@ -1,13 +1,11 @@
 -- A drive stays one whose registers name places of it, whatever it does.
-use Rattle.std.proofs.Common.{◌≡◌, ℕ, ◌+◌, ◌%◌, ◌<◌, ◌≤◌, Bool, true, false, Some, None, refl, sym, ap, ◌∙◌, subst, arith, rules}
-use Rattle.std.specs.Prelude.{if◌then◌else◌, ◌==◌, ◌&&◌, not, bit_or, nat_lt}
-use Rattle.std.proofs.lemmas.Nat.{div-mul-add, mod-mul-add}
+use Rattle.std.proofs.Common.{◌≡◌, ℕ, ◌+◌, ◌%◌, ◌<◌, ◌≤◌, Bool, true, false, Some, None, refl, arith, rules}
+use Rattle.std.specs.Prelude.{if◌then◌else◌, ◌&&◌, not, bit_or, nat_lt}
 use Rattle.std.proofs.lemmas.Bool.Decides.{Decides-ltb}
 use Rattle.pack_geometry.specs.declared.DriveKind.{DriveKind}
 use Rattle.pack_geometry.specs.declared.DriveKind.TheVariants.{Rp06}
 use Rattle.pack_geometry.specs.declared.Place.{Place}
 use Rattle.pack_geometry.specs.Geometry.{cylinders_of, tracks_of, sectors_of, block_count, limit_of, IsInside, place_at, replacement_at, track_and_sector}
-use Rattle.drive_registers.specs.declared.Function.{Function}
 use Rattle.drive_registers.specs.declared.Function.TheVariants as function
 use Rattle.drive_registers.specs.declared.OffsetCode.{OffsetCode}
 use Rattle.drive_registers.specs.declared.OffsetCode.TheVariants as code
@@ -21,8 +19,8 @@ use Rattle.hardware_table.specs.declared.Moved.TheVariants as verdict
 use Rattle.hardware_table.specs.declared.Work.{Work}
 use Rattle.hardware_table.specs.declared.Work.TheVariants as work
 use Rattle.hardware_table.specs.declared.Register.TheVariants as register
-use Rattle.hardware_table.specs.Drive.{DriveState, on, track_in, sector_in, with_register}
-use Rattle.hardware_table.specs.Functions.{is_addressed, refusals, effect, refused, performed}
+use Rattle.hardware_table.specs.Drive.{DriveState, on, with_register}
+use Rattle.hardware_table.specs.Functions.{is_addressed, performed}
 use Rattle.hardware_table.specs.Events.{arrived_from, transfer_ended, attention_cleared, turned, fault_armed, online_set, locked_set}
 use Rattle.hardware_table.specs.Moves.{passed, after_move, with_mark_bits, with_fault_bits, fault_used}
 use Rattle.hardware_table.specs.Adapter.{AdapterState, stepped, drive_stepped, next_block}
@@ -55,34 +53,15 @@ pub sector_below : (kind : DriveKind) (n : ℕ) → n % sectors_of kind < sector
 sector_below Rp06 n = omega arith
 sector_below other n = omega arith
 
--- FUNCTIONS that are not refused are done.
-pub performed_as : (f : Function) (d : DriveState) → refusals f d ≡ 0 → performed f d ≡ effect f (record d { cs1 = function_code f })
-performed_as f d e = ap (λ n. if n == 0 then effect f (record d { cs1 = function_code f }) else refused n (record d { cs1 = function_code f })) e
-
-pub tests_true : (x y z : Bool) → x ≡ true → y ≡ true → z ≡ true → (x && (y && z)) ≡ true
-tests_true x y z e f g = rw (e, f, g) refl
-
-tests_in : (x y : Bool) → x && y ≡ true → y ≡ true
-tests_in true y e = e
-tests_in false y e = absurd (grind (arith, e))
-
 pub no_bits : (b c : Bool) (x y : ℕ) → b ≡ true → c ≡ false → bit_or (on (not b) x) (on c y) ≡ 0
 no_bits b c x y e f = rw (e, f) refl
 
 pub small_sector : (kind : DriveKind) (sector : ℕ) → sector < sectors_of kind → sector < 256
 small_sector kind sector lt = let few = (sizes_small kind).2 in omega arith
 
-pub unrefused : (d : DriveState) → is_addressed d ≡ true → on (not (is_addressed d)) bits.invalid_address_error ≡ 0
-unrefused d is = ap (λ b. on (not b) bits.invalid_address_error) is
-
 -- the registers name a sector of the drive
 pub is_addressed-addressed : (d : DriveState) (place : Place) → IsInside d.kind place → is_addressed (addressed place d) ≡ true
 is_addressed-addressed d place inside = first_of (search rules, grind arith)
-
--- a cylinder of the drive is a place of it too, on the track and the sector of before
-pub seeks_address : (d : DriveState) (cylinder : ℕ) → cylinder < cylinders_of d.kind → is_addressed d ≡ true
-    → is_addressed (with_register register.Dc cylinder d) ≡ true
-seeks_address d cylinder lt is = first_of (search rules, grind arith)
 
 pub performed-search : (d : DriveState) (place : Place) → IsInside d.kind place → performed function.Search (addressed place d)
     ≡ record d { cs1 = function_code function.Search; dc = place.cylinder; da = track_and_sector place; work = work.Positioning place.cylinder (Some place.sector) }

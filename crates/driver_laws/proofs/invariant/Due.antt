@@ -1,14 +1,13 @@
 -- What is due at a unit runs until nothing is due, and the unit is at work then.
 use Rattle.std.proofs.Common.{◌≡◌, ◌≢◌, ◌⊎◌, inl, inr, ℕ, zero, suc, ◌+◌, ◌<◌, ◌≤◌, false, List, [], ◌∷◌, length, refl, sym, ap, subst, arith, ◌∙◌, rules}
-use Rattle.std.specs.Prelude.{slice_index_or, ◌*◌}
+use Rattle.std.specs.Prelude.{◌*◌}
 use Rattle.disksort.specs.declared.Waiter.{Waiter}
 use Rattle.driver_machine.specs.declared.Phase.{Phase}
-use Rattle.driver_machine.specs.declared.Phase.TheVariants.{Waiting, Due}
 use Rattle.driver_machine.specs.World.{World, adapter_of, unit_at, adapter_at, held_in, slot_in_hand}
 use Rattle.driver_machine.specs.Acts.{Act, Of, Deed, after, after_all}
 use Rattle.driver_machine.specs.Due.{next_of, next_by}
 use Rattle.driver_machine.specs.Events.{followed, go_on, until, in_hand, in_hand_by, due_by, next_acts, due_acts, begun}
-use Rattle.driver_machine.specs.Sound.{Sound, WorkOf, is_waiting}
+use Rattle.driver_machine.specs.Sound.{Sound, WorkOf}
 use Rattle.driver_machine.proofs.Until.{IsNext, next_cases, due_over}
 use Rattle.driver_laws.specs.invariant.InvariantKept.{EachActKeeps}
 use Rattle.driver_laws.proofs.invariant.Leads.{Leads, nothing, one_more, so_too}

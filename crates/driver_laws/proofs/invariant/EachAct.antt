@@ -1,5 +1,5 @@
 -- Each act keeps what holds of units and adapters.
-use Rattle.std.proofs.Common.{◌≡◌, ◌≢◌, inl, inr, ℕ, ◌<◌, false, List, [], ◌∷◌, length, get_or-set_same, get_or-set_other, Option, Some, None, refl, sym, ap, ◌∙◌, subst, arith}
+use Rattle.std.proofs.Common.{◌≡◌, ◌≢◌, inl, inr, ℕ, ◌<◌, false, List, [], ◌∷◌, length, get_or-set_same, get_or-set_other, Option, Some, None, refl, sym, ap, ◌∙◌, subst, arith, rules}
 use Rattle.std.specs.Prelude.{unwrap_or, slice_index_or, slice_set, Contains}
 use Rattle.std.specs.Option.{option_map_or}
 use Rattle.std.proofs.lemmas.Bool.{cases_eq, false≢true}
@@ -94,12 +94,7 @@ module _ (w : World) (line p : ℕ) (h : Held) (s : Sound w) (is : IsNew w p h) 
       get_or-set_other w.slots p (slot_in_hand (unit_at w x)) (Some h) None (λ same. none-some out.held (sym is.slot ∙ (ap (slot_at w) (sym same) ∙ out.slot)))
 
   pub submit_changed : Changed w now h.unit
-  submit_changed = record {
-    units = λ x other. get_or-set_other w.units h.unit x new no_unit other;
-    adapters = λ a other. refl;
-    held = λ x small other goes. goes_slot x small goes;
-    leaves = alone h.unit (adapter_at w (adapter_of h.unit));
-  }
+  submit_changed = search (rules, get_or-set_other, new, goes_slot, alone)
 
   pub unit_new : unit_at now h.unit ≡ new
   unit_new = get_or-set_same w.units h.unit new no_unit (subst (λ n. h.unit < n) (sym s.units) lt)

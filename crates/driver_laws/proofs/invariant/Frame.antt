@@ -1,24 +1,22 @@
 -- A change at one unit: the other units and adapters hold on.
-use Rattle.std.proofs.Common.{◌≡◌, ◌≢◌, inl, inr, ℕ, zero, suc, ◌+◌, ◌<◌, ◌≤◌, Bool, true, false, List, [], ◌∷◌, length, get_or-set_same, get_or-set_other, Option, Some, None, refl, sym, ap, ◌∙◌, subst, arith, rules}
+use Rattle.std.proofs.Common.{◌≡◌, ◌≢◌, inl, inr, ℕ, zero, suc, ◌+◌, ◌<◌, ◌≤◌, false, List, [], ◌∷◌, length, get_or-set_same, get_or-set_other, Option, Some, None, sym, ap, ◌∙◌, subst, arith, rules}
 use Rattle.std.specs.Prelude.{if◌then◌else◌, unwrap_or, slice_index_or}
 use Rattle.std.specs.Int.{bit_at}
-use Rattle.std.proofs.lemmas.Bool.{cases_eq, false≢true}
+use Rattle.std.proofs.lemmas.Bool.{cases_eq}
 use Rattle.std.proofs.lemmas.Option.{none-some, same_Some}
 use Rattle.std.proofs.lemmas.List.Elements.{Contains-get_or}
 use Rattle.pack_geometry.specs.TableSpelling.{Table}
 use Rattle.hardware_table.specs.Adapter.{AdapterState}
 use Rattle.main_memory.specs.Blocks.{IsLoan}
 use Rattle.pack_geometry.specs.Geometry.{limit_of}
-use Rattle.transfer_engine.specs.State.{segment_of}
 use Rattle.driver_machine.specs.declared.Phase.{Phase}
-use Rattle.driver_machine.specs.declared.Phase.TheVariants.{Waiting, Queued}
-use Rattle.driver_machine.specs.World.{World, UnitView, AdapterView, Held, no_held, no_unit, new_adapter_view, adapter_of, drive_of, unit_on, unit_at, adapter_at, slot_at, held_in, slot_in_hand, transfer_of}
+use Rattle.driver_machine.specs.declared.Phase.TheVariants.{Queued}
+use Rattle.driver_machine.specs.World.{World, UnitView, AdapterView, Held, no_held, no_unit, new_adapter_view, adapter_of, drive_of, unit_on, unit_at, adapter_at, slot_at, held_in, slot_in_hand}
 use Rattle.driver_machine.specs.Acts.{Deed, Scene, effect, scene_of, with_scene}
 use Rattle.driver_machine.specs.Guards.{InHand, May}
 use Rattle.driver_machine.specs.Sound.{IsDrive, IsPhase, IsTableFor, IsOutstanding, UnitOk, Transfers, AdapterOk, SlotOk, Sound, is_waiting}
 use Rattle.driver_laws.proofs.invariant.Scene.{HasTransferFor, SceneOk}
 use Rattle.driver_laws.proofs.invariant.Others.{LeavesOthers, leaves_others, other_phase}
-use Rattle.driver_laws.proofs.invariant.Joins.{busy_is}
 
 -- NUMBERS of units
 pub adapter_of-unit_on : (a k : ℕ) → k < 8 → adapter_of (unit_on a k) ≡ a
@@ -54,11 +52,6 @@ pub record Changed (w now : World) (u : ℕ) : Type 0 where
   pub held : (x : ℕ) → x < 32 → x ≢ u → is_waiting (unit_at w x).phase ≡ false
       → slot_at now (slot_in_hand (unit_at w x)) ≡ slot_at w (slot_in_hand (unit_at w x))
   pub leaves : LeavesOthers u (adapter_at w (adapter_of u)) (adapter_at now (adapter_of u))
-
--- where a unit waits, its phase says nothing of a request
-waiting_any : (x : ℕ) (v : UnitView) (a : AdapterView) (g h : Held) (phase : Phase) → is_waiting phase ≡ true → IsPhase x v a g phase → IsPhase x v a h phase
-waiting_any x v a g h Waiting waits is = is
-waiting_any x v a g h other waits is = absurd (false≢true waits)
 
 pub phase_for : (x : ℕ) (v : UnitView) (a : AdapterView) (g h : Held) (phase : Phase) → (is_waiting phase ≡ false → h ≡ g) → IsPhase x v a g phase
     → IsPhase x v a h phase

@@ -1,9 +1,8 @@
 -- The request in hand of a sound world, and a deed that leaves queues, frames and answers as they were.
-use Rattle.std.proofs.Common.{◌≡◌, ◌≢◌, inl, inr, ℕ, ◌+◌, ◌<◌, ◌≤◌, Bool, true, false, List, length, length-set, Option, Some, None, sym, ap, ◌∙◌, subst, arith}
-use Rattle.std.specs.Prelude.{Contains, slice_index_or, unwrap_or}
-use Rattle.std.proofs.lemmas.Bool.{cases_eq, cases_lt, true≢false}
-use Rattle.std.proofs.lemmas.Option.{none-some, same_Some}
-use Rattle.std.proofs.lemmas.List.{get_or_past}
+use Rattle.std.proofs.Common.{◌≡◌, ◌≢◌, inl, inr, ℕ, ◌+◌, ◌<◌, ◌≤◌, true, false, List, length, length-set, Option, Some, None, sym, ap, ◌∙◌, subst, rules}
+use Rattle.std.specs.Prelude.{Contains, unwrap_or}
+use Rattle.std.proofs.lemmas.Bool.{cases_eq, true≢false}
+use Rattle.std.proofs.lemmas.Option.{same_Some}
 use Rattle.pack_geometry.specs.Geometry.{limit_of, place_at}
 use Rattle.pack_geometry.specs.declared.DriveKind.{DriveKind}
 use Rattle.main_memory.specs.Blocks.{Loan, IsLoan, size_at}
@@ -14,18 +13,12 @@ use Rattle.driver_machine.specs.declared.Phase.TheVariants.{Transferring}
 use Rattle.driver_machine.specs.World.{World, UnitView, Held, no_unit, no_held, unit_at, slot_at, held_in, slot_in_hand, block_in, adapter_of}
 use Rattle.driver_machine.specs.Acts.{Scene, scene_of, with_scene}
 use Rattle.driver_machine.specs.Guards.{InHand, IsApart}
-use Rattle.driver_machine.specs.Sound.{Among, Once, slots_of, slots_made, frames_by, frames_used, IsOutstanding, UnitOk, SlotOk, IsMade, Sound}
+use Rattle.driver_machine.specs.Sound.{Among, Once, slots_of, slots_made, IsOutstanding, UnitOk, SlotOk, IsMade, Sound}
 use Rattle.driver_laws.specs.invariant.Parts.{IsServed, AreFrames, AreAnswers}
+use Rattle.driver_laws.proofs.invariant.Frame.{slot_there}
 use Rattle.driver_laws.proofs.invariant.SlotsLists.{put_set, head_of, contains_head, Among-contained, number_of}
 use Rattle.driver_laws.proofs.invariant.Frames.{frames_at, frames_put, frames_same}
 use Rattle.driver_laws.proofs.invariant.Changed.{AreParts, Changed, Leaves, outstanding_stays, kind_stays, slots_changed, parts_changed}
-
--- a slot with a request is one of the slots
-pub slot_there : (slots : List (Option Held)) (p : ℕ) (h : Held) → slice_index_or slots p None ≡ Some h → p < length slots
-slot_there slots p h e = elim (cases_lt p (length slots)) [
-  | inl lt ↦ lt
-  | inr past ↦ absurd (none-some h (sym (get_or_past slots p None past) ∙ e))
-]
 
 -- What a deed keeps of its scene, beside the drive, the phase, the transfer, and what the buffer holds
 pub record Keeps (old new : Scene) : Type 0 where
@@ -178,20 +171,7 @@ module _ (w : World) (s : Sound w) (u id : ℕ) (i : InHand w u id) where
         }
 
     own_frames : AreFrames now
-    own_frames = record {
-      used = k.frames ∙ s.frames ∙ sym same;
-      room = subst (λ (n : ℕ). n ≤ 16384) (sym k.frames) s.room;
-    }
-      where
-        by : (a b c d : ℕ) → a + c ≡ b + d → c ≡ d → a ≡ b
-        by a b c d e f = omega (arith, e, f)
-
-        at_new : frames_at (Some new.held) ≡ frames_at (Some h)
-        at_new = ap (λ (b : Bool). frames_by b new.held) k.ended ∙ frames_same h.ended new.held h k.loan
-
-        same : frames_used now.slots ≡ frames_used w.slots
-        same = by (frames_used now.slots) (frames_used w.slots) (frames_at (slot_at w p)) (frames_at (Some new.held))
-            (frames_put w.slots p (Some new.held) hand_there) (ap frames_at in_slot ∙ sym at_new)
+    own_frames = search (rules, frames_at, frames_same, frames_put, hand_there, in_slot)
 
     own_answers : AreAnswers now
     own_answers = record {

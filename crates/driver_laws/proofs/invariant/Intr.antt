@@ -1,34 +1,17 @@
 -- THE DATA INTERRUPT: it leaves a phase that holds, and a free adapter.
-use Rattle.std.proofs.Common.{◌≡◌, ℕ, true, refl, sym, ap, ◌∙◌, subst, arith, rules}
-use Rattle.std.specs.Prelude.{if◌then◌else◌}
+use Rattle.std.proofs.Common.{ℕ, true, refl, ap, arith, rules}
 use Rattle.std.proofs.lemmas.Bool.{false≢true}
 use Rattle.hardware_table.specs.declared.Moved.{Moved}
-use Rattle.hardware_table.specs.declared.Moved.TheVariants as verdict
-use Rattle.hardware_table.specs.declared.Work.TheVariants as work
-use Rattle.hardware_table.specs.Drive.{DriveState}
-use Rattle.hardware_table.specs.Moves.{after_move}
 use Rattle.hardware_table.specs.Adapter.{AdapterState, IsAdapter, completed}
-use Rattle.transfer_engine.specs.declared.job.Segment.{Segment}
-use Rattle.transfer_engine.specs.State.{segment_of}
-use Rattle.driver_machine.specs.declared.Phase.TheVariants.{Transferring, Due}
-use Rattle.driver_machine.specs.Acts.{Scene, effect, in_phase, interrupted}
+use Rattle.driver_machine.specs.Acts.{Scene, effect, interrupted}
 use Rattle.driver_machine.specs.Acts as deed
-use Rattle.driver_machine.specs.Sound.{IsBegun, IsPhase, IsTask, IsClear, IsShown, IsStopped, IsEndedAt, IsFor}
-use Rattle.driver_machine.specs.World.{UnitView, Held, transfer_of}
+use Rattle.driver_machine.specs.Sound.{IsTask}
 use Rattle.driver_machine.specs.Guards.{May}
-use Rattle.driver_laws.proofs.invariant.Scene.{same_ask, begun_as, SceneOk, phase_is}
+use Rattle.driver_laws.proofs.invariant.Scene.{SceneOk}
 use Rattle.driver_laws.proofs.invariant.DeedFacts.{transfer_at}
 use Rattle.driver_laws.proofs.invariant.AdapterLeft.{SceneAdapter, AdapterLeft, is_queued, not_queued}
 
--- THE DATA INTERRUPT. A drive whose last verdict was clean shows no errors.
-clear_shown : (d : DriveState) (a : AdapterState) → a.verdict ≡ verdict.Clean → IsShown d a → IsClear d
-clear_shown d a last is = first_of (search rules, grind arith)
-
-interrupted_by : (moved : ℕ) (last : Moved) (v : UnitView) (h : Held) → IsBegun v h → IsStopped v.drive → (last ≡ verdict.Clean → IsClear v.drive)
-    → IsEndedAt last moved (segment_of (transfer_of v)).count → IsFor h.write last
-    → IsTask (in_phase (Due (interrupted moved last)) v) h (interrupted moved last)
-interrupted_by moved last v h h0 h1 h2 h3 h4 = first_of (search rules, grind arith)
-
+-- THE DATA INTERRUPT.
 pub intr_phase : (line u p moved : ℕ) (last : Moved) (s : Scene) → SceneOk u s → May u (deed.Intr moved last) s
     → IsTask (effect line u p (deed.Intr moved last) s).unit s.held (interrupted moved last)
 intr_phase line u p moved last s ok may = first_of (search rules, grind arith)

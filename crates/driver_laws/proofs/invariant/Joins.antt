@@ -1,5 +1,5 @@
 -- A request joins: it stands in its slot and in its unit's queue, and its frames are needed.
-use Rattle.std.proofs.Common.{◌≡◌, ◌≢◌, inl, inr, ℕ, ◌+◌, ◌<◌, ◌≤◌, Bool, true, false, length, Option, Some, None, refl, sym, ap, ◌∙◌, subst, arith, rules}
+use Rattle.std.proofs.Common.{◌≡◌, ◌≢◌, inl, inr, ℕ, ◌+◌, ◌<◌, ◌≤◌, true, false, length, Some, None, refl, sym, ap, ◌∙◌, subst, arith, rules}
 use Rattle.std.proofs.lemmas.Option.{none-some, same_Some}
 use Rattle.std.proofs.lemmas.Bool.{false≢true, true≢false}
 use Rattle.pack_geometry.specs.Geometry.{limit_of, place_at}
@@ -9,11 +9,11 @@ use Rattle.trace_replay.proofs.requests.ServiceOrderLaws.{length-queue_with}
 use Rattle.trace_replay.proofs.requests.ServiceOrderRuns.{queue_with-in_order}
 use Rattle.driver_machine.specs.declared.Phase.{Phase}
 use Rattle.driver_machine.specs.declared.Phase.TheVariants.{Transferring}
-use Rattle.driver_machine.specs.World.{World, UnitView, Held, no_unit, unit_at, slot_at, frames_of}
+use Rattle.driver_machine.specs.World.{World, UnitView, Held, no_unit, unit_at, slot_at}
 use Rattle.driver_machine.specs.Acts as acts
 use Rattle.driver_machine.specs.Acts.{after, joined, waiter_for}
 use Rattle.driver_machine.specs.Guards.{IsNew, IsApart}
-use Rattle.driver_machine.specs.Sound.{Among, slots_of, frames_by, frames_used, is_waiting, IsOutstanding, UnitOk, SlotOk, IsMade, Sound}
+use Rattle.driver_machine.specs.Sound.{Among, slots_of, is_waiting, IsOutstanding, UnitOk, SlotOk, Sound}
 use Rattle.driver_laws.specs.invariant.Parts.{IsServed, AreFrames, AreAnswers}
 use Rattle.driver_laws.proofs.invariant.SlotsLists.{put_set, number_of, cylinder_of, contained_among, with_contained, with_among, with_once, with_head}
 use Rattle.driver_laws.proofs.invariant.Frames.{frames_at, frames_put}
@@ -104,13 +104,7 @@ module _ (w : World) (s : Sound w) (line p : ℕ) (h : Held) (new : IsNew w p h)
   }
 
   own_frames : AreFrames now
-  own_frames =
-      let put = frames_put w.slots p (Some h) new.free in
-      record {
-        used = used_more w.frames (frames_used w.slots) (frames_used now.slots) (frames_of h) s.frames
-            (ap (λ (o : Option Held). frames_used now.slots + frames_at o) (sym new.slot) ∙ put ∙ ap (λ (b : Bool). frames_used w.slots + frames_by b h) new.going_on);
-        room = new.room;
-      }
+  own_frames = search (rules, frames_put, used_more, frames_at)
 
   own_answers : AreAnswers now
   own_answers = first_of (search rules, grind arith)

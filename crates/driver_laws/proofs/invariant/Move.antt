@@ -1,10 +1,10 @@
 -- RCOM AND WCOM: the segment lies on the drive and in the buffer, and behind them phase, drive and adapter hold.
-use Rattle.std.proofs.Common.{◌≡◌, inl, inr, ℕ, ◌+◌, ◌-◌, ◌*◌, ◌<◌, ◌≤◌, Bool, Option, Some, None, refl, sym, ap, ◌∙◌, subst, arith, rules}
+use Rattle.std.proofs.Common.{◌≡◌, inl, inr, ℕ, ◌+◌, ◌-◌, ◌<◌, ◌≤◌, Bool, Option, Some, None, refl, sym, ap, ◌∙◌, subst, arith, rules}
 use Rattle.std.specs.Prelude.{if◌then◌else◌}
 use Rattle.std.proofs.lemmas.Bool.{false≢true}
 use Rattle.pack_geometry.specs.Geometry.{IsInside, place_at}
 use Rattle.hardware_table.specs.Drive.{DriveState}
-use Rattle.hardware_table.specs.Adapter.{AdapterState, IsAdapter, bytes_between, loaded, started}
+use Rattle.hardware_table.specs.Adapter.{AdapterState, IsAdapter, loaded, started}
 use Rattle.main_memory.specs.Blocks.{Loan, IsLoan}
 use Rattle.transfer_engine.specs.declared.job.Job.{Job}
 use Rattle.transfer_engine.specs.declared.job.Segment.{Segment}
@@ -20,7 +20,7 @@ use Rattle.driver_machine.specs.DueFacts.{IsDue, IsAtCommand}
 use Rattle.driver_laws.proofs.invariant.Drives.{performed-transfer, drive_transfer}
 use Rattle.driver_laws.proofs.invariant.Scene.{SceneOk, phase_is, same_ask, begun_as, due_of, segment_some}
 use Rattle.driver_laws.proofs.invariant.DeedFacts.{sector_inside}
-use Rattle.driver_laws.proofs.invariant.AdapterLeft.{loaded_many, SceneAdapter, AdapterLeft}
+use Rattle.driver_laws.proofs.invariant.AdapterLeft.{SceneAdapter, AdapterLeft}
 use Rattle.driver_laws.proofs.invariant.Lists.{among_left, once_left}
 
 -- RCOM AND WCOM

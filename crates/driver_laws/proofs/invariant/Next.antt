@@ -3,7 +3,6 @@ use Rattle.std.proofs.Common.{◌≡◌, ◌≢◌, inl, inr, ℕ, zero, suc, �
 use Rattle.std.specs.Prelude.{if◌then◌else◌, ◌==◌, ◌%◌, not, ◌&&◌, ◌||◌}
 use Rattle.std.specs.Int.{bit_at}
 use Rattle.std.proofs.lemmas.Nat.Bits.{bit_at-zero, same_from_bits_below}
-use Rattle.std.proofs.lemmas.Bool.{true_from_ne_false}
 use Rattle.std.proofs.lemmas.Bool.Decides.{nat_tests}
 use Rattle.pack_geometry.specs.declared.DriveKind.{DriveKind}
 use Rattle.hardware_table.specs.declared.Work.{Work}
@@ -16,7 +15,7 @@ use Rattle.driver_machine.specs.declared.Phase.{Phase}
 use Rattle.driver_machine.specs.declared.Phase.TheVariants.{Waiting, Positioning, Queued, Transferring, Due}
 use Rattle.driver_machine.specs.World.{World, no_unit, new_adapter_view, adapter_of, drive_of, unit_on, unit_of, unit_at, adapter_at, held_in, slot_in_hand}
 use Rattle.driver_machine.specs.Events.{can_arrive, can_move, can_attend, lowest, drain_by, next_event}
-use Rattle.driver_machine.specs.Sound.{Among, IsStill, IsGoal, IsMoving, IsPhase, Sound, WorkOf, AtWork, slots_of, is_waiting}
+use Rattle.driver_machine.specs.Sound.{Among, IsStill, IsGoal, IsMoving, IsPhase, Sound, WorkOf, AtWork, slots_of}
 use Rattle.driver_machine.proofs.DueFacts.{false_true}
 use Rattle.driver_machine.specs.Runs.{CanCome, NoneOutstanding}
 use Rattle.driver_laws.proofs.invariant.Deeds.{head_of}
@@ -198,15 +197,7 @@ module _ (w : World) (sound : Sound w) (over : NoneOutstanding w) where
       false_true (sym head.going_on ∙ over _ head.held head.slot)
 
   stands_still : (u : ℕ) → u < 32 → IsStill (unit_at w u).drive
-  stands_still u lt = by_phase (unit_at w u).phase refl
-    where
-      by_phase : (x : Phase) → (unit_at w u).phase ≡ x → IsStill (unit_at w u).drive
-      by_phase Waiting e =
-          (subst (IsPhase u (unit_at w u) (adapter_at w (adapter_of u)) (held_in w (slot_in_hand (unit_at w u)))) e (sound.each_unit u lt).phase).0
-      by_phase (Positioning taken) e = absurd (no_head u lt ((sound.each_unit u lt).head (ap is_waiting e)))
-      by_phase Queued e = absurd (no_head u lt ((sound.each_unit u lt).head (ap is_waiting e)))
-      by_phase Transferring e = absurd (no_head u lt ((sound.each_unit u lt).head (ap is_waiting e)))
-      by_phase (Due task) e = absurd (no_head u lt ((sound.each_unit u lt).head (ap is_waiting e)))
+  stands_still u lt = search (rules, no_head)
 
   is_free : (a : ℕ) → a < 4 → (adapter_at w a).state.busy ≡ false
   is_free a lt = by_busy (adapter_at w a).state.busy refl

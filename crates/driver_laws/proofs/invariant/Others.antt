@@ -1,11 +1,9 @@
 -- What a deed at one unit leaves of the adapter for the others, and that their phases hold on.
-use Rattle.std.proofs.Common.{◌≡◌, ◌≢◌, ℕ, Bool, true, refl, sym, ap, subst, arith, ◌∙◌, rules}
+use Rattle.std.proofs.Common.{◌≡◌, ◌≢◌, ℕ, Bool, true, refl, sym, subst, arith, ◌∙◌, rules}
 use Rattle.std.specs.Prelude.{if◌then◌else◌}
 use Rattle.std.proofs.lemmas.Bool.{false≢true}
 use Rattle.hardware_table.specs.declared.Work.TheVariants as work
-use Rattle.hardware_table.specs.declared.Moved.{Moved}
 use Rattle.hardware_table.specs.Drive.{DriveState}
-use Rattle.hardware_table.specs.Moves.{after_move}
 use Rattle.hardware_table.specs.Adapter.{AdapterState}
 use Rattle.driver_machine.specs.declared.Phase.{Phase}
 use Rattle.driver_machine.specs.declared.Phase.TheVariants.{Waiting, Positioning, Queued, Transferring, Due}
@@ -13,7 +11,7 @@ use Rattle.driver_machine.specs.World.{UnitView, AdapterView, Held, drive_of, ad
 use Rattle.driver_machine.specs.Acts as deed
 use Rattle.driver_machine.specs.Acts.{Deed, Scene, effect}
 use Rattle.driver_machine.specs.Guards.{May}
-use Rattle.driver_machine.specs.Sound.{Among, IsPhase, IsUnderWay, IsQuiet, IsShown, late_by}
+use Rattle.driver_machine.specs.Sound.{Among, IsPhase, IsUnderWay, IsQuiet, IsShown}
 use Rattle.driver_laws.proofs.invariant.Lists.{among_more, among_rest}
 
 -- the transfer of another drive goes on

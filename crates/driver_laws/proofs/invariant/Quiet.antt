@@ -17,7 +17,7 @@ use Rattle.driver_laws.specs.invariant.Parts.{IsServed, AreFrames, AreAnswers}
 use Rattle.driver_laws.proofs.invariant.SlotsLists.{put_set, put_none, Contains-first, Contains-later}
 use Rattle.driver_laws.proofs.invariant.Frames.{frames_at, frames_put}
 use Rattle.driver_laws.proofs.invariant.Changed.{AreParts, Changed, Leaves, outstanding_stays, slots_changed, parts_changed}
-use Rattle.driver_laws.proofs.invariant.Hand.{slot_there}
+use Rattle.driver_laws.proofs.invariant.Frame.{slot_there}
 
 not_small : 32 < 32 → ⊥
 not_small lt = omega (arith, lt)

@@ -5,7 +5,7 @@ use Rattle.driver_machine.specs.declared.Phase.TheVariants.{Waiting, Queued, Due
 use Rattle.driver_machine.specs.declared.Task.TheVariants.{Steps}
 use Rattle.driver_machine.specs.Acts.{Scene, effect}
 use Rattle.driver_machine.specs.Acts as deed
-use Rattle.driver_machine.specs.Sound.{Among, IsBegun, IsPhase, IsTask, IsStill}
+use Rattle.driver_machine.specs.Sound.{IsBegun, IsPhase, IsTask, IsStill}
 use Rattle.driver_machine.specs.World.{UnitView, Held}
 use Rattle.driver_machine.specs.Guards.{May}
 use Rattle.driver_machine.specs.DueFacts.{IsDue, IsReady}

@@ -1,16 +1,13 @@
 -- A REPAIR in the buffer leaves a phase and an adapter that hold.
-use Rattle.std.proofs.Common.{ℕ, ◌+◌, ◌<◌, refl, ap, arith, rules}
+use Rattle.std.proofs.Common.{ℕ, ◌+◌, refl, ap, arith, rules}
 use Rattle.hardware_table.specs.declared.Moved.TheVariants as verdict
-use Rattle.transfer_engine.specs.State.{segment_of}
 use Rattle.driver_machine.specs.declared.Task.TheVariants.{Judge}
 use Rattle.driver_machine.specs.Acts as deed
 use Rattle.driver_machine.specs.Acts.{Scene, effect}
 use Rattle.driver_machine.specs.Sound.{IsTask}
-use Rattle.driver_machine.specs.World.{transfer_of}
 use Rattle.driver_machine.specs.Guards.{May}
 use Rattle.driver_machine.specs.DueFacts.{IsDue}
 use Rattle.driver_laws.proofs.invariant.Scene.{SceneOk, due_of}
-use Rattle.driver_laws.proofs.invariant.DeedFacts.{same_begun, judged_is}
 use Rattle.driver_laws.proofs.invariant.AdapterLeft.{SceneAdapter, AdapterLeft, is_transferring, is_queued, due_left}
 
 -- the block counts as one that moved clean

@@ -8,8 +8,7 @@ use Rattle.driver_machine.specs.Acts.{Scene, effect}
 use Rattle.driver_machine.specs.Sound.{IsDrive, IsTask}
 use Rattle.driver_machine.specs.Guards.{May}
 use Rattle.driver_laws.proofs.invariant.Drives.{drive_centred}
-use Rattle.driver_laws.proofs.invariant.Scene.{SceneOk, phase_is, due_of}
-use Rattle.driver_laws.proofs.invariant.DeedFacts.{same_begun}
+use Rattle.driver_laws.proofs.invariant.Scene.{SceneOk, due_of}
 use Rattle.driver_laws.proofs.invariant.AdapterLeft.{SceneAdapter, AdapterLeft, is_transferring, is_queued, due_left}
 
 -- RTC: no offset is left

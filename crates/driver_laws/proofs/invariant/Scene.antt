@@ -1,27 +1,23 @@
 -- What holds of the scene of a deed, and what a transfer that goes on keeps.
-use Rattle.std.proofs.Common.{◌≡◌, inl, inr, ℕ, ◌+◌, ◌<◌, ◌≤◌, Bool, true, false, Option, Some, None, refl, sym, ap, subst, arith, rules}
-use Rattle.std.specs.Prelude.{if◌then◌else◌, slice_get, unwrap_or}
-use Rattle.pack_geometry.specs.declared.DriveKind.{DriveKind}
-use Rattle.pack_geometry.specs.Geometry.{limit_of, block_count, place_at}
+use Rattle.std.proofs.Common.{◌≡◌, inl, inr, ℕ, ◌+◌, ◌<◌, ◌≤◌, Bool, true, false, Some, refl, sym, subst, arith, rules}
+use Rattle.std.specs.Prelude.{if◌then◌else◌}
+use Rattle.pack_geometry.specs.Geometry.{limit_of, block_count}
 use Rattle.pack_geometry.specs.TableSpelling.{Table}
-use Rattle.pack_geometry.specs.PackTable.{places_of}
 use Rattle.hardware_table.specs.declared.Moved.TheVariants as verdict
 use Rattle.hardware_table.specs.Moves.{was_read}
 use Rattle.hardware_table.specs.Adapter.{AdapterState, IsAdapter, next_window}
 use Rattle.main_memory.specs.Blocks.{IsLoan}
-use Rattle.transfer_engine.specs.declared.job.Job.{Job}
-use Rattle.transfer_engine.specs.State.{TransferState, IsJob, IsTransfer, segment_by, segment_of}
+use Rattle.transfer_engine.specs.State.{TransferState, IsJob, IsTransfer, segment_of}
 use Rattle.driver_machine.specs.declared.Phase.{Phase}
 use Rattle.driver_machine.specs.declared.Phase.TheVariants.{Waiting, Positioning, Queued, Transferring, Due}
 use Rattle.driver_machine.specs.declared.Task.TheVariants.{Clear, Judge, Steps, Command, GiveUp}
-use Rattle.driver_machine.specs.World.{UnitView, AdapterView, Held, transfer_of, no_transfer, job_of, drive_of, with_block_in}
+use Rattle.driver_machine.specs.World.{UnitView, AdapterView, Held, transfer_of, job_of, drive_of, with_block_in}
 use Rattle.driver_machine.specs.Acts as deed
 use Rattle.driver_machine.specs.Acts.{Deed, Scene, effect}
 use Rattle.driver_machine.specs.Guards.{IsNext}
 use Rattle.driver_machine.specs.Sound.{IsDrive, IsBegun, IsPhase, IsTableFor, IsEndedAt, IsFor}
 use Rattle.driver_machine.specs.DueFacts.{IsDue}
 use Rattle.driver_machine.proofs.DueFacts.{due_facts, chosen_facts}
-use Rattle.driver_laws.proofs.invariant.Drives.{below_limit, replacement_below}
 
 -- WHAT HOLDS OF A SCENE. Where the adapter is busy for the unit, it transfers for the request in hand.
 pub record HasTransferFor (v : UnitView) (h : Held) (a : AdapterState) : Type 0 where
@@ -82,19 +78,6 @@ effect_ask line u p (deed.End kind) s = record { first = refl; loan = refl; writ
 effect_ask line u p other s = record { first = refl; loan = refl; write = refl }
 
 -- A TRANSFER GOES ON where the transfer, the table, the drive's kind and what is asked are as before.
--- what a transfer that is begun goes by
-record BegunWith (t : Option TransferState) (table : Option Table) (kind : DriveKind) (first count : ℕ) (write : Bool) : Type 0 where
-  some : t ≡ Some (unwrap_or t no_transfer)
-  is : IsTransfer (unwrap_or t no_transfer)
-  job : (unwrap_or t no_transfer).job ≡ record { kind = kind; first = first; count = count; write = write }
-  listed : (i : ℕ) → (unwrap_or t no_transfer).index ≡ Some i
-      → slice_get (places_of table) i ≡ Some (place_at kind (first + (unwrap_or t no_transfer).done))
-
-begun_with : (t x : Option TransferState) (table other : Option Table) (kind like : DriveKind) (first count from many : ℕ) (write writes : Bool)
-    → BegunWith t table kind first count write → x ≡ t → other ≡ table → like ≡ kind → from ≡ first → many ≡ count → writes ≡ write
-    → BegunWith x other like from many writes
-begun_with t x table other kind like first count from many write writes is e f g h i j = first_of (search rules, grind arith)
-
 pub begun_as : (v x : UnitView) (h g : Held) → IsBegun v h → x.transfer ≡ v.transfer → x.table ≡ v.table → x.drive.kind ≡ v.drive.kind → IsSameAsk h g → IsBegun x g
 begun_as v x h g is transfer table kind ask = first_of (search rules, grind arith)
 
@@ -113,10 +96,6 @@ phase_held u v a h g (Due Command) ask is = (begun_as v v h g is.0 refl refl ref
 phase_held u v a h g (Due (GiveUp done)) ask is = (is.0, is.1, subst (λ l. done < l.count) (sym ask.loan) is.2)
 
 -- THE SECTORS OF A SEGMENT lie on the pack.
-segment_below : (index : Option ℕ) (job : Job) (done k : ℕ) → IsJob job → done < job.count → ((i : ℕ) → index ≡ Some i → i < 126)
-    → k < (segment_by index job done).count → (segment_by index job done).block + k < block_count job.kind
-segment_below index job done k h0 h1 h2 h3 = first_of (search rules, grind arith)
-
 pub block_below : (v : UnitView) (h : Held) (k : ℕ) → IsBegun v h → k < (segment_of (transfer_of v)).count
     → (segment_of (transfer_of v)).block + k < block_count v.drive.kind
 block_below v h k begun less = first_of (search rules, grind arith)

@@ -16,7 +16,7 @@ use Rattle.driver_machine.specs.Sound.{IsDrive, IsPhase, IsMoving}
 use Rattle.driver_machine.specs.Guards.{May}
 use Rattle.driver_machine.specs.Due.{target_of, position_of}
 use Rattle.driver_machine.specs.DueFacts.{IsDue}
-use Rattle.driver_laws.proofs.invariant.Drives.{place_inside, below_limit, sector_below, performed-search, drive_search}
+use Rattle.driver_laws.proofs.invariant.Drives.{sector_below, performed-search, drive_search}
 use Rattle.driver_laws.proofs.invariant.Scene.{SceneOk, phase_is, due_of}
 use Rattle.driver_laws.proofs.invariant.DeedFacts.{new_begun}
 use Rattle.driver_laws.proofs.invariant.AdapterLeft.{SceneAdapter, AdapterLeft, is_transferring, is_queued, due_left}

@@ -1,23 +1,19 @@
 -- A SECTOR is tried: the next one lies on the pack, and behind it phase, drive and adapter hold.
 use Rattle.std.proofs.Common.{◌≡◌, ◌≢◌, ℕ, ◌+◌, ◌<◌, ◌≤◌, Bool, true, false, List, Option, Some, None, refl, sym, ap, ◌∙◌, subst, arith, rules}
-use Rattle.std.specs.Prelude.{◌*◌, ◌-◌, if◌then◌else◌, ◌==◌, min, option_map}
-use Rattle.std.proofs.lemmas.Bool.{false≢true, eqb-true, eqb-false}
+use Rattle.std.specs.Prelude.{◌*◌, ◌-◌, if◌then◌else◌, option_map}
+use Rattle.std.proofs.lemmas.Bool.{false≢true}
 use Rattle.std.specs.Int.{bit_at}
-use Rattle.pack_geometry.specs.declared.DriveKind.{DriveKind}
-use Rattle.pack_geometry.specs.declared.DriveKind.TheVariants.{Rp06}
 use Rattle.pack_geometry.specs.Geometry.{block_count}
 use Rattle.fire_code.specs.Burst.{IsBurst}
 use Rattle.fire_code.specs.Remainder.{remainder}
 use Rattle.fire_code.proofs.Laws.{burst_begins}
-use Rattle.hardware_table.specs.declared.Armed.{Armed}
 use Rattle.hardware_table.specs.declared.FaultKind.{FaultKind}
-use Rattle.hardware_table.specs.declared.FaultKind.TheVariants as fault
 use Rattle.hardware_table.specs.declared.Moved.{Moved}
 use Rattle.hardware_table.specs.declared.Moved.TheVariants as verdict
 use Rattle.hardware_table.specs.declared.Work.TheVariants as work
 use Rattle.hardware_table.specs.Drive.{DriveState, is_writing}
 use Rattle.hardware_table.specs.Events.{transfer_ended}
-use Rattle.hardware_table.specs.Moves.{passed, after_move, with_mark_bits, with_fault_bits, fault_used, first_armed, stop_of, IsReadVerdict, IsVerdictBy, IsVerdict, was_read}
+use Rattle.hardware_table.specs.Moves.{passed, after_move, first_armed, stop_of, IsReadVerdict, IsVerdictBy, IsVerdict, was_read}
 use Rattle.hardware_table.specs.Adapter.{AdapterState, IsAdapter, bytes_between, bytes_loaded, stepped, drive_stepped, next_block, late_after, next_window}
 use Rattle.main_memory.specs.Blocks.{Loan}
 use Rattle.transfer_engine.specs.declared.job.Segment.{Segment}
@@ -28,33 +24,11 @@ use Rattle.driver_machine.specs.Acts.{Tried, Scene, effect}
 use Rattle.driver_machine.specs.Sound.{IsDrive, IsPhase, IsClear, IsUnderWay, IsEndedAt, IsBurstAt, IsFor, late_by}
 use Rattle.driver_machine.specs.World.{Held, transfer_of, drive_of, with_block_in}
 use Rattle.driver_machine.specs.Guards.{May, IsBusyFor}
-use Rattle.driver_laws.proofs.invariant.Drives.{by_if, drive_after_step}
+use Rattle.driver_laws.proofs.invariant.Drives.{drive_after_step}
 use Rattle.driver_laws.proofs.invariant.Scene.{SceneOk, phase_is, same_ask, begun_as, block_below, effect_ask}
 use Rattle.driver_laws.proofs.invariant.DeedFacts.{transfer_at}
-use Rattle.driver_laws.proofs.invariant.AdapterLeft.{loaded_many, SceneAdapter, AdapterLeft}
+use Rattle.driver_laws.proofs.invariant.AdapterLeft.{SceneAdapter, AdapterLeft}
 use Rattle.trace_replay.proofs.Kept.{stepped_kind}
-
--- A SECTOR. What a move leaves of the drive's kind, its work and its attention
-pub record IsSameBut (d e : DriveState) : Type 0 where
-  pub kind : e.kind ≡ d.kind
-  pub work : e.work ≡ d.work
-  pub attention : e.attention ≡ d.attention
-
--- a verdict names a place, errors, and the faults that are left
-same_but : {d : DriveState} {cc dc da la er1 er2 ec1 ec2 : ℕ} {armed : Armed}
-    → IsSameBut d (record d { cc = cc; dc = dc; da = da; la = la; er1 = er1; er2 = er2; ec1 = ec1; ec2 = ec2; armed = armed })
-same_but = record { kind = refl; work = refl; attention = refl }
-
-marked_same : (kind : DriveKind) (d : DriveState) → IsSameBut d (with_mark_bits kind d)
-marked_same Rp06 d = same_but
-marked_same other d = same_but
-
-faulted_same : (kind : FaultKind) (d : DriveState) → IsSameBut d (with_fault_bits kind (fault_used kind d))
-faulted_same fault.Seek d = same_but
-faulted_same other d = same_but
-
-moved_same : (v : Moved) (block : ℕ) (d : DriveState) → IsSameBut d (after_move v block d)
-moved_same v block d = first_of (search rules, grind arith)
 
 attention_stepped : (v : Moved) (a : AdapterState) (d : DriveState) → (drive_stepped v a d).attention ≡ d.attention
 attention_stepped v a d = first_of (search rules, grind arith)
@@ -140,26 +114,9 @@ pub sector_drive : (line u p block : ℕ) (t : deed.Tried) (s : Scene) → Scene
     → IsDrive (effect line u p (deed.Sector block t) s).unit.drive
 sector_drive line u p block t s ok may = drive_after_step t.verdict s.adapter.state s.unit.drive (next_below u s ok may.0) ok.drive
 
--- A SECTOR. A step takes 512 bytes, or what is left.
-still_placed : (address bytes sum : ℕ) → address + bytes ≡ sum → address + min 512 bytes + (bytes - min 512 bytes) ≡ sum
-still_placed address bytes sum e = omega arith
-
-still_counted : (bytes all moved : ℕ) → bytes ≡ all - 512 * moved → bytes - min 512 bytes ≡ all - 512 * (moved + 1)
-still_counted bytes all moved e = omega arith
-
-some_left : (n : ℕ) → (n == 0) ≡ false → 0 < n
-some_left n e = let ne : n ≢ 0 = eqb-false _ _ e in omega arith
-
-stopped_adapter : (a : AdapterState) (v : Moved) (late : Bool) → IsAdapter a → IsAdapter (record a { completion = true; verdict = v; data_late = late })
-stopped_adapter a v late k = first_of (search rules, grind arith)
-
+-- A SECTOR.
 stepped_adapter : (v : Moved) (a : AdapterState) → IsAdapter a → a.busy ≡ true → IsAdapter (stepped v a)
 stepped_adapter v a h0 h1 = first_of (search rules, grind arith)
-
--- where the completion goes up behind a clean sector, all moved
-all_moved : (bytes all moved count : ℕ) → bytes ≡ all - 512 * moved → 0 < bytes → all ≤ 512 * count → 512 * count < all + 512
-    → bytes - min 512 bytes ≡ 0 → moved + 1 ≡ count
-all_moved bytes all moved count counted some few many none = omega arith
 
 over_stepped : (v : Moved) (a : AdapterState) → IsAdapter a → a.busy ≡ true → a.completion ≡ false
     → IsEndedAt (stepped v a).verdict (stepped v a).moved (stepped v a).count

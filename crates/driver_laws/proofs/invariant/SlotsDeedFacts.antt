@@ -1,8 +1,8 @@
 -- What several deeds share: what they keep of a scene, and that the blocks of a buffer fit.
-use Rattle.std.proofs.Common.{◌≡◌, ◌≢◌, inl, inr, ℕ, Bool, true, List, length, Some, refl, sym, ap, ◌∙◌, arith, rules}
+use Rattle.std.proofs.Common.{◌≡◌, ◌≢◌, inl, inr, ℕ, Bool, true, List, length, Some, sym, ◌∙◌, arith, rules}
 use Rattle.driver_machine.specs.declared.Phase.TheVariants.{Queued, Transferring}
 use Rattle.driver_machine.specs.declared.Phase.{Phase}
-use Rattle.driver_machine.specs.World.{UnitView, AdapterView, Held, block_in}
+use Rattle.driver_machine.specs.World.{UnitView, AdapterView, Held}
 use Rattle.driver_machine.specs.Guards.{IsNext}
 use Rattle.driver_machine.specs.Acts.{Deed, Scene}
 use Rattle.driver_machine.specs.Due.{next_by}

@@ -32,7 +32,6 @@ use Rattle.driver_laws.proofs.invariant.Frames.{frames_at, frames_put}
 use Rattle.driver_laws.proofs.invariant.Changed.{AreParts, Changed, Leaves, outstanding_stays, kind_stays, slots_changed, parts_changed}
 use Rattle.driver_laws.proofs.invariant.Hand.{in_slot, hand_there, unit_ok, unit_there, slot_ok, own, going_on, mine, not_made}
 use Rattle.driver_laws.proofs.invariant.SlotsDeedFacts.{not_transferring}
-use Rattle.driver_laws.proofs.invariant.DeedFacts.{left_by}
 
 -- the phase of a unit, once it is known
 phase_is : (u : ℕ) (v : UnitView) (a : AdapterView) (h : Held) (phase : Phase) → v.phase ≡ phase → IsPhase u v a h v.phase → IsPhase u v a h phase

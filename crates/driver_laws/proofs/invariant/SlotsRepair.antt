@@ -1,17 +1,17 @@
 -- A REPAIR in the buffer: what it keeps of its scene, and that the request's blocks fit.
-use Rattle.std.proofs.Common.{◌≡◌, inl, inr, ℕ, ◌+◌, ◌<◌, true, List, [], length, get_or-set_same, get_or-set_other, length-set, refl, sym, ap, ◌∙◌, subst, arith, rules}
+use Rattle.std.proofs.Common.{◌≡◌, inl, inr, ℕ, ◌+◌, ◌<◌, true, List, [], length, get_or-set_same, get_or-set_other, sym, ap, ◌∙◌, subst, arith, rules}
 use Rattle.std.specs.Prelude.{slice_index_or, slice_set}
 use Rattle.std.proofs.lemmas.Bool.{cases_eq}
 use Rattle.driver_machine.specs.Repaired.{repaired}
 use Rattle.driver_machine.proofs.ecc_repair.Bytes.{length-repaired}
 use Rattle.main_memory.specs.Blocks.{size_at}
 use Rattle.driver_machine.specs.declared.Phase.TheVariants.{Transferring}
-use Rattle.driver_machine.specs.World.{block_in, transfer_of}
+use Rattle.driver_machine.specs.World.{transfer_of}
 use Rattle.driver_machine.specs.Guards.{May}
 use Rattle.driver_machine.specs.Acts as deed
 use Rattle.driver_machine.specs.Acts.{Scene, effect}
 use Rattle.driver_laws.proofs.invariant.Hand.{Keeps, Fits}
-use Rattle.driver_laws.proofs.invariant.SlotsDeedFacts.{kept_held, not_transferring}
+use Rattle.driver_laws.proofs.invariant.SlotsDeedFacts.{not_transferring}
 
 pub repair_keeps : (line u p moved at pattern : ℕ) (s : Scene) → Keeps s (effect line u p (deed.Repair moved at pattern) s)
 repair_keeps line u p moved at pattern s = first_of (search rules, grind arith)

@@ -1,7 +1,6 @@
 -- A SECTOR is tried: what it keeps of its scene, and that the request's blocks fit.
-use Rattle.std.proofs.Common.{◌≡◌, inl, inr, ℕ, ◌<◌, Bool, true, false, List, [], length, get_or-set_same, get_or-set_other, length-set, refl, sym, ap, ◌∙◌, subst, arith, rules}
+use Rattle.std.proofs.Common.{◌≡◌, ℕ, ◌<◌, Bool, true, false, List, [], length, refl, sym, ap, ◌∙◌, arith, rules}
 use Rattle.std.specs.Prelude.{if◌then◌else◌, slice_index_or, slice_set}
-use Rattle.std.proofs.lemmas.Bool.{cases_eq}
 use Rattle.hardware_table.specs.Moves.{was_read}
 use Rattle.hardware_table.specs.Adapter.{next_window}
 use Rattle.main_memory.specs.Blocks.{size_at}
@@ -11,8 +10,6 @@ use Rattle.driver_machine.specs.Guards.{May}
 use Rattle.driver_machine.specs.Acts as deed
 use Rattle.driver_machine.specs.Acts.{Scene, effect}
 use Rattle.driver_laws.proofs.invariant.Hand.{Keeps, Fits}
-use Rattle.driver_laws.proofs.invariant.SlotsDeedFacts.{kept_held}
-use Rattle.trace_replay.proofs.Kept.{stepped_kind}
 
 -- the blocks of a buffer of which perhaps one was put
 abbrev put_if : Bool → ℕ → List ℕ → List (List ℕ) → List (List ℕ)
@@ -22,10 +19,6 @@ held_if : (b : Bool) (k : ℕ) (block : List ℕ) (h : Held)
     → (if b then with_block_in k block h else h) ≡ record h { blocks = put_if b k block h.blocks; on_bus = h.on_bus }
 held_if true k block h = refl
 held_if false k block h = refl
-
-length-put_if : (b : Bool) (k : ℕ) (block : List ℕ) (blocks : List (List ℕ)) → length (put_if b k block blocks) ≡ length blocks
-length-put_if true k block blocks = length-set blocks k block
-length-put_if false k block blocks = refl
 
 pub sector_keeps : (line u p block : ℕ) (t : deed.Tried) (s : Scene) → Keeps s (effect line u p (deed.Sector block t) s)
 sector_keeps line u p block t s = first_of (search rules, grind arith)

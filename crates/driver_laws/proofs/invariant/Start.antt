@@ -1,28 +1,27 @@
 -- Adapter start: its fuel is never short, and behind it the adapter is busy or no unit waits for it.
 use Rattle.std.proofs.Common.{◌≡◌, ◌⊎◌, inl, inr, ℕ, zero, suc, ◌+◌, ◌-◌, ◌<◌, ◌≤◌, Bool, true, false, List, [], ◌∷◌, length, drop, Option, Some, None, refl, sym, ap, subst, arith, ◌∙◌, get_or-set_same, rules}
-use Rattle.std.specs.Prelude.{if◌then◌else◌, not, ◌&&◌, slice_index_or, unwrap_or, sum_by, ◌*◌}
+use Rattle.std.specs.Prelude.{◌&&◌, slice_index_or, unwrap_or, sum_by, ◌*◌}
 use Rattle.std.proofs.lemmas.List.{get_or_past}
 use Rattle.std.proofs.lemmas.List.Sums.{sum_by-le}
-use Rattle.std.proofs.lemmas.Bool.{not-false}
 use Rattle.drive_registers.specs.declared.Function.TheVariants as function
 use Rattle.hardware_table.specs.Functions.{performed}
 use Rattle.transfer_engine.specs.State.{segment_of}
-use Rattle.trace_replay.specs.declared.requests.answers.Cause.TheVariants as cause
 use Rattle.driver_machine.specs.declared.Phase.TheVariants.{Queued, Transferring}
 use Rattle.driver_machine.specs.World.{World, UnitView, AdapterView, Held, adapter_of, unit_at, adapter_at, slot_at, held_in, slot_in_hand, transfer_of, new_adapter_view, no_held}
 use Rattle.driver_machine.specs.Acts as deed
 use Rattle.driver_machine.specs.Acts.{Act, Deed, Scene, effect, scene_of, with_drive, after}
-use Rattle.driver_machine.specs.Due.{sensed, failed, command_of}
-use Rattle.driver_machine.specs.Events.{Part, followed, go_on, until, due_acts, begun, choose_by, choose_acts, adapter_start}
+use Rattle.driver_machine.specs.Due.{sensed, command_of}
+use Rattle.driver_machine.specs.Events.{Part, followed, go_on, until, begun, choose_by, choose_acts, adapter_start}
 use Rattle.driver_machine.specs.Guards.{May, IsChosen}
 use Rattle.driver_machine.proofs.Measure.{is_resting}
 use Rattle.driver_machine.specs.Sound.{Sound, Among, is_waiting}
-use Rattle.driver_machine.proofs.DueFacts.{either, false_true}
+use Rattle.driver_machine.proofs.DueFacts.{false_true}
 use Rattle.driver_machine.proofs.Until.{resting, until_none}
 use Rattle.driver_laws.specs.invariant.InvariantKept.{EachActKeeps}
 use Rattle.driver_laws.proofs.invariant.Leads.{Leads, nothing, one_more, then_part, so_too}
 use Rattle.driver_machine.specs.Free.{needs_free, IsFree}
-use Rattle.driver_laws.proofs.invariant.Deeds.{one_by, one_in, Doing, Done, deed_at, outstanding, ended_by, fewer, deed_done, head_of, slot_there}
+use Rattle.driver_laws.proofs.invariant.Deeds.{one_in, Doing, Done, deed_at, outstanding, ended_by, fewer, deed_done, head_of}
+use Rattle.driver_laws.proofs.invariant.Frame.{slot_there}
 use Rattle.driver_laws.proofs.invariant.Due.{UnitsWork, Rests, rests, begun_one, begun_leads}
 
 -- THE DEEDS that an adapter takes a unit with: the command, PACK in front of it, or an end

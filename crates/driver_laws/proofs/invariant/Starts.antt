@@ -1,47 +1,25 @@
 -- The world at the start is sound, and every unit and adapter is at rest.
-use Rattle.std.proofs.Common.{◌≡◌, inl, inr, ℕ, zero, suc, ◌<◌, Bool, true, false, List, [], ◌∷◌, length, set, get_or, get_or-set_same, get_or-set_other, length-set, replicate, Option, Some, None, refl, sym, ap, ◌∙◌, subst, arith, rules}
-use Rattle.std.specs.Prelude.{if◌then◌else◌, Contains}
+use Rattle.std.proofs.Common.{◌≡◌, inl, inr, ℕ, zero, suc, ◌<◌, true, false, List, [], ◌∷◌, length, set, get_or, get_or-set_same, get_or-set_other, length-set, replicate, Option, Some, None, refl, sym, ap, ◌∙◌, subst, arith, rules}
+use Rattle.std.specs.Prelude.{Contains}
 use Rattle.std.proofs.lemmas.List.{length-replicate}
-use Rattle.std.proofs.lemmas.Nat.Bits.{bit_at-zero}
 use Rattle.std.proofs.lemmas.Option.{none-some}
-use Rattle.std.proofs.lemmas.Bool.{false≢true, true≢false}
-use Rattle.pack_geometry.specs.declared.DriveKind.{DriveKind}
-use Rattle.pack_geometry.specs.declared.DriveKind.TheVariants.{Rp06}
-use Rattle.pack_geometry.specs.Geometry.{sectors_of}
+use Rattle.std.proofs.lemmas.Bool.{true≢false}
 use Rattle.pack_geometry.specs.TableSpelling.{Table}
-use Rattle.hardware_table.specs.Functions.{is_addressed}
-use Rattle.hardware_table.specs.Adapter.{IsAdapter, new_adapter}
 use Rattle.hardware_table.specs.Noise.{Book, empty_book}
-use Rattle.trace_replay.specs.Drives.{attached}
 use Rattle.trace_replay.specs.requests.ServiceOrder.{IsInOrder}
 use Rattle.trace_replay.proofs.requests.ServiceOrderRuns.{empty-in_order}
 use Rattle.disksort.specs.declared.Waiter.{Waiter}
 use Rattle.driver_machine.specs.declared.Phase.TheVariants.{Waiting}
-use Rattle.driver_machine.specs.World.{World, UnitView, AdapterView, Held, Setup, no_unit, new_unit, new_adapter_view, set_up, new_world, unit_at, adapter_at, unit_on, adapter_of, held_in, slot_in_hand}
-use Rattle.driver_machine.specs.Sound.{Among, Once, slots_of, is_waiting, IsDrive, IsStill, IsPhase, IsTableFor, UnitOk, AdapterOk, frames_used, Sound, WorkOf, AtWork}
+use Rattle.driver_machine.specs.World.{World, UnitView, AdapterView, Held, Setup, no_unit, new_unit, new_adapter_view, set_up, new_world, unit_at, adapter_at, adapter_of, held_in, slot_in_hand}
+use Rattle.driver_machine.specs.Sound.{Among, Once, slots_of, is_waiting, IsDrive, IsStill, IsPhase, IsTableFor, UnitOk, AdapterOk, frames_used, Sound, AtWork}
 use Rattle.driver_laws.specs.invariant.Parts.{units_of, AreSetups}
 use Rattle.driver_laws.proofs.invariant.SlotsLists.{Contains-none, Contains-first, Contains-later}
-use Rattle.driver_laws.proofs.invariant.Drives.{some_cylinder}
 
 -- an element of a list of one value is that value, which is the default too
 replicate_at : {A : Type 0} (n i : ℕ) (x : A) → get_or (replicate n x) i x ≡ x
 replicate_at zero i x = refl
 replicate_at (suc n) zero x = refl
 replicate_at (suc n) (suc i) x = replicate_at n i x
-
-some_sectors : (kind : DriveKind) → 0 < sectors_of kind
-some_sectors Rp06 = omega arith
-some_sectors other = omega arith
-
-first_addressed : (kind : DriveKind) (unit : ℕ) → is_addressed (attached kind unit) ≡ true
-first_addressed Rp06 unit = refl
-first_addressed other unit = refl
-
-attached_is : (kind : DriveKind) (unit : ℕ) → IsDrive (attached kind unit)
-attached_is kind unit = first_of (search rules, grind arith)
-
-attached_still : (kind : DriveKind) (unit : ℕ) → IsStill (attached kind unit)
-attached_still kind unit = record { work = refl; attention = refl; clear = record { er1 = refl; er2 = refl } }
 
 -- A UNIT AT THE START has no request, and its drive stands still.
 record IsIdle (v : UnitView) : Type 0 where
@@ -98,10 +76,6 @@ stands_at (s ∷ setups) units t zero once small lt e =
 stands_at (s ∷ setups) units t (suc k) once small lt e =
     stands_at setups (set units s.unit (new_unit s)) t k once.1 (subst (λ (n : ℕ). t.unit < n) (sym (length-set units s.unit (new_unit s))) small)
     (omega (arith, lt)) e
-
--- THE ADAPTERS
-new_adapter_is : IsAdapter new_adapter
-new_adapter_is = first_of (search rules, grind arith)
 
 no_frames : (n : ℕ) → frames_used (replicate n None) ≡ 0
 no_frames zero = refl

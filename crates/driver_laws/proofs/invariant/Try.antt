@@ -1,12 +1,11 @@
 -- A TRY FAILED: what comes next leaves a phase and an adapter that hold.
-use Rattle.std.proofs.Common.{◌≡◌, ◌≢◌, ℕ, ◌+◌, ◌<◌, ◌≤◌, Bool, true, false, List, Option, Some, None, refl, sym, ap, subst, arith, rules}
-use Rattle.std.specs.Prelude.{if◌then◌else◌, ◌==◌, not, slice_get}
+use Rattle.std.proofs.Common.{◌≡◌, ◌≢◌, ℕ, ◌+◌, ◌<◌, ◌≤◌, List, Option, Some, refl, sym, ap, subst, arith, rules}
+use Rattle.std.specs.Prelude.{not, slice_get}
 use Rattle.pack_geometry.specs.declared.DriveKind.{DriveKind}
 use Rattle.pack_geometry.specs.declared.Place.{Place}
 use Rattle.pack_geometry.specs.Geometry.{place_at}
 use Rattle.pack_geometry.specs.PackTable.{places_of}
 use Rattle.hardware_table.specs.declared.Moved.{Moved}
-use Rattle.hardware_table.specs.declared.Moved.TheVariants as verdict
 use Rattle.trace_replay.specs.declared.retry_offsets.Step as retried
 use Rattle.trace_replay.specs.declared.retry_offsets.Step.TheVariants as retry
 use Rattle.trace_replay.specs.Schedule.{step_after}
@@ -23,7 +22,6 @@ use Rattle.driver_machine.specs.World.{transfer_of}
 use Rattle.driver_machine.specs.Guards.{May}
 use Rattle.driver_machine.specs.Due.{task_for, done_with}
 use Rattle.driver_machine.specs.DueFacts.{IsDue, IsFailure}
-use Rattle.driver_machine.proofs.DueFacts.{none_some}
 use Rattle.driver_laws.proofs.invariant.Scene.{SceneOk, due_of}
 use Rattle.driver_laws.proofs.invariant.DeedFacts.{left_by, judged_is}
 use Rattle.driver_laws.proofs.invariant.AdapterLeft.{SceneAdapter, AdapterLeft, is_transferring, is_queued, due_left}

@@ -1,6 +1,5 @@
 -- Each act keeps what holds of the drive, the table and the phase of each unit.
-use Rattle.std.proofs.Common.{◌≡◌, inl, inr, ℕ, ◌<◌, Bool, true, false, List, get_or-set_same, get_or-set_other, refl, sym, ap, ◌∙◌, subst, arith, rules}
-use Rattle.std.specs.Prelude.{slice_index_or}
+use Rattle.std.proofs.Common.{◌≡◌, inl, inr, ℕ, ◌<◌, Bool, true, false, List, get_or-set_same, refl, sym, ap, ◌∙◌, subst, arith, rules}
 use Rattle.std.proofs.lemmas.Bool.{cases_eq, false≢true}
 use Rattle.hardware_table.specs.Drive.{DriveState}
 use Rattle.hardware_table.specs.Events.{turned, fault_armed, online_set, locked_set}
@@ -11,15 +10,14 @@ use Rattle.driver_machine.specs.declared.Task.{Task}
 use Rattle.driver_machine.specs.declared.Task.TheVariants.{Clear, Judge, Steps, Command, GiveUp}
 use Rattle.driver_machine.specs.declared.Phase.{Phase}
 use Rattle.driver_machine.specs.declared.Phase.TheVariants.{Waiting, Positioning, Queued, Transferring, Due}
-use Rattle.driver_machine.specs.World.{World, UnitView, AdapterView, Held, no_unit, new_adapter_view, adapter_of, unit_at, adapter_at, slot_at, held_in, slot_in_hand}
+use Rattle.driver_machine.specs.World.{World, UnitView, AdapterView, Held, no_unit, adapter_of, unit_at, adapter_at, slot_at, held_in, slot_in_hand}
 use Rattle.driver_machine.specs.Acts as deed
 use Rattle.driver_machine.specs.Acts.{Of, Deed, Scene, scene_of, with_scene, with_drive, with_unit_drive, after}
 use Rattle.driver_machine.specs.Guards.{InHand, May}
-use Rattle.driver_machine.specs.Sound.{IsDrive, IsBegun, IsPhase, IsTask, IsClear, IsStill, IsGoal, IsMoving, IsUnderWay, IsTableFor, Sound, is_waiting}
+use Rattle.driver_machine.specs.Sound.{IsDrive, IsBegun, IsPhase, IsTask, IsClear, IsStill, IsMoving, IsUnderWay, IsTableFor, Sound, is_waiting}
 use Rattle.driver_machine.proofs.Frame.{effect_same}
 use Rattle.driver_laws.proofs.invariant.Scene.{SceneOk, same_ask, begun_as}
 use Rattle.driver_laws.proofs.invariant.EachDeed.{own_phase, own_drive}
-use Rattle.driver_laws.proofs.invariant.Others.{LeavesOthers, alone}
 use Rattle.driver_laws.proofs.invariant.Frame.{Changed, HasTable, held_is, phase_for, phase_stays, drive_stays, table_stays, scene_ok, adapter_here, unit_here, slot_here}
 
 -- WHAT IS KEPT of a unit

@@ -1,22 +1,17 @@
 -- The faults that are armed at a drive, and the noise that is live: none comes but by a line of the script.
-use Rattle.std.proofs.Common.{◌≡◌, ℕ, ◌-◌, ◌==◌, Bool, true, false, List, [], ◌∷◌, Option, None, Some, option_map, refl, sym, ap, subst, arith, nat_lt, All}
+use Rattle.std.proofs.Common.{◌≡◌, ℕ, ◌-◌, Bool, true, false, List, [], ◌∷◌, Option, None, Some, option_map, refl, subst, nat_lt, All, rules}
 use Rattle.std.specs.Prelude.{if◌then◌else◌, find}
 use Rattle.std.proofs.lemmas.Option.{same_Some, none-some}
-use Rattle.std.proofs.lemmas.Bool.Decides.{nat_tests}
 use Rattle.std.proofs.lemmas.List.Elements.{All-head, All-tail}
-use Rattle.std.proofs.lemmas.Bool.{eqb-false}
-use Rattle.pack_geometry.specs.declared.DriveKind.{DriveKind}
-use Rattle.pack_geometry.specs.declared.DriveKind.TheVariants.{Rp06}
 use Rattle.pack_geometry.specs.declared.Place.{Place}
 use Rattle.pack_geometry.specs.Geometry.{place_at}
 use Rattle.fire_code.specs.Remainder.{remainder}
 use Rattle.fire_code.specs.Burst.{IsUncorrectable}
 use Rattle.drive_registers.specs.declared.Function.{Function}
 use Rattle.drive_registers.specs.declared.Function.TheVariants as function
-use Rattle.drive_registers.specs.Codes.{function_code, offset_code}
+use Rattle.drive_registers.specs.Codes.{offset_code}
 use Rattle.hardware_table.specs.declared.Armed.{Armed}
 use Rattle.hardware_table.specs.declared.FaultKind.{FaultKind}
-use Rattle.hardware_table.specs.declared.FaultKind.TheVariants as fault
 use Rattle.hardware_table.specs.declared.Moved.{Moved}
 use Rattle.hardware_table.specs.declared.Moved.TheVariants as verdict
 use Rattle.hardware_table.specs.declared.Register.TheVariants as register
@@ -24,80 +19,29 @@ use Rattle.hardware_table.specs.declared.Work.{Work}
 use Rattle.hardware_table.specs.declared.Work.TheVariants as work
 use Rattle.hardware_table.specs.Drive.{DriveState, with_register}
 use Rattle.hardware_table.specs.Adapter.{AdapterState, stepped, next_block}
-use Rattle.hardware_table.specs.Events.{arrived_from, transfer_ended, times_armed, with_times}
-use Rattle.hardware_table.specs.Functions.{performed, refusals, effect, refused}
-use Rattle.hardware_table.specs.Moves.{after_move, with_fault_bits, fault_used, with_mark_bits, first_armed, fault_order, stop_of, IsVerdictBy}
+use Rattle.hardware_table.specs.Events.{arrived_from, transfer_ended, times_armed}
+use Rattle.hardware_table.specs.Functions.{performed}
+use Rattle.hardware_table.specs.Moves.{after_move, first_armed, stop_of, IsVerdictBy}
 use Rattle.hardware_table.specs.Noise.{LiveNoise, is_at, oldest, flips, is_ended_by}
 use Rattle.trace_replay.specs.Moments.{Deed, Search, Seek, Recal, Offset, Centre, Clear, Pack, Transfer, Arrive, Sector}
 use Rattle.trace_replay.specs.Drives.{drive_after, addressed, search_place, offset_written, transfer_function}
-use Rattle.driver_laws.proofs.rules.Queues.{same}
 
 -- ---- no line of the trace arms a fault
 abbrev pub IsLess : Armed → Armed → Type 0
 IsLess new old = (kind : FaultKind) → nat_lt 0 (times_armed kind new) ≡ true → nat_lt 0 (times_armed kind old) ≡ true
 
-by_less : (n : ℕ) → nat_lt 0 (n - 1) ≡ true → nat_lt 0 n ≡ true
-by_less n is = grind (arith, nat_tests)
-
-used_less : (k j : FaultKind) (a : Armed) → nat_lt 0 (times_armed j (with_times k (times_armed k a - 1) a)) ≡ true → nat_lt 0 (times_armed j a) ≡ true
-used_less fault.Seek fault.Seek a is = by_less (times_armed fault.Seek a) is
-used_less fault.Seek fault.Opi a is = is
-used_less fault.Seek fault.Dte a is = is
-used_less fault.Seek fault.Hcrc a is = is
-used_less fault.Seek fault.Late a is = is
-used_less fault.Opi fault.Seek a is = is
-used_less fault.Opi fault.Opi a is = by_less (times_armed fault.Opi a) is
-used_less fault.Opi fault.Dte a is = is
-used_less fault.Opi fault.Hcrc a is = is
-used_less fault.Opi fault.Late a is = is
-used_less fault.Dte fault.Seek a is = is
-used_less fault.Dte fault.Opi a is = is
-used_less fault.Dte fault.Dte a is = by_less (times_armed fault.Dte a) is
-used_less fault.Dte fault.Hcrc a is = is
-used_less fault.Dte fault.Late a is = is
-used_less fault.Hcrc fault.Seek a is = is
-used_less fault.Hcrc fault.Opi a is = is
-used_less fault.Hcrc fault.Dte a is = is
-used_less fault.Hcrc fault.Hcrc a is = by_less (times_armed fault.Hcrc a) is
-used_less fault.Hcrc fault.Late a is = is
-used_less fault.Late fault.Seek a is = is
-used_less fault.Late fault.Opi a is = is
-used_less fault.Late fault.Dte a is = is
-used_less fault.Late fault.Hcrc a is = is
-used_less fault.Late fault.Late a is = by_less (times_armed fault.Late a) is
-
 same_armed : (new old : DriveState) → new.armed ≡ old.armed → IsLess new.armed old.armed
 same_armed new old is kind e = subst (λ z. nat_lt 0 (times_armed kind z) ≡ true) is e
 
-effect_armed : (f : Function) (d : DriveState) → (effect f d).armed ≡ d.armed
-effect_armed function.Nop d = refl
-effect_armed other d = refl
-
-armed_of_either : (b : Bool) (x y : DriveState) (c : Armed) → x.armed ≡ c → y.armed ≡ c → (if b then x else y).armed ≡ c
-armed_of_either true x y c p q = p
-armed_of_either false x y c p q = q
-
 pub performed_armed : (f : Function) (d : DriveState) → (performed f d).armed ≡ d.armed
-performed_armed f d =
-    armed_of_either (refusals f d == 0) (effect f (record d { cs1 = function_code f })) (refused (refusals f d) (record d { cs1 = function_code f })) d.armed
-    (effect_armed f (record d { cs1 = function_code f })) refl
+performed_armed f d = search rules
 
 pub arrived_armed : (w : Work) (d : DriveState) → (arrived_from w d).armed ≡ d.armed
 arrived_armed work.Ready d = refl
 arrived_armed other d = refl
 
-pub bits_armed : (k : FaultKind) (d : DriveState) → (with_fault_bits k d).armed ≡ d.armed
-bits_armed fault.Seek d = refl
-bits_armed other d = refl
-
-pub marks_armed : (kind : DriveKind) (d : DriveState) → (with_mark_bits kind d).armed ≡ d.armed
-marks_armed Rp06 d = refl
-marks_armed other d = refl
-
 moved_less : (v : Moved) (block : ℕ) (d : DriveState) → IsLess (after_move v block d).armed d.armed
-moved_less (verdict.Faulted k) block d = λ kind e. used_less k kind d.armed (subst (λ z. nat_lt 0 (times_armed kind z) ≡ true) (bits_armed k (fault_used k d)) e)
-moved_less verdict.Marked block d = same_armed (with_mark_bits d.kind d) d (marks_armed d.kind d)
-moved_less other block d = λ kind e. e
+moved_less v block d = search rules
 
 less_of_either : (b : Bool) (x : DriveState) (old : Armed) → IsLess x.armed old → IsLess (if b then transfer_ended x else x).armed old
 less_of_either true x old is = is
@@ -121,40 +65,15 @@ line_arms_none d a target (Sector b v) = less_of_either (stepped v a).completion
 line_arms_none d a target other = λ kind e. e
 
 -- ---- what a verdict tells
-tag : Moved → ℕ
-tag verdict.Clean = 0
-tag (verdict.Burst at q) = 1
-tag verdict.Hard = 2
-tag (verdict.Faulted k) = 3
-tag verdict.Marked = 4
-tag verdict.Offline = 5
-
 -- how a drive stops: it is offline, or a fault is armed
 stop_tag : (b : Bool) (f : Option FaultKind) → (if b then option_map verdict.Faulted f else Some verdict.Offline) ≡ Some verdict.Offline → b ≡ false
-unfolding tag
-stop_tag true None is = absurd (none-some verdict.Offline is)
-stop_tag true (Some k) is = absurd (eqb-false 3 5 refl (ap tag (same_Some (verdict.Faulted k) verdict.Offline is)))
-stop_tag false f is = refl
+stop_tag b f is = search rules
 
 offline_by : (stop : Option Moved) (marked write : Bool) (places : Option (List ℕ)) → IsVerdictBy stop marked write places verdict.Offline → stop ≡ Some verdict.Offline
-unfolding tag
-offline_by (Some stop) marked write places is = ap Some (sym is)
-offline_by None true write places is = absurd (eqb-false 5 4 refl (ap tag is))
-offline_by None false true places is = absurd (eqb-false 5 0 refl (ap tag is))
-offline_by None false false None is = absurd (eqb-false 5 0 refl (ap tag is))
-offline_by None false false (Some places) is = absurd is
+offline_by stop marked write places is = search rules
 
 pub offline_verdict : (d : DriveState) (marked write : Bool) (places : Option (List ℕ)) → IsVerdictBy (stop_of d) marked write places verdict.Offline → d.online ≡ false
 offline_verdict d marked write places is = stop_tag d.online (first_armed d.armed) (offline_by (stop_of d) marked write places is)
-
--- a fault that strikes is armed
-pub fault_by : (stop : Option Moved) (k : FaultKind) (marked write : Bool) (places : Option (List ℕ)) → IsVerdictBy stop marked write places (verdict.Faulted k) → stop ≡ Some (verdict.Faulted k)
-unfolding tag
-fault_by (Some stop) k marked write places is = ap Some (sym is)
-fault_by None k true write places is = absurd (eqb-false 3 4 refl (ap tag is))
-fault_by None k false true places is = absurd (eqb-false 3 0 refl (ap tag is))
-fault_by None k false false None is = absurd (eqb-false 3 0 refl (ap tag is))
-fault_by None k false false (Some places) is = absurd is
 
 -- some fault is armed where the first one is found
 pub find_first : {T : Type 0} (p : T → Bool) (P : T → Type 0) (xs : List T) (x : T) → All P xs → find p xs ≡ Some x → P x × (p x ≡ true)
@@ -165,37 +84,17 @@ find_first p P (y ∷ ys) x all is = at (p y) refl (find_first p P ys x (All-tai
     at true e rest found = (subst P (same_Some y x found) (All-head P y ys all), subst (λ z. p z ≡ true) (same_Some y x found) e)
     at false e rest found = rest found
 
-nothing : (xs : List FaultKind) → All (λ (k : FaultKind). Unit {0}) xs
-nothing xs = λ k d lt. tt
-
-stop_fault : (b : Bool) (f : Option FaultKind) (k : FaultKind) → (if b then option_map verdict.Faulted f else Some verdict.Offline) ≡ Some (verdict.Faulted k) → (j : FaultKind) × (f ≡ Some j)
-unfolding tag
-stop_fault true None k is = absurd (none-some (verdict.Faulted k) is)
-stop_fault true (Some j) k is = (j, refl)
-stop_fault false f k is = absurd (eqb-false 5 3 refl (ap tag (same_Some verdict.Offline (verdict.Faulted k) is)))
-
 pub faulted_verdict : (d : DriveState) (k : FaultKind) (marked write : Bool) (places : Option (List ℕ)) → IsVerdictBy (stop_of d) marked write places (verdict.Faulted k)
     → (j : FaultKind) × (nat_lt 0 (times_armed j d.armed) ≡ true)
-faulted_verdict d k marked write places is = (armed.0, (find_first (λ (kind : FaultKind). nat_lt 0 (times_armed kind d.armed)) (λ j. Unit {0}) fault_order armed.0 (nothing fault_order) armed.1).1)
-  where
-    armed : (j : FaultKind) × (first_armed d.armed ≡ Some j)
-    armed = stop_fault d.online (first_armed d.armed) k (fault_by (stop_of d) k marked write places is)
+faulted_verdict d k marked write places is = search rules
 
 -- a hard verdict is that of noise which shows
 pub hard_stop : (b : Bool) (f : Option FaultKind) → (if b then option_map verdict.Faulted f else Some verdict.Offline) ≡ Some verdict.Hard → ⊥
-unfolding tag
-hard_stop true None is = none-some verdict.Hard is
-hard_stop true (Some j) is = eqb-false 3 2 refl (ap tag (same_Some (verdict.Faulted j) verdict.Hard is))
-hard_stop false f is = eqb-false 5 2 refl (ap tag (same_Some verdict.Offline verdict.Hard is))
+hard_stop b f is = search rules
 
 hard_by : (stop : Option Moved) (marked write : Bool) (places : Option (List ℕ)) → (stop ≡ Some verdict.Hard → ⊥) → IsVerdictBy stop marked write places verdict.Hard
     → (shown : List ℕ) × (places ≡ Some shown) × IsUncorrectable (remainder shown)
-unfolding tag
-hard_by (Some stop) marked write places never is = absurd (never (ap Some (sym is)))
-hard_by None true write places never is = absurd (eqb-false 2 4 refl (ap tag is))
-hard_by None false true places never is = absurd (eqb-false 2 0 refl (ap tag is))
-hard_by None false false None never is = absurd (eqb-false 2 0 refl (ap tag is))
-hard_by None false false (Some places) never is = (places, refl, is)
+hard_by stop marked write places never is = search rules
 
 pub hard_verdict : (d : DriveState) (marked write : Bool) (places : Option (List ℕ)) → IsVerdictBy (stop_of d) marked write places verdict.Hard
     → (shown : List ℕ) × (places ≡ Some shown) × IsUncorrectable (remainder shown)

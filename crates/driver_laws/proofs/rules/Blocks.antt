@@ -1,6 +1,6 @@
 -- Blocks, homes and bytes: what is done of a request, block by block.
-use Rattle.std.proofs.Common.{◌==◌, ◌≡◌, ◌≢◌, ℕ, zero, suc, ◌≤◌, ◌+◌, ◌-◌, ◌*◌, ◌&&◌, nat_le, nat_lt, Bool, true, false, List, [], ◌∷◌, ◌++◌, length, take, drop, replicate, Option, None, Some, refl, ap, arith, length-append, ◌<◌, ◌∙◌}
-use Rattle.std.specs.Prelude.{is_some, if◌then◌else◌}
+use Rattle.std.proofs.Common.{◌≡◌, ◌≢◌, ℕ, zero, suc, ◌≤◌, ◌+◌, ◌-◌, ◌*◌, ◌&&◌, nat_le, nat_lt, Bool, true, false, List, [], ◌∷◌, ◌++◌, length, take, drop, replicate, Option, None, Some, refl, ap, arith, length-append, ◌<◌, ◌∙◌, rules}
+use Rattle.std.specs.Prelude.{is_some}
 use Rattle.std.proofs.lemmas.Bool.Decides.{nat_tests}
 use Rattle.std.proofs.lemmas.Bool.{eq-eqb, ne_eqb, true≢false}
 use Rattle.std.proofs.lemmas.List.{length-take-le, length-replicate}
@@ -16,9 +16,6 @@ not_done first n = grind (arith, nat_tests)
 
 pub none_done : (first b : ℕ) → nat_le first b && nat_lt b (first + 0) ≡ false
 none_done first b = grind (arith, nat_tests)
-
-pub next_done : (first n : ℕ) → nat_le first (first + n) && nat_lt (first + n) (first + (n + 1)) ≡ true
-next_done first n = grind (arith, nat_tests)
 
 pub other_done : (first n b : ℕ) → b ≢ first + n → nat_le first b && nat_lt b (first + (n + 1)) ≡ nat_le first b && nat_lt b (first + n)
 other_done first n b ne = grind (arith, nat_tests)
@@ -38,10 +35,7 @@ pub read_blocks : (blocks : Blocks) (first : ℕ) (r : Request) (n b : ℕ) → 
 read_blocks blocks first r n b reads = rw reads refl
 
 pub block_done : (blocks : Blocks) (first : ℕ) (r : Request) (n : ℕ) → is_some r.written ≡ true → blocks_done blocks first r (n + 1) (first + n) ≡ Some (sector_of_block r n)
-block_done blocks first r n writes = rw (writes, next_done first n) (ap (λ k. Some (sector_of_block r k)) (back first n))
-  where
-    back : (first n : ℕ) → first + n - first ≡ n
-    back first n = omega arith
+block_done blocks first r n writes = search rules
 
 pub other_blocks : (blocks : Blocks) (first : ℕ) (r : Request) (n b : ℕ) → b ≢ first + n → blocks_done blocks first r (n + 1) b ≡ blocks_done blocks first r n b
 other_blocks blocks first r n b ne = rw (other_done first n b ne) refl
@@ -49,10 +43,7 @@ other_blocks blocks first r n b ne = rw (other_done first n b ne) refl
 -- ---- the bytes of one block more
 pub next_bytes : (n : ℕ) (blocks : Blocks) (first : ℕ) (r : Request)
     → bytes_of_first (n + 1) blocks first r ≡ bytes_of_first n blocks first r ++ take (size_of_block r n) (bytes_or_none (blocks (first + n)))
-next_bytes n blocks first r = ap (λ k. bytes_of_first k blocks first r) (more n)
-  where
-    more : (n : ℕ) → n + 1 ≡ suc n
-    more n = omega arith
+next_bytes n blocks first r = search rules
 
 -- ---- options
 pub not_written : (w : Option (List ℕ)) → is_some w ≡ false → w ≡ None
@@ -74,11 +65,7 @@ sector_full r k = filled 512 (take (size_of_block r k) (drop (512 * k) (bytes_of
 
 -- ---- how many bytes a request asks for
 pub size_small : (r : Request) (k : ℕ) → r.last ≤ 512 → size_of_block r k ≤ 512
-size_small r k few = at (k + 1 == r.count)
-  where
-    at : (b : Bool) → (if b then r.last else 512) ≤ 512
-    at true = few
-    at false = omega arith
+size_small r k few = search rules
 
 inner_size : (n : ℕ) (r : Request) → n < r.count → size_of_first n r ≡ 512 * n
 inner_size zero r lt = refl
@@ -91,20 +78,7 @@ inner_size (suc n) r lt = rw (ne_eqb (n + 1) r.count (last n r.count lt)) (more 
     more a n e = omega (arith, e)
 
 pub whole_size : (r : Request) → 1 ≤ r.count → size_of_first r.count r ≡ 512 * (r.count - 1) + r.last
-whole_size r some = at r.count refl some
-  where
-    at : (c : ℕ) → c ≡ r.count → 1 ≤ c → size_of_first c r ≡ 512 * (c - 1) + r.last
-    at zero is some = absurd (omega (arith, some))
-    at (suc n) is some = rw (eq-eqb (n + 1) r.count (next n r.count is)) (more (size_of_first n r) n r.last (inner_size n r (below n r.count is)))
-      where
-        next : (n c : ℕ) → suc n ≡ c → n + 1 ≡ c
-        next n c e = omega (arith, e)
-
-        below : (n c : ℕ) → suc n ≡ c → n < c
-        below n c e = omega (arith, e)
-
-        more : (a n last : ℕ) → a ≡ 512 * n → a + last ≡ 512 * (suc n - 1) + last
-        more a n last e = omega (arith, e)
+whole_size r some = search (rules, eq-eqb, inner_size)
 
 -- ---- reads and repairs give as many bytes
 

@@ -1,22 +1,21 @@
 -- A calm replay stays so.
-use Rattle.std.proofs.Common.{◌≡◌, ℕ, ◌==◌, Bool, true, false, List, [], ◌∷◌, None, Some, refl, sym, ap, subst, ◌∙◌}
+use Rattle.std.proofs.Common.{◌≡◌, ℕ, Bool, true, false, [], ◌∷◌, None, Some, refl, sym, subst, rules}
 use Rattle.std.specs.Prelude.{if◌then◌else◌}
 use Rattle.std.proofs.lemmas.Bool.{false≢true}
 use Rattle.hardware_table.specs.declared.Moved.{Moved}
-use Rattle.hardware_table.specs.Drive.{DriveState, is_writing}
+use Rattle.hardware_table.specs.Drive.{DriveState}
 use Rattle.hardware_table.specs.Events.{turned}
-use Rattle.hardware_table.specs.Moves.{stop_of, IsVerdictBy, was_read, was_written}
-use Rattle.hardware_table.specs.Noise.{LiveNoise, strikes, after_strike}
-use Rattle.trace_replay.specs.requests.Requests.{Request, Answer, Rejection, AtEnd, Beyond, FramesShort, rejection_answer}
-use Rattle.trace_replay.specs.Script.{Input, Submit, Turn, Noise, Arm, SetOnline, SetLocked}
-use Rattle.trace_replay.specs.Moments.{Deed, Sector, End, Played, Told, Idle}
-use Rattle.trace_replay.specs.Packs.{Surface, VerdictMay, flips_at, surface_read, surface_written}
+use Rattle.hardware_table.specs.Moves.{stop_of, IsVerdictBy}
+use Rattle.trace_replay.specs.requests.Requests.{Request, Answer, Rejection, rejection_answer}
+use Rattle.trace_replay.specs.Script.{Input}
+use Rattle.trace_replay.specs.Moments.{Deed, End, Played, Told, Idle}
+use Rattle.trace_replay.specs.Packs.{VerdictMay}
 use Rattle.trace_replay.specs.Service.{head_of, in_hand, target_of}
 use Rattle.trace_replay.specs.Conversation.{Stage, Waiting}
 use Rattle.trace_replay.specs.Events.{Event, Wish, Refusal}
-use Rattle.trace_replay.specs.Replay.{Replay, UnitSeen, with_state, at_unit, hand_of, next_wish, ToldMay, unit_after, surface_after, replay_told, after_moment, Submission, Refused, Joined, submission, submitted, stage_joined, unit_joined, replay_played}
+use Rattle.trace_replay.specs.Replay.{Replay, UnitSeen, with_state, at_unit, hand_of, next_wish, ToldMay, unit_after, surface_after, replay_told, after_moment, Submission, Refused, Joined, submitted, stage_joined, unit_joined, replay_played}
 use Rattle.trace_replay.proofs.Unchanged.{told_keeps}
-use Rattle.driver_laws.specs.rules.Calm.{IsGood, is_calm_verdict, is_calm_stage, IsCalm, is_calm_input, is_calm_moment, are_calm, IsCalmEnd, is_refused_at_once, StaysCalm, RunsStayCalm, EndsAreCalm}
+use Rattle.driver_laws.specs.rules.Calm.{IsGood, is_calm_verdict, is_calm_stage, IsCalm, is_calm_input, is_calm_moment, are_calm, IsCalmEnd, StaysCalm, RunsStayCalm, EndsAreCalm}
 use Rattle.driver_laws.proofs.rules.Drives.{either_good, IsCalmDeed, after_good}
 use Rattle.driver_laws.proofs.rules.WaitedStages.{begun_calm, stage_calm, end_calm}
 use Rattle.driver_laws.proofs.rules.Stages.{first_of, second_of}
@@ -31,36 +30,15 @@ verdict_by false true v is = rw is refl
 verdict_by false false v is = rw is refl
 
 verdict_calm : (s : Replay) (unit : ℕ) (deed : Deed) → IsCalm s → VerdictMay s.surface unit (s.units unit).drive deed → IsCalmDeed deed
-verdict_calm s unit (Sector block v) calm may =
-    verdict_by (s.surface.is_marked unit block) (is_writing (s.units unit).drive.work) v
-    (subst (λ z. IsVerdictBy None (s.surface.is_marked unit block) (is_writing (s.units unit).drive.work) z v)
-    (ap (λ (z : List LiveNoise). strikes unit block (s.units unit).drive.offset z) calm.live)
-    (subst (λ z. IsVerdictBy z (s.surface.is_marked unit block) (is_writing (s.units unit).drive.work) (flips_at s.surface unit (s.units unit).drive block) v)
-    (stopped_not (s.units unit).drive (calm.drives unit)) may))
-verdict_calm s unit other calm may = tt
+verdict_calm s unit deed calm may = search rules
 
 -- ---- one unit is replaced
 each_unit : (P : UnitSeen → Type 0) (units : ℕ → UnitSeen) (k : ℕ) (u : UnitSeen) (x : ℕ) → P u → P (units x) → P (with_state units k u x)
-each_unit P units k u x mine other = by (x == k)
-  where
-    by : (b : Bool) → P (Rattle.trace_replay.specs.Replay.this_or b u units x)
-    by true = mine
-    by false = other
+each_unit P units k u x mine other = search rules
 
 -- ---- noise
-read_by : (b : Bool) (s : Surface) (unit : ℕ) (d : DriveState) (block : ℕ) → s.live ≡ [] → (surface_read b s unit d block).live ≡ []
-read_by true s unit d block none = ap (after_strike unit block d.offset) none
-read_by false s unit d block none = none
-
-written_by : (b : Bool) (s : Surface) (unit block : ℕ) (r : Request) (k : ℕ) → s.live ≡ [] → (surface_written b s unit block r k).live ≡ []
-written_by true s unit block r k none = none
-written_by false s unit block r k none = none
-
 live_calm : (s : Replay) (unit : ℕ) (deed : Deed) → s.surface.live ≡ [] → (surface_after s unit deed).live ≡ []
-live_calm s unit (Sector block v) none =
-    written_by (was_written (s.units unit).drive v) (surface_read (was_read (s.units unit).drive v) s.surface unit (s.units unit).drive block) unit block
-    (in_hand (s.units unit).service) (s.units unit).progress.done (read_by (was_read (s.units unit).drive v) s.surface unit (s.units unit).drive block none)
-live_calm s unit other none = none
+live_calm s unit deed none = search rules
 
 -- ---- a line of a unit
 unit_good : (s : Replay) (unit : ℕ) (deed : Deed) → IsCalmDeed deed → IsCalm s → IsGood (unit_after s unit deed).drive
@@ -105,17 +83,7 @@ turned_good : (b : Bool) (sector : ℕ) (d : DriveState) → IsGood d → IsGood
 turned_good b sector d g = either_good b (turned sector d) d g g
 
 pub played_calm : (s : Replay) (input : Input) → is_calm_input input ≡ true → IsCalm s → IsCalm (replay_played s input)
-played_calm s (Submit r) is calm = submitted_calm s r (submission s r) calm
-played_calm s (Turn u sector) is calm = record {
-  drives = λ x. turned_good (x == u) sector (s.units x).drive (calm.drives x);
-  stages = calm.stages;
-  live = calm.live;
-}
-played_calm s (Noise noise) is calm = absurd (false≢true is)
-played_calm s (Arm u kind times) is calm = absurd (false≢true is)
-played_calm s (SetOnline u on) is calm = absurd (false≢true is)
-played_calm s (SetLocked u on) is calm = absurd (false≢true is)
-played_calm s other is calm = calm
+played_calm s input is calm = search (rules, submitted_calm, turned_good, false≢true)
 
 -- ---- ALL OF IT
 pub stays_calm : StaysCalm
@@ -132,15 +100,7 @@ runs_stay_calm s (m ∷ ms) follows are calm =
     (stays_calm s m follows.0 (first_of (is_calm_moment m) (are_calm ms) are) calm)
 
 refused_end : (answer : Answer) (why : Rejection) → End answer ≡ End (rejection_answer why) → IsCalmEnd answer
-refused_end answer why is none = absurd (false≢true (sym (subst (λ z. is_refused_at_once z ≡ false) (same answer (rejection_answer why) is) none) ∙ refusal why))
-  where
-    same : (x y : Answer) → End x ≡ End y → x ≡ y
-    same x y e = cc
-
-    refusal : (why : Rejection) → is_refused_at_once (rejection_answer why) ≡ true
-    refusal AtEnd = refl
-    refusal Beyond = refl
-    refusal FramesShort = refl
+refused_end answer why is none = search rules
 
 end_by : (wish : Wish) (s : Replay) (line unit id : ℕ) (answer : Answer) → IsCalm s → ToldMay wish s line unit id (End answer) → IsCalmEnd answer
 end_by (Refusal u i why) s line unit id answer calm may none = refused_end answer why may.answered none

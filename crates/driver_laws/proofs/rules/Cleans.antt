@@ -6,6 +6,7 @@ use Rattle.std.proofs.lemmas.Option.{none-some, same_Some}
 use Rattle.std.proofs.lemmas.Bool.Decides.{eqb_tells}
 use Rattle.std.proofs.lemmas.List.Elements.{Contains-append_left, Contains-append_right, Contains-push}
 use Rattle.std.proofs.lemmas.Bool.{false≢true}
+use borrow.Author.Count.{below_more}
 use Rattle.pack_geometry.specs.declared.DriveKind.{DriveKind}
 use Rattle.pack_geometry.specs.Geometry.{limit_of}
 use Rattle.pack_geometry.specs.PackTable.{AreTablesOf}
@@ -59,12 +60,6 @@ AreClean setup all s = (unit : ℕ) → UnitClean setup all unit (s.units unit)
 pub none_below : (k : ℕ) → k < 0 → ⊥
 none_below k lt = omega (arith, lt)
 
-one_more : (P : ℕ → Type 0) (n k : ℕ) → k < n + 1 → ((j : ℕ) → j < n → P j) → P n → P k
-one_more P n k lt below here = elim (eqb_tells k n) [
-  | inl same ↦ subst P (sym same.1) here
-  | inr other ↦ below k (omega (arith, lt, other.1))
-]
-
 -- the same blocks are done
 kept : (setup : Setup) (all : List Moment) (unit : ℕ) (u : UnitSeen) (d : DriveState) (stage : Stage) (p : Progress) → d.kind ≡ u.drive.kind → p.done ≡ u.progress.done → UnitClean setup all unit u
     → UnitClean setup all unit (record { drive = d; service = u.service; stage = stage; progress = p; table = u.table })
@@ -84,7 +79,7 @@ tried_clean : (setup : Setup) (all : List Moment) (line unit id block : ℕ) (v 
     → (v ≡ verdict.Clean → home_in setup unit (first + p.done) ≡ Some block) → Contains all (Told line unit id (Sector block v))
     → ((k : ℕ) → k < p.done → MovedClean setup unit (first + k) all) → (k : ℕ) → k < (progress_tried v bytes p).done → MovedClean setup unit (first + k) all
 tried_clean setup all line unit id block verdict.Clean first bytes p calm home there clean k lt =
-    one_more (λ j. MovedClean setup unit (first + j) all) p.done k lt clean (record { sector = block; home = home refl; line = line; id = id; moved = there })
+    below_more (λ j. MovedClean setup unit (first + j) all) p.done clean (record { sector = block; home = home refl; line = line; id = id; moved = there }) k lt
 tried_clean setup all line unit id block (verdict.Burst at q) first bytes p calm home there clean k lt = absurd (false≢true calm)
 tried_clean setup all line unit id block other first bytes p calm home there clean k lt = clean k lt
 

@@ -1,8 +1,8 @@
 -- A request takes at most 300 commands for each of its blocks.
-use Rattle.std.proofs.Common.{◌≡◌, ℕ, ◌+◌, ◌*◌, ◌≤◌, Bool, true, false, List, [], ◌∷◌, Option, None, Some, refl, sym, ap, ◌∙◌, subst, arith}
+use Rattle.std.proofs.Common.{◌≡◌, ℕ, ◌+◌, ◌*◌, ◌≤◌, Bool, true, false, List, [], ◌∷◌, Option, None, Some, refl, sym, subst, arith}
 use Rattle.std.proofs.lemmas.Option.{same_Some, none-some}
 use Rattle.trace_replay.specs.requests.ServiceOrder.{Waiting as Waiter}
-use Rattle.trace_replay.specs.requests.Requests.{Request, Answer, NoFrames}
+use Rattle.trace_replay.specs.requests.Requests.{Request, Answer}
 use Rattle.trace_replay.specs.Moments.{Deed, End, Told}
 use Rattle.trace_replay.specs.Service.{ServiceMay, first_waiting, head_of, in_hand, request_or_none, ids}
 use Rattle.trace_replay.specs.Conversation.{Hand, Stage, Waiting, is_waiting}
@@ -49,13 +49,8 @@ pub id_of : (r : Option Request) (id : ℕ) → ids r ≡ Some id → (request_o
 id_of None id is = absurd (none-some id is)
 id_of (Some r) id is = same_Some r.id id is
 
-end_answer : Deed → Answer
-end_answer (End answer) = answer
-end_answer deed = NoFrames
-
 told_service : (wish : Wish) (s : Replay) (line unit id : ℕ) (answer : Answer) → ToldMay wish s line unit id (End answer) → is_refusal answer ≡ false → ServiceMay (s.units unit).service id
-unfolding end_answer
-told_service (Refusal u i why) s line unit id answer may kept = absurd (no (sym kept ∙ ap is_refusal (ap end_answer may.answered) ∙ refused_is why))
+told_service (Refusal u i why) s line unit id answer may kept = cc (may.answered, refused_is why)
 told_service other s line unit id answer may kept = may.service
 
 pub ends_are_bounded : EndsAreBounded

@@ -1,11 +1,10 @@
 -- Each moment that may come keeps the replay consistent.
-use Rattle.std.proofs.Common.{◌≡◌, ◌≢◌, ◌⊎◌, inl, inr, ℕ, ◌==◌, ◌&&◌, ◌||◌, Bool, true, false, not, List, [], ◌∷◌, is_some, refl, sym, ap, ◌∙◌, subst, arith, nat_lt}
+use Rattle.std.proofs.Common.{◌≡◌, ◌≢◌, ◌⊎◌, inl, inr, ℕ, ◌==◌, ◌&&◌, Bool, true, false, not, List, [], ◌∷◌, is_some, refl, sym, ap, ◌∙◌, subst, arith, nat_lt, rules}
 use Rattle.std.specs.Prelude.{if◌then◌else◌, drop}
-use Rattle.std.proofs.lemmas.Bool.Decides.{eqb_tells}
 use Rattle.std.proofs.lemmas.Nat.Bits.{bit_at-zero}
 use Rattle.std.proofs.lemmas.Bool.{false≢true, true≢false, eqb-true}
 use Rattle.pack_geometry.specs.declared.DriveKind.{DriveKind}
-use Rattle.hardware_table.specs.Drive.{DriveState, is_positioning, is_transferring, on}
+use Rattle.hardware_table.specs.Drive.{DriveState, is_positioning, on}
 use Rattle.hardware_table.specs.Adapter.{AdapterState, attention_lowered}
 use Rattle.trace_replay.specs.requests.ServiceOrder.{Waiting as Waiter, is_before, put, Service, sweep_for, service_order}
 use Rattle.trace_replay.specs.requests.Requests.{Request}
@@ -28,18 +27,12 @@ use Rattle.driver_laws.proofs.rules.Controls.{unit_in, unit_of_line, is_served, 
 
 -- one of some states is replaced: it holds of the new one, and of the others as they were
 pub one_of : {T : Type 0} (P : ℕ → T → Type 0) (states : ℕ → T) (k : ℕ) (state : T) (x : ℕ) → P k state → (x ≢ k → P x (states x)) → P x (with_state states k state x)
-one_of P states k state x mine others = elim (eqb_tells x k) [
-  | inl is ↦ rw is.0 (subst (λ z. P z state) (sym is.1) mine)
-  | inr other ↦ rw other.0 (others other.1)
-]
+one_of P states k state x mine others = search rules
 
 -- the adapter of another unit, which is the one that changed or is not
 pub beside : (s : Replay) (n m : ℕ) (new : AdapterSeen) (P : AdapterSeen → Type 0) → (adapter_of m ≡ adapter_of n → P new) → P (at_unit s m)
     → P (with_state s.adapters (adapter_of n) new (adapter_of m))
-beside s n m new P at_same elsewhere = elim (eqb_tells (adapter_of m) (adapter_of n)) [
-  | inl is ↦ rw is.0 (at_same is.1)
-  | inr other ↦ rw other.0 elsewhere
-]
+beside s n m new P at_same elsewhere = search rules
 
 pub its_own : (s : Replay) (n : ℕ) (new : AdapterSeen) → with_state s.adapters (adapter_of n) new (adapter_of n) ≡ new
 its_own s n new = rw (same (adapter_of n)) refl
@@ -156,11 +149,7 @@ not_ready_stays stage n xs is = ap (λ z. with_ready z n xs) (under_way stage is
 
 intr_due : (s : Replay) (line unit id : ℕ) (may : LineMay s line unit id Intr) (c : IsConsistent s) (act : Act) → serves act (adapter_of unit) ≡ true → IsDue s.units s.adapters act
     → IsDue (replay_told s unit Intr (unit_after s unit Intr)).units (replay_told s unit Intr (unit_after s unit Intr)).adapters (act_after Intr act)
-intr_due s line unit id may c (Arriving u) is due = absurd (false≢true is)
-intr_due s line unit id may c (Trying a) is due = absurd (false≢true is)
-intr_due s line unit id may c (Serving k i ds) is due =
-    in_place s line unit id Intr may c (λ z. CanServe z.state i ds) (λ z. CanServe z.state false ds) k is (λ f. record { completed = λ e. absurd (false≢true e); up = f.up }) due
-intr_due s line unit id may c other is due = tt
+intr_due s line unit id may c act is due = search rules
 
 attn_due : (s : Replay) (line unit id : ℕ) (may : LineMay s line unit id Attn) (c : IsConsistent s) (act : Act) → serves act (adapter_of unit) ≡ true
     → wish_in s.adapters act ≡ Attention unit → IsAct act → IsDue s.units s.adapters act
@@ -346,18 +335,7 @@ begins s t c over p line drains act speaker is due = record {
 }
 
 with_drive : (u : UnitSeen) (a : AdapterSeen) (n : ℕ) (d : DriveState) → Untouched u.drive d → Agrees u a n → Agrees (record u { drive = d }) a n
-with_drive u a n d t g = record {
-  positions = g.positions ∙ ap (λ z. is_positioning z || u.drive.attention) (sym t.work) ∙ ap (λ z. is_positioning d.work || z) (sym t.calls);
-  never_both = ap (λ z. is_positioning z && d.attention) t.work ∙ ap (λ z. is_positioning u.drive.work && z) t.calls ∙ g.never_both;
-  transfers = ap is_transferring t.work ∙ g.transfers;
-  busy = g.busy;
-  attention = g.attention ∙ ap (λ z. on z 1) (sym t.calls);
-  queued = g.queued;
-  held = g.held;
-  errors = λ e. g.errors (sym t.errors ∙ e);
-  said = g.said;
-  counts = g.counts;
-}
+with_drive u a n d t g = search rules
 
 unchanged_parts : (s : Replay) → IsConsistent s → SameParts s s
 unchanged_parts s c = record { units = c.units; adapters = λ k. refl; stages = λ unit. refl }

@@ -1,12 +1,12 @@
 -- Who speaks in an event, and what is still to come of it, behind a line.
 use Rattle.hardware_table.specs.Adapter.{attention_lowered}
 use Rattle.std.proofs.lemmas.Bool.{or_parts, false≢true, true≢false}
-use Rattle.std.proofs.Common.{◌≡◌, ℕ, ◌<◌, ◌==◌, ◌||◌, Bool, true, false, List, [], ◌∷◌, refl, sym, ap, ◌∙◌, subst, arith, bit_and, ◌-◌, ◌^◌, ◌≢◌}
+use Rattle.std.proofs.Common.{◌≡◌, ℕ, ◌<◌, ◌==◌, Bool, true, false, List, [], ◌∷◌, refl, sym, ap, ◌∙◌, subst, bit_and, ◌-◌, ◌^◌, ◌≢◌, rules}
 use Rattle.std.specs.Prelude.{if◌then◌else◌, drop}
-use Rattle.trace_replay.specs.Moments.{Deed, Search, Seek, Recal, Offset, Centre, Clear, Pack, Transfer, Arrive, Sector, Intr, Try, Attn, End}
-use Rattle.trace_replay.specs.Adapters.{AdapterSeen, adapter_of, unit_on, drive_of}
+use Rattle.trace_replay.specs.Moments.{Deed, Search, Intr, Attn}
+use Rattle.trace_replay.specs.Adapters.{AdapterSeen, adapter_of, drive_of}
 use Rattle.trace_replay.specs.Conversation.{goes_on}
-use Rattle.trace_replay.specs.Events.{Act, Done, Refusing, Arriving, Trying, Serving, NothingToDo, Wish, NoLine, DueLine, Arrival, SectorLine, Interrupt, Attention, Refusal, IdleLine, wish_of, wish_in, wish_at_start, first_ready, is_no_line, act_after, wish_in_serving}
+use Rattle.trace_replay.specs.Events.{Act, Done, Serving, Wish, NoLine, DueLine, Arrival, SectorLine, Interrupt, Attention, Refusal, IdleLine, wish_of, wish_in, wish_at_start, is_no_line, act_after, wish_in_serving}
 use Rattle.trace_replay.specs.Replay.{Replay, next_wish}
 use Rattle.driver_laws.specs.rules.Consistent.{is_listed, IsInOrder, serves, IsAct, IsConsistent, AreUp, CanServe, has_interrupt, AreDrives}
 use Rattle.driver_laws.proofs.rules.Queues.{same, lowered_other}
@@ -53,52 +53,9 @@ pub event_next : (s : Replay) (w : Wish) → next_wish s ≡ w → goes_on (s.un
 event_next s w is off = sym (in_event (goes_on (s.units s.event.speaker).stage) s.event.speaker (wish_in s.adapters s.event.act) off) ∙ is
 
 -- ---- whose unit an event brings that serves an adapter
-adapter_of_its : (k d : ℕ) → d < 8 → adapter_of (unit_on k d) ≡ k
-adapter_of_its k d low = omega (arith, low)
-
-at_start : (a : AdapterSeen) (k : ℕ) → IsInOrder a k → is_served (wish_at_start a) ≡ true → adapter_of (unit_in (wish_at_start a)) ≡ k
-at_start a k o is = by a.state.busy is
-  where
-    first : (xs : List ℕ) → ((m : ℕ) → is_listed m xs ≡ true → adapter_of m ≡ k) → is_served (first_ready xs) ≡ true → adapter_of (unit_in (first_ready xs)) ≡ k
-    first [] own is = absurd (false≢true is)
-    first (x ∷ xs) own is = own x (ap (λ z. z || is_listed x xs) (same x))
-
-    by : (b : Bool) → is_served (if b then NoLine else first_ready a.ready) ≡ true → adapter_of (unit_in (if b then NoLine else first_ready a.ready)) ≡ k
-    by true is = absurd (false≢true is)
-    by false is = first a.ready o.own is
-
 pub serves_its : (adapters : ℕ → AdapterSeen) (act : Act) → ((k : ℕ) → IsInOrder (adapters k) k) → IsAct act → is_served (wish_in adapters act) ≡ true
     → serves act (adapter_of (unit_in (wish_in adapters act))) ≡ true
-serves_its adapters Done o are is = absurd (false≢true is)
-serves_its adapters (Refusing u i why) o are is = absurd (false≢true is)
-serves_its adapters (Arriving u) o are is = absurd (false≢true is)
-serves_its adapters (Trying a) o are is = absurd (false≢true is)
-serves_its adapters (Serving a true drives) o are is = subst (λ z. (a == z) ≡ true) (sym (adapter_of_its a (adapters a).state.drive (o a).drive)) (same a)
-serves_its adapters (Serving a false (drive ∷ drives)) o are is = subst (λ z. (a == z) ≡ true) (sym (adapter_of_its a drive are.0)) (same a)
-serves_its adapters (Serving a false []) o are is = subst (λ z. (a == z) ≡ true) (sym (at_start (adapters a) a (o a) is)) (same a)
-serves_its adapters NothingToDo o are is = absurd (false≢true is)
-
--- an event that serves brings no other line
-foreign_at : (a : AdapterSeen) → is_served (wish_at_start a) ≡ false → is_no_line (wish_at_start a) ≡ false → ⊥
-foreign_at a not_served line = by a.state.busy not_served line
-  where
-    first : (xs : List ℕ) → is_served (first_ready xs) ≡ false → is_no_line (first_ready xs) ≡ false → ⊥
-    first [] n l = true≢false l
-    first (x ∷ xs) n l = true≢false n
-
-    by : (b : Bool) → is_served (if b then NoLine else first_ready a.ready) ≡ false → is_no_line (if b then NoLine else first_ready a.ready) ≡ false → ⊥
-    by true n l = true≢false l
-    by false n l = first a.ready n l
-
-pub not_serving : (adapters : ℕ → AdapterSeen) (act : Act) (k : ℕ) → is_served (wish_in adapters act) ≡ false → is_no_line (wish_in adapters act) ≡ false → serves act k ≡ true → ⊥
-not_serving adapters Done k n l is = false≢true is
-not_serving adapters (Refusing u i why) k n l is = false≢true is
-not_serving adapters (Arriving u) k n l is = false≢true is
-not_serving adapters (Trying a) k n l is = false≢true is
-not_serving adapters (Serving a true drives) k n l is = true≢false n
-not_serving adapters (Serving a false (drive ∷ drives)) k n l is = true≢false n
-not_serving adapters (Serving a false []) k n l is = foreign_at (adapters a) n l
-not_serving adapters NothingToDo k n l is = false≢true is
+serves_its adapters act o are is = search rules
 
 -- ---- a line that an event brings which serves its adapter
 pub serving_line : (s : Replay) (unit : ℕ) (deed : Deed) → IsConsistent s → next_wish s ≡ wish_of unit deed → is_served (wish_of unit deed) ≡ true
@@ -117,12 +74,7 @@ serving_line s unit deed c wished is = by (goes_on (s.units s.event.speaker).sta
 
 -- a line that comes in an event which serves no adapter
 pub foreign_line : (s : Replay) (w : Wish) (k : ℕ) → next_wish s ≡ w → is_served w ≡ false → is_no_line w ≡ false → serves s.event.act k ≡ true → ⊥
-foreign_line s w k wished not_served line is = by (goes_on (s.units s.event.speaker).stage) refl
-  where
-    by : (b : Bool) → goes_on (s.units s.event.speaker).stage ≡ b → ⊥
-    by true on = true≢false (sym (ap is_served (speaks_next s w wished on)) ∙ not_served)
-    by false off =
-        not_serving s.adapters s.event.act k (ap is_served (event_next s w wished off) ∙ not_served) (ap is_no_line (event_next s w wished off) ∙ line) is
+foreign_line s w k wished not_served line is = search rules
 
 -- the unit that spoke last does not go on where another sort of line comes
 pub nobody_goes_on : (s : Replay) (w : Wish) → next_wish s ≡ w → is_served w ≡ false → goes_on (s.units s.event.speaker).stage ≡ true → ⊥
@@ -130,69 +82,10 @@ nobody_goes_on s w wished not_served on = true≢false (sym (ap is_served (speak
 
 -- ---- what a line leaves of an event that serves
 pub still_serves : (act : Act) (k : ℕ) (deed : Deed) (unit : ℕ) → is_served (wish_of unit deed) ≡ true → serves act k ≡ true → serves (act_after deed act) k ≡ true
-still_serves act k (Search c y) unit s is = is
-still_serves act k (Seek c) unit s is = is
-still_serves act k Recal unit s is = is
-still_serves act k (Offset o) unit s is = is
-still_serves act k Centre unit s is = is
-still_serves act k Clear unit s is = is
-still_serves act k Pack unit s is = is
-still_serves act k (Transfer w b n) unit s is = is
-still_serves act k Arrive unit s is = absurd (false≢true s)
-still_serves act k (Sector b v) unit s is = absurd (false≢true s)
-still_serves act k Intr unit s is = interrupted act is
-  where
-    interrupted : (act : Act) → serves act k ≡ true → serves (act_after Intr act) k ≡ true
-    interrupted Done is = is
-    interrupted (Refusing u i why) is = is
-    interrupted (Arriving u) is = is
-    interrupted (Trying a) is = is
-    interrupted (Serving a i ds) is = is
-    interrupted NothingToDo is = is
-still_serves act k (Try b f) unit s is = is
-still_serves act k Attn unit s is = attended act is
-  where
-    attended : (act : Act) → serves act k ≡ true → serves (act_after Attn act) k ≡ true
-    attended Done is = is
-    attended (Refusing u i why) is = is
-    attended (Arriving u) is = is
-    attended (Trying a) is = is
-    attended (Serving a i ds) is = is
-    attended NothingToDo is = is
-still_serves act k (End a) unit s is = is
+still_serves act k deed unit s is = search rules
 
 pub still_act : (act : Act) (deed : Deed) → IsAct act → IsAct (act_after deed act)
-still_act act (Search c y) is = is
-still_act act (Seek c) is = is
-still_act act Recal is = is
-still_act act (Offset o) is = is
-still_act act Centre is = is
-still_act act Clear is = is
-still_act act Pack is = is
-still_act act (Transfer w b n) is = is
-still_act act Arrive is = tt
-still_act act (Sector b v) is = tt
-still_act act Intr is = interrupted act is
-  where
-    interrupted : (act : Act) → IsAct act → IsAct (act_after Intr act)
-    interrupted Done is = tt
-    interrupted (Refusing u i why) is = tt
-    interrupted (Arriving u) is = tt
-    interrupted (Trying a) is = tt
-    interrupted (Serving a i ds) is = is
-    interrupted NothingToDo is = tt
-still_act act (Try b f) is = is
-still_act act Attn is = attended act is
-  where
-    attended : (act : Act) → IsAct act → IsAct (act_after Attn act)
-    attended Done is = tt
-    attended (Refusing u i why) is = tt
-    attended (Arriving u) is = tt
-    attended (Trying a) is = tt
-    attended (Serving a i []) is = is
-    attended (Serving a i (d ∷ ds)) is = is.1
-    attended NothingToDo is = tt
-still_act act (End a) is = is
+still_act act deed is = search rules
 
 -- ---- an interrupt that is served comes first
 abbrev pub is_interrupt : Wish → Bool
@@ -221,15 +114,7 @@ interrupt_same other = refl
 
 -- ---- an attention that is served is the first of them
 no_attention_at : (a : AdapterSeen) → is_attention (wish_at_start a) ≡ true → ⊥
-no_attention_at a is = by a.state.busy is
-  where
-    first : (xs : List ℕ) → is_attention (first_ready xs) ≡ true → ⊥
-    first [] e = false≢true e
-    first (x ∷ xs) e = false≢true e
-
-    by : (b : Bool) → is_attention (if b then NoLine else first_ready a.ready) ≡ true → ⊥
-    by true e = false≢true e
-    by false e = first a.ready e
+no_attention_at a is = search rules
 
 -- the attentions that are still up after the first one was taken
 up_lowered : (bits d : ℕ) (ds : List ℕ) → d < 8 → is_listed d ds ≡ false → AreDrives ds → AreUp bits ds → AreUp (bit_and bits (255 - 2 ^ d)) ds
@@ -242,22 +127,7 @@ up_lowered bits d (e ∷ es) low absent are up =
 
 pub attention_served : (adapters : ℕ → AdapterSeen) (k unit : ℕ) (interrupt : Bool) (ds : List ℕ) → wish_in_serving k (adapters k) interrupt ds ≡ Attention unit → AreDrives ds
     → CanServe (adapters k).state interrupt ds → CanServe (attention_lowered (drive_of unit) (adapters k).state) interrupt (drop 1 ds)
-attention_served adapters k unit true ds is are f = absurd (false≢true (ap is_attention is))
-attention_served adapters k unit false [] is are f = absurd (no_attention_at (adapters k) (ap is_attention is))
-attention_served adapters k unit false (d ∷ ds) is are f = record {
-  completed = λ e. absurd (false≢true e);
-  up = subst (λ z. AreUp (bit_and (adapters k).state.attentions (255 - 2 ^ z)) ds) (sym its) (up_lowered (adapters k).state.attentions d ds are.0 f.up.1 are.1 f.up.2);
-}
-  where
-    of_it : (u : ℕ) → unit_on k d ≡ u → d < 8 → drive_of u ≡ d
-    of_it u e low = omega (arith, e, low)
-
-    its : drive_of unit ≡ d
-    its = of_it unit (ap unit_in is) are.0
+attention_served adapters k unit interrupt ds is are f = search (rules, false≢true, is_attention, no_attention_at, bit_and, up_lowered, unit_in)
 
 pub attention_next : (s : Replay) (unit : ℕ) → next_wish s ≡ Attention unit → wish_in s.adapters s.event.act ≡ Attention unit
-attention_next s unit wished = by (goes_on (s.units s.event.speaker).stage) refl
-  where
-    by : (b : Bool) → goes_on (s.units s.event.speaker).stage ≡ b → wish_in s.adapters s.event.act ≡ Attention unit
-    by true on = absurd (true≢false (ap is_attention (speaks_next s (Attention unit) wished on)))
-    by false off = event_next s (Attention unit) wished off
+attention_next s unit wished = search rules

@@ -1,5 +1,5 @@
 -- What each line of a request costs, of its events and of its commands.
-use Rattle.std.proofs.Common.{◌≡◌, ℕ, zero, suc, ◌+◌, ◌-◌, ◌*◌, ◌<◌, ◌≤◌, ◌==◌, ◌&&◌, ◌||◌, Bool, true, false, not, List, [], ◌∷◌, ◌++◌, length, Option, None, Some, refl, sym, subst, arith}
+use Rattle.std.proofs.Common.{◌≡◌, ℕ, zero, suc, ◌+◌, ◌-◌, ◌*◌, ◌<◌, ◌≤◌, ◌==◌, ◌&&◌, ◌||◌, Bool, true, false, not, List, [], ◌∷◌, ◌++◌, length, Option, Some, refl, subst, arith, rules}
 use Rattle.std.specs.Prelude.{if◌then◌else◌}
 use Rattle.std.specs.Option.{option_map_or}
 use Rattle.std.proofs.lemmas.Option.{same_Some, none-some}
@@ -13,14 +13,14 @@ use Rattle.hardware_table.specs.declared.Moved.TheVariants as verdict
 use Rattle.hardware_table.specs.Drive.{DriveState}
 use Rattle.trace_replay.specs.Schedule.{offset_after, recalibrates_after}
 use Rattle.trace_replay.specs.declared.retry_offsets.Step.TheVariants as retry
-use Rattle.trace_replay.specs.requests.Requests.{Request, Failed, Offline}
+use Rattle.trace_replay.specs.requests.Requests.{Request, Offline}
 use Rattle.trace_replay.specs.Moments.{Deed, Search, Seek, Recal, Offset, Centre, Clear, Pack, Transfer, Sector, Intr, Try, Attn, End}
-use Rattle.trace_replay.specs.Conversation.{Positioning, SearchFor, SeekTo, Segment, OwnBlocks, Replacement, Hand, is_write, start_of, length_of, transfer_of, command_of, needs_unlocked, guarded, due, entry_of, Stage, Waiting, Steps, UnderWay, AtOnce, Moving, Saying, Ending, Progress, saying, retried, failed, forwarded, marked, continued, ok_answer, interrupted_by, stage_after, is_under_way, is_clean, last_of, sector_may, intr_may, progress_tried, progress_interrupted, offset_steps}
+use Rattle.trace_replay.specs.Conversation.{Positioning, SearchFor, Segment, OwnBlocks, Replacement, Hand, is_write, start_of, length_of, transfer_of, command_of, needs_unlocked, guarded, due, entry_of, Stage, Waiting, Steps, UnderWay, AtOnce, Moving, Saying, Ending, Progress, saying, retried, failed, forwarded, marked, continued, interrupted_by, stage_after, is_under_way, is_clean, last_of, sector_may, intr_may, progress_tried, progress_interrupted}
 use Rattle.trace_replay.proofs.Histories.{Fits, AreSaid, Open, MoveFits, guard_holds, interrupted, length_some}
 use Rattle.trace_replay.proofs.Kept.{no}
 use Rattle.driver_laws.specs.rules.Measure.{tries_left, steps_left, events_from, events_while_clean, events_of_step, events_at}
 use Rattle.driver_laws.specs.rules.Drains.{event_by}
-use Rattle.driver_laws.proofs.rules.Numbers.{some_tries, one_try_less, few_tries, few_steps, offset_number, return_number, steps_counted}
+use Rattle.driver_laws.proofs.rules.Numbers.{some_tries, one_try_less, offset_number, return_number, steps_counted}
 
 -- ---- THE COMMANDS that are left, as the events are: a command that is guarded may have PACK before it, and counts twice; PACK itself
 -- does not count. So at each try the transfer, DCLR and RTC are 4, and a step is 2.
@@ -121,19 +121,7 @@ saying_cost count p (line ∷ lines) next = refl
 
 line_costs : (b b' : Bool) (d' : DriveState) (h : Hand) (next : Option Request) (line : Deed) (rest : List Deed) (then_stage : Stage)
     → AreSaid (line ∷ rest) → AfterCosts b b' d' h next (Saying (line ∷ rest) then_stage) line
-line_costs b b' d' h next Clear rest then_stage a = record {
-  events = omega (arith, saying_events b' h.request.count h.progress rest then_stage);
-  commands = omega (arith, saying_cost h.request.count h.progress rest then_stage);
-}
-line_costs b b' d' h next Centre rest then_stage a = record {
-  events = omega (arith, saying_events b' h.request.count h.progress rest then_stage);
-  commands = omega (arith, saying_cost h.request.count h.progress rest then_stage);
-}
-line_costs b b' d' h next (Try k t) rest then_stage a = record {
-  events = omega (arith, saying_events b' h.request.count h.progress rest then_stage);
-  commands = omega (arith, saying_cost h.request.count h.progress rest then_stage);
-}
-line_costs b b' d' h next line rest then_stage a = absurd a
+line_costs b b' d' h next line rest then_stage a = search (rules, saying_events, saying_cost)
 
 -- ---- PACK leaves everything
 pack_costs : (b b' : Bool) (count : ℕ) (p : Progress) (left : List Positioning) (segment : Segment) → Costs b b' count p (Steps left segment) Pack p (Steps left segment)
@@ -180,14 +168,8 @@ one_less n = omega arith
 
 clean_sector_costs : (b b' : Bool) (h : Hand) (bytes : List ℕ) (segment : Segment) (n block : ℕ) (lines : List Deed) → Open h segment (suc n) lines
     → Costs b b' h.request.count h.progress (Moving segment (suc n) verdict.Clean) (Sector block verdict.Clean) (progress_tried verdict.Clean bytes h.progress) (Moving segment n verdict.Clean)
-clean_sector_costs b b' h bytes segment zero block lines o = record {
-  events = omega (arith, some_tries segment h.progress.failures o.small);
-  commands = omega (arith, some_tries segment h.progress.failures o.small);
-}
-clean_sector_costs b b' h bytes segment (suc m) block lines o = record {
-  events = omega (arith, o.room, few_tries segment, few_steps segment, some_tries segment h.progress.failures o.small);
-  commands = omega (arith, o.room, few_tries segment, few_steps segment, some_tries segment h.progress.failures o.small);
-}
+clean_sector_costs b b' h bytes segment zero block lines o = search rules
+clean_sector_costs b b' h bytes segment (suc m) block lines o = search rules
 
 stopped_costs : (b b' : Bool) (h : Hand) (bytes : List ℕ) (segment : Segment) (n block : ℕ) (v : Moved) (lines : List Deed) → Open h segment (suc n) lines
     → Costs b b' h.request.count h.progress (Moving segment (suc n) verdict.Clean) (Sector block v) (progress_tried v bytes h.progress) (Moving segment (suc n - 1) v)
@@ -234,29 +216,7 @@ zero_or n h = grind (arith, nat_tests)
 -- where a segment is done, the blocks behind it are left
 continued_leaves : (h : Hand) → h.progress.done ≤ h.request.count → h.progress.failures ≡ 0
     → Leaves h.request.count h.progress (continued h) (184 * (h.request.count - h.progress.done)) (296 * (h.request.count - h.progress.done))
-continued_leaves h room fresh = at (h.progress.done == h.request.count) refl
-  where
-    below : (a c : ℕ) → a ≤ c → (a ≡ c → ⊥) → a + 1 ≤ c
-    below a c le ne = omega arith
-
-    own_tries : tries_left OwnBlocks h.progress.failures ≡ 56
-    own_tries = subst (λ z. tries_left OwnBlocks z ≡ 56) (sym fresh) refl
-
-    own_steps : steps_left OwnBlocks h.progress.failures ≡ 36
-    own_steps = subst (λ z. steps_left OwnBlocks z ≡ 36) (sym fresh) refl
-
-    at : (b : Bool) → h.progress.done == h.request.count ≡ b
-        → Leaves h.request.count h.progress (if b then Ending (ok_answer h) else AtOnce OwnBlocks) (184 * (h.request.count - h.progress.done)) (296 * (h.request.count - h.progress.done))
-    at true is = record { events = omega arith; commands = omega arith }
-    at false is = record {
-      events = omega (arith, own_tries, own_steps, below h.progress.done h.request.count room (eqb-false h.progress.done h.request.count is));
-      commands = omega (arith, own_tries, own_steps, below h.progress.done h.request.count room (eqb-false h.progress.done h.request.count is));
-    }
-
--- the lines that come behind an interrupt
-clean_lines : (b : Bool) → cost_in (([] ++ (if b then [] else Centre ∷ [])) ++ []) ≤ 1
-clean_lines true = omega arith
-clean_lines false = omega arith
+continued_leaves h room fresh = search rules
 
 burst_lines : (b : Bool) → cost_in ((Clear ∷ [] ++ (if b then [] else Centre ∷ [])) ++ []) ≤ 2
 burst_lines true = omega arith
@@ -269,10 +229,7 @@ fault_lines false block failures = omega arith
 -- behind a clean sector, and behind a burst
 clean_interrupt : (b b' : Bool) (d : DriveState) (h : Hand) (segment : Segment) → h.progress.done ≤ h.request.count → h.progress.failures ≡ 0
     → Costs b b' h.request.count h.progress (Moving segment zero verdict.Clean) Intr h.progress (interrupted_by verdict.Clean d h segment)
-clean_interrupt b b' d h segment room fresh =
-    said_costs b b' h.request.count h.progress (Moving segment zero verdict.Clean) h.progress (([] ++ (if offset_field d.offset == 0 then [] else Centre ∷ [])) ++ []) (continued h)
-    1 (184 * (h.request.count - h.progress.done)) (296 * (h.request.count - h.progress.done)) (clean_lines (offset_field d.offset == 0)) (omega arith) (omega arith)
-    (continued_leaves h room fresh)
+clean_interrupt b b' d h segment room fresh = search rules
 
 burst_interrupt : (b b' : Bool) (d : DriveState) (h : Hand) (segment : Segment) (left at pattern k : ℕ) (before : List Deed) → 1 ≤ k → Open h segment k before
     → Costs b b' h.request.count h.progress (Moving segment left (verdict.Burst at pattern)) Intr (progress_interrupted (verdict.Burst at pattern) h.progress)
@@ -284,23 +241,11 @@ burst_interrupt b b' d h segment left at pattern k before some o =
     (omega (arith, some_tries segment h.progress.failures o.small)) (omega (arith, some_tries segment h.progress.failures o.small))
     (continued_leaves (interrupted h (verdict.Burst at pattern)) (omega (arith, o.room, some)) refl)
 
--- behind a failure
-seek_and_offset : (at_zero : Bool) (cylinder : ℕ) (offset : Option OffsetCode) → length ((if at_zero then [] else SeekTo cylinder ∷ []) ++ offset_steps offset) ≤ 1 + offset_number offset
-seek_and_offset true cylinder None = omega arith
-seek_and_offset true cylinder (Some code) = omega arith
-seek_and_offset false cylinder None = omega arith
-seek_and_offset false cylinder (Some code) = omega arith
-
 retried_leaves : (recalibrates : Bool) (offset : Option OffsetCode) (count : ℕ) (p : Progress) (cylinder : ℕ) (segment : Segment) (done : ℕ)
     → Leaves count p (retried (if recalibrates then retry.Recalibrate offset else option_map_or retry.Offset offset retry.Again) cylinder segment done)
     (2 * (2 * return_number recalibrates + offset_number offset) + events_from segment count p)
     (2 * (2 * return_number recalibrates + offset_number offset) + cost_from segment count p)
-retried_leaves true offset count p cylinder segment done = record {
-  events = omega (arith, seek_and_offset (cylinder == 0) cylinder offset);
-  commands = omega (arith, seek_and_offset (cylinder == 0) cylinder offset);
-}
-retried_leaves false None count p cylinder segment done = record { events = omega arith; commands = omega arith }
-retried_leaves false (Some code) count p cylinder segment done = record { events = omega arith; commands = omega arith }
+retried_leaves recalibrates offset count p cylinder segment done = search rules
 
 -- the hand with one failure more, and that behind a mark
 abbrev once_more : Hand → Hand
@@ -361,11 +306,7 @@ failure_interrupt b b' d h segment moving small e c =
 forwarded_leaves : (h : Hand) (entry : Option ℕ) → h.progress.failures < 28
     → Leaves h.request.count (moved_on h).progress (forwarded (moved_on h) entry)
     (events_from OwnBlocks h.request.count h.progress - 2) (cost_from OwnBlocks h.request.count h.progress - 4)
-forwarded_leaves h None small = record { events = omega arith; commands = omega arith }
-forwarded_leaves h (Some i) small = record { events = omega (arith, small, later_steps h.progress.failures); commands = omega (arith, small, later_steps h.progress.failures) }
-  where
-    later_steps : (f : ℕ) → 18 ≤ steps_left OwnBlocks f
-    later_steps f = omega arith
+forwarded_leaves h entry small = search rules
 
 marked_leaves : (h : Hand) (segment : Segment) → h.progress.failures < 28
     → Leaves h.request.count (moved_on h).progress (marked (moved_on h) segment)
@@ -385,12 +326,7 @@ marked_interrupt b b' d h segment left small =
 -- behind a try on a unit that was offline
 offline_interrupt : (b b' : Bool) (d : DriveState) (h : Hand) (segment : Segment) (left : ℕ) → h.progress.failures < 28
     → Costs b b' h.request.count h.progress (Moving segment left verdict.Offline) Intr h.progress (interrupted_by verdict.Offline d h segment)
-offline_interrupt b b' d h segment left small =
-    said_costs b b' h.request.count h.progress (Moving segment left verdict.Offline) h.progress
-    ((Clear ∷ [] ++ (if offset_field d.offset == 0 then [] else Centre ∷ [])) ++ []) (Ending (Failed Offline h.progress.done))
-    2 (events_from segment h.request.count h.progress - 2) (cost_from segment h.request.count h.progress - 4) (burst_lines (offset_field d.offset == 0))
-    (omega (arith, some_tries segment h.progress.failures small)) (omega (arith, some_tries segment h.progress.failures small))
-    (record { events = omega arith; commands = omega arith })
+offline_interrupt b b' d h segment left small = search rules
 
 moved_interrupt : (b b' : Bool) (d : DriveState) (h : Hand) (segment : Segment) (left : ℕ) (v : Moved) (lines : List Deed)
     → (left == 0) || not (is_clean v) ≡ true → MoveFits h segment left v lines

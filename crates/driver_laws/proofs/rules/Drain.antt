@@ -1,6 +1,5 @@
 -- The events that are left fall with each event of a drain.
-use Rattle.std.proofs.Common.{◌≡◌, inl, inr, ℕ, ◌+◌, ◌*◌, ◌≤◌, ◌==◌, ◌||◌, Bool, true, false, List, [], ◌∷◌, refl, sym, subst, arith}
-use Rattle.std.specs.Prelude.{if◌then◌else◌}
+use Rattle.std.proofs.Common.{◌≡◌, inl, inr, ℕ, ◌+◌, ◌*◌, ◌≤◌, ◌==◌, ◌||◌, Bool, true, false, List, [], ◌∷◌, refl, sym, subst, arith, rules}
 use Rattle.std.specs.List.{list_any}
 use Rattle.std.proofs.lemmas.Bool.Decides.{eqb_tells}
 use Rattle.pack_geometry.specs.declared.Place.{Place}
@@ -10,7 +9,7 @@ use Rattle.hardware_table.specs.Drive.{DriveState, is_positioning}
 use Rattle.hardware_table.specs.Adapter.{AdapterState}
 use Rattle.hardware_table.specs.Events.{arrived_from}
 use Rattle.trace_replay.specs.requests.Requests.{Request, Rejection, rejection_answer}
-use Rattle.trace_replay.specs.Script.{Input, Submit, ArriveAt, MoveAt, AttendTo, Drain}
+use Rattle.trace_replay.specs.Script.{Input, Submit}
 use Rattle.trace_replay.specs.Moments.{Deed, Arrive, End, Moment, Played, Told, Idle, played}
 use Rattle.trace_replay.specs.Drives.{DriveMay, drive_after}
 use Rattle.trace_replay.specs.Service.{in_hand, target_of}
@@ -20,7 +19,7 @@ use Rattle.trace_replay.specs.History.{with_deed, lines_after, lines_behind}
 use Rattle.trace_replay.specs.Causes.{AskSome, AsksSome}
 use Rattle.trace_replay.proofs.Following.{follow_on}
 use Rattle.trace_replay.proofs.Unchanged.{drained_keeps}
-use Rattle.trace_replay.proofs.Kept.{AllFit, UnitFits, IsHeld, held_by, told_all, played_all, moments_all, refused_is, no}
+use Rattle.trace_replay.proofs.Kept.{AllFit, UnitFits, IsHeld, held_by, told_all, played_all, moments_all, no}
 use Rattle.driver_laws.specs.rules.Measure.{events_of_unit, events_of_units, events_left, blocks_waiting, blocks_of_units, blocks_outstanding}
 use Rattle.driver_laws.specs.rules.Drains.{event_by, events_in, IsOf, AreOf, IsIdle, EventsFall, EventsAreFew, DrainsAreBounded}
 use Rattle.driver_laws.proofs.rules.Idle.{idle_fits, idle_within, none_waits}
@@ -28,10 +27,7 @@ use Rattle.driver_laws.proofs.rules.Units.{Passes, UnitWithin, unit_falls, unit_
 
 -- ---- sums over units
 one_no_more : (units : ℕ → UnitSeen) (k : ℕ) (u : UnitSeen) (x : ℕ) → events_of_unit u ≤ events_of_unit (units k) → events_of_unit (with_state units k u x) ≤ events_of_unit (units x)
-one_no_more units k u x le = elim (eqb_tells x k) [
-  | inl same ↦ rw same.0 (subst (λ z. events_of_unit u ≤ events_of_unit (units z)) (sym same.1) le)
-  | inr other ↦ rw other.0 (omega arith)
-]
+one_no_more units k u x le = search rules
 
 units_no_more : (units : ℕ → UnitSeen) (k : ℕ) (u : UnitSeen) (xs : List ℕ) → events_of_unit u ≤ events_of_unit (units k) → events_of_units (with_state units k u) xs ≤ events_of_units units xs
 units_no_more units k u [] le = omega arith
@@ -89,10 +85,7 @@ line_falls s line unit id deed lines may all there =
     (passes (s.units unit).drive (at_unit s unit).state (target_of (s.units unit).drive.kind (in_hand (s.units unit).service)) deed may.drive))
 
 no_event_told : (s : Replay) (deed : Deed) (why : Rejection) → deed ≡ End (rejection_answer why) → events_left s + event_by deed ≤ events_left s
-no_event_told s deed why is = subst (λ z. events_left s + event_by z ≤ events_left s) (sym is) (same (events_left s))
-  where
-    same : (n : ℕ) → n + 0 ≤ n
-    same n = omega arith
+no_event_told s deed why is = search rules
 
 told_falls : (wish : Wish) (s : Replay) (line unit id : ℕ) (deed : Deed) (lines : ℕ → List Deed) → ToldMay wish s line unit id deed → AllFit s lines
     → ((x : ℕ) → IsHeld (s.units x).service.waiting → IsThere s.there x)
@@ -132,12 +125,7 @@ submitted_at there s r Joined is at = record {
 }
 
 pub played_at : (there : List ℕ) (s : Replay) (input : Input) → IsOf there input → IsAt there s → IsAt there (replay_played s input)
-played_at there s (Submit r) is at = submitted_at there s r (submission s r) is at
-played_at there s (ArriveAt u) is at = at
-played_at there s (MoveAt a) is at = at
-played_at there s (AttendTo a) is at = at
-played_at there s Drain is at = at
-played_at there s other is at = record { same = at.same; held = at.held }
+played_at there s input is at = search (rules, submitted_at)
 
 pub moments_at : (there : List ℕ) (s : Replay) (ms : List Moment) → AreOf there ms → Follows s ms → IsAt there s → IsAt there (after_moments s ms)
 moments_at there s [] are follows at = at
@@ -195,11 +183,7 @@ line_within s line unit id deed lines may all within x = elim (eqb_tells x unit)
 
 refusal_within : (s : Replay) (line unit id : ℕ) (why : Rejection) (lines : ℕ → List Deed) → AllWithin s lines
     → AllWithin s (λ x. lines_after x (Told line unit id (End (rejection_answer why))) (lines x))
-refusal_within s line unit id why lines all x = at (x == unit)
-  where
-    at : (b : Bool) → UnitWithin (s.units x) (if b then with_deed (End (rejection_answer why)) (lines x) else lines x)
-    at true = subst (λ z. UnitWithin (s.units x) (if z then lines x else [])) (sym (refused_is why)) (all x)
-    at false = all x
+refusal_within s line unit id why lines all x = search rules
 
 told_within : (wish : Wish) (s : Replay) (line unit id : ℕ) (deed : Deed) (lines : ℕ → List Deed) → ToldMay wish s line unit id deed → AllFit s lines → AllWithin s lines
     → AllWithin (told_after wish s unit deed) (λ x. lines_after x (Told line unit id deed) (lines x))

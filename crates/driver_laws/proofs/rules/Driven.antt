@@ -1,27 +1,22 @@
 -- What a line does to a drive, as far as what is under way, the attention and the errors go.
-use Rattle.std.proofs.Common.{◌≡◌, ℕ, ◌==◌, ◌&&◌, ◌||◌, Bool, true, false, not, refl, sym, ap, ◌∙◌, subst}
+use Rattle.std.proofs.Common.{◌≡◌, ℕ, Bool, true, false, not, refl, sym, ap, ◌∙◌, subst, rules}
 use Rattle.std.specs.Prelude.{if◌then◌else◌}
-use Rattle.std.proofs.lemmas.Bool.{cond-true, false≢true}
+use Rattle.std.proofs.lemmas.Bool.{false≢true}
 use Rattle.drive_registers.specs.declared.Function.{Function}
 use Rattle.drive_registers.specs.declared.Function.TheVariants as function
 use Rattle.drive_registers.specs.Codes.{function_code}
 use Rattle.hardware_table.specs.declared.Work.{Work}
 use Rattle.hardware_table.specs.declared.Work.TheVariants as work
-use Rattle.hardware_table.specs.Drive.{DriveState, is_ready, is_positioning, is_transferring, has_error}
-use Rattle.hardware_table.specs.Functions.{performed, refusals, effect, refused, needs_online}
-use Rattle.pack_geometry.specs.declared.DriveKind.{DriveKind}
-use Rattle.pack_geometry.specs.declared.DriveKind.TheVariants.{Rp06}
-use Rattle.hardware_table.specs.declared.FaultKind.{FaultKind}
-use Rattle.hardware_table.specs.declared.FaultKind.TheVariants as fault
+use Rattle.hardware_table.specs.Drive.{DriveState, is_positioning, is_transferring, has_error}
+use Rattle.hardware_table.specs.Functions.{performed, effect}
 use Rattle.hardware_table.specs.declared.Moved.{Moved}
 use Rattle.hardware_table.specs.declared.Moved.TheVariants as verdict
 use Rattle.hardware_table.specs.Adapter.{AdapterState, drive_stepped, stepped, next_block}
-use Rattle.hardware_table.specs.Events.{arrived_from, transfer_ended, turned, fault_armed, online_set, locked_set}
-use Rattle.hardware_table.specs.Moves.{after_move, with_fault_bits, fault_used, with_mark_bits}
-use Rattle.trace_replay.specs.Script.{Input, Turn, Arm, SetOnline, SetLocked}
+use Rattle.hardware_table.specs.Events.{arrived_from, transfer_ended}
+use Rattle.hardware_table.specs.Moves.{after_move}
+use Rattle.trace_replay.specs.Script.{Input}
 use Rattle.trace_replay.specs.Conversation.{is_clean}
 use Rattle.trace_replay.specs.Drives.{takes, transfer_function, drive_played}
-use Rattle.driver_laws.proofs.rules.Stages.{second_of}
 
 pub record DriveIs (d : DriveState) (positioning transferring attention : Bool) : Type 0 where
   pub positions : is_positioning d.work ≡ positioning
@@ -29,9 +24,7 @@ pub record DriveIs (d : DriveState) (positioning transferring attention : Bool) 
   pub calls : d.attention ≡ attention
 
 pub taken : (f : Function) (d : DriveState) → takes f d ≡ true → performed f d ≡ effect f (record d { cs1 = function_code f })
-taken f d is =
-    cond-true (refusals f d == 0) (effect f (record d { cs1 = function_code f })) (refused (refusals f d) (record d { cs1 = function_code f }))
-    (second_of (not (needs_online f) || d.online) (refusals f d == 0) (second_of (is_ready d.work) ((not (needs_online f) || d.online) && refusals f d == 0) is))
+taken f d is = search rules
 
 -- ---- commands
 pub search_is : (d : DriveState) → takes function.Search d ≡ true → DriveIs d false false false → DriveIs (performed function.Search d) true false false × (has_error (performed function.Search d) ≡ has_error d)
@@ -67,18 +60,8 @@ arrived_is (work.Positioning c y) d is = (record { positions = refl; transfers =
 arrived_is other d is = absurd (false≢true is)
 
 -- ---- a sector
-fault_keeps : (k : FaultKind) (d : DriveState) → ((with_fault_bits k (fault_used k d)).work ≡ d.work) × ((with_fault_bits k (fault_used k d)).attention ≡ d.attention)
-fault_keeps fault.Seek d = (refl, refl)
-fault_keeps other d = (refl, refl)
-
-mark_keeps : (kind : DriveKind) (d : DriveState) → ((with_mark_bits kind d).work ≡ d.work) × ((with_mark_bits kind d).attention ≡ d.attention)
-mark_keeps Rp06 d = (refl, refl)
-mark_keeps other d = (refl, refl)
-
 move_keeps : (v : Moved) (block : ℕ) (d : DriveState) → ((after_move v block d).work ≡ d.work) × ((after_move v block d).attention ≡ d.attention)
-move_keeps (verdict.Faulted k) block d = fault_keeps k d
-move_keeps verdict.Marked block d = mark_keeps d.kind d
-move_keeps other block d = (refl, refl)
+move_keeps v block d = search rules
 
 ended_or_not : (b : Bool) (x : DriveState) → is_positioning x.work ≡ false → is_transferring x.work ≡ true → x.attention ≡ false
     → DriveIs (if b then transfer_ended x else x) false (not b) false
@@ -116,20 +99,5 @@ pub record Untouched (old new : DriveState) : Type 0 where
 pub untouched : (d : DriveState) → Untouched d d
 untouched d = record { work = refl; calls = refl; errors = refl; kind = refl }
 
-of_either : (b : Bool) (x d : DriveState) → Untouched d x → Untouched d (if b then x else d)
-of_either true x d u = u
-of_either false x d u = untouched d
-
-armed_one : (k : FaultKind) (n : ℕ) (d : DriveState) → Untouched d (fault_armed k n d)
-armed_one k n d = record { work = refl; calls = refl; errors = refl; kind = refl }
-
-online_one : (on : Bool) (d : DriveState) → Untouched d (online_set on d)
-online_one true d = record { work = refl; calls = refl; errors = refl; kind = refl }
-online_one false d = record { work = refl; calls = refl; errors = refl; kind = refl }
-
 pub played_drive : (unit : ℕ) (d : DriveState) (input : Input) → Untouched d (drive_played unit d input)
-played_drive unit d (Turn u y) = of_either (unit == u) (turned y d) d (record { work = refl; calls = refl; errors = refl; kind = refl })
-played_drive unit d (Arm u k n) = of_either (unit == u) (fault_armed k n d) d (armed_one k n d)
-played_drive unit d (SetOnline u on) = of_either (unit == u) (online_set on d) d (online_one on d)
-played_drive unit d (SetLocked u on) = of_either (unit == u) (locked_set on d) d (record { work = refl; calls = refl; errors = refl; kind = refl })
-played_drive unit d other = untouched d
+played_drive unit d input = search rules

@@ -1,23 +1,20 @@
 -- What a line leaves of a good drive.
-use Rattle.std.proofs.Common.{◌≡◌, ℕ, ◌==◌, Bool, true, false, refl}
+use Rattle.std.proofs.Common.{◌≡◌, ℕ, Bool, true, false, refl, rules}
 use Rattle.std.specs.Prelude.{if◌then◌else◌}
-use Rattle.std.proofs.lemmas.Bool.{false≢true}
 use Rattle.pack_geometry.specs.declared.DriveKind.{DriveKind}
-use Rattle.pack_geometry.specs.declared.DriveKind.TheVariants.{Rp06, Rm03, Rm05}
 use Rattle.pack_geometry.specs.declared.Place.{Place}
 use Rattle.pack_geometry.specs.Geometry.{place_at}
 use Rattle.drive_registers.specs.declared.Function.{Function}
 use Rattle.drive_registers.specs.declared.Function.TheVariants as function
-use Rattle.drive_registers.specs.Codes.{function_code, offset_code}
+use Rattle.drive_registers.specs.Codes.{offset_code}
 use Rattle.hardware_table.specs.declared.Moved.{Moved}
-use Rattle.hardware_table.specs.declared.Moved.TheVariants as verdict
 use Rattle.hardware_table.specs.declared.Register.TheVariants as register
 use Rattle.hardware_table.specs.declared.Work.{Work}
 use Rattle.hardware_table.specs.declared.Work.TheVariants as work
 use Rattle.hardware_table.specs.Drive.{DriveState, with_register}
 use Rattle.hardware_table.specs.Adapter.{AdapterState, drive_stepped, stepped, next_block}
 use Rattle.hardware_table.specs.Events.{arrived_from, transfer_ended}
-use Rattle.hardware_table.specs.Functions.{performed, refusals, effect, refused}
+use Rattle.hardware_table.specs.Functions.{performed}
 use Rattle.hardware_table.specs.Moves.{after_move}
 use Rattle.trace_replay.specs.Moments.{Deed, Search, Seek, Recal, Offset, Centre, Clear, Pack, Transfer, Arrive, Sector}
 use Rattle.trace_replay.specs.Drives.{drive_after, addressed, search_place, offset_written}
@@ -27,28 +24,15 @@ pub either_good : (b : Bool) (x y : DriveState) → IsGood x → IsGood y → Is
 either_good true x y one other = one
 either_good false x y one other = other
 
-effect_good : (f : Function) (d : DriveState) → IsGood d → IsGood (effect f d)
-effect_good function.Nop d g = g
-effect_good other d g = g
-
 pub performed_good : (f : Function) (d : DriveState) → IsGood d → IsGood (performed f d)
-performed_good f d g =
-    either_good (refusals f d == 0) (effect f (record d { cs1 = (function_code f) })) (refused (refusals f d) (record d { cs1 = (function_code f) }))
-    (effect_good f (record d { cs1 = function_code f }) g) g
+performed_good f d g = search rules
 
 arrived_good : (w : Work) (d : DriveState) → IsGood d → IsGood (arrived_from w d)
 arrived_good work.Ready d g = g
 arrived_good other d g = g
 
 moved_good : (kind : DriveKind) (v : Moved) (block : ℕ) (d : DriveState) → d.kind ≡ kind → is_calm_verdict v ≡ true → IsGood d → IsGood (after_move v block d)
-moved_good kind verdict.Clean block d is calm g = g
-moved_good kind (verdict.Burst at q) block d is calm g = absurd (false≢true calm)
-moved_good kind verdict.Hard block d is calm g = absurd (false≢true calm)
-moved_good kind (verdict.Faulted k) block d is calm g = absurd (false≢true calm)
-moved_good Rp06 verdict.Marked block d is calm g = rw is g
-moved_good Rm03 verdict.Marked block d is calm g = rw is g
-moved_good Rm05 verdict.Marked block d is calm g = rw is g
-moved_good kind verdict.Offline block d is calm g = absurd (false≢true calm)
+moved_good kind v block d is calm g = search rules
 
 stepped_good : (v : Moved) (a : AdapterState) (d : DriveState) → is_calm_verdict v ≡ true → IsGood d → IsGood (drive_stepped v a d)
 stepped_good v a d calm g =

@@ -1,5 +1,5 @@
 -- Memory filled up with zeros, piece by piece.
-use Rattle.std.proofs.Common.{◌≡◌, ℕ, zero, suc, ◌+◌, ◌-◌, ◌≤◌, List, [], ◌∷◌, ◌++◌, length, take, drop, replicate, refl, sym, ap, ◌∙◌, arith}
+use Rattle.std.proofs.Common.{◌≡◌, ℕ, zero, suc, ◌+◌, ◌-◌, ◌≤◌, List, [], ◌∷◌, ◌++◌, length, take, drop, replicate, refl, sym, ap, ◌∙◌, arith, rules}
 
 abbrev pub nulls : ℕ → List ℕ
 nulls n = replicate n 0
@@ -11,22 +11,12 @@ zeros (suc n) zero (suc m) le = ap (λ zs. 0 ∷ zs) (zeros n zero m (omega (ari
 zeros (suc n) (suc d) zero le = absurd (omega (arith, le))
 zeros (suc n) (suc d) (suc m) le = zeros (suc n) d m (omega (arith, le))
 
-all : (n : ℕ) → n - 0 ≡ n
-all n = omega arith
-
 less : (n k : ℕ) → n - k ≡ suc n - suc k
 less n k = omega arith
 
 -- of no memory nothing is left
 none_left : (n d : ℕ) (none : List ℕ) → none ≡ [] → take n (drop d none) ++ nulls (n - length (take n (drop d none))) ≡ nulls n
-none_left zero zero [] is = refl
-none_left zero (suc d) [] is = refl
-none_left (suc n) zero [] is = ap nulls (all (suc n))
-none_left (suc n) (suc d) [] is = ap nulls (all (suc n))
-none_left n d (x ∷ xs) is = absurd (cons x xs is)
-  where
-    cons : (x : ℕ) (xs : List ℕ) → x ∷ xs ≡ [] → ⊥
-    cons x xs e = cc
+none_left n d none is = search rules
 
 -- a piece is what is left of the memory there, and zeros
 pub padded : (m n d : ℕ) (memory : List ℕ) → d + n ≤ length memory + m

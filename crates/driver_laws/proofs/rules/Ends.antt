@@ -1,12 +1,12 @@
 -- The end of a request is a step of the machine, and the next one begins over the map that it leaves.
-use Rattle.std.proofs.Common.{◌≡◌, ℕ, ◌<◌, ◌+◌, ◌&&◌, true, List, [], ◌∷◌, Option, None, Some, refl, sym, ap, ◌∙◌, subst, arith, length}
+use Rattle.std.proofs.Common.{◌≡◌, ℕ, ◌<◌, ◌+◌, ◌&&◌, true, List, [], ◌∷◌, Option, None, Some, refl, sym, ap, ◌∙◌, subst, arith, length, rules}
 use Rattle.std.proofs.lemmas.Option.{same_Some, none-some}
 use Rattle.hardware_table.specs.Drive.{DriveState}
 use Rattle.hardware_table.specs.declared.Work.{Work}
 use Rattle.pack_geometry.specs.Pack as model
 use Rattle.pack_geometry.specs.Homes.{home_of}
 use Rattle.trace_replay.specs.requests.Requests.{IsRequest, Request, first_block, Answer, ReadOk, WriteOk, Failed, Cause, Unforwarded}
-use Rattle.trace_replay.specs.Moments.{Deed, Centre, Clear, Try, End}
+use Rattle.trace_replay.specs.Moments.{Deed, End}
 use Rattle.trace_replay.specs.Conversation.{Hand, Stage, Waiting, Steps, UnderWay, AtOnce, Moving, Saying, Ending, Segment, Positioning, SearchFor, Progress, not_begun, due, guarded, transfer_of, command_of, needs_unlocked, is_write, begun}
 use Rattle.trace_replay.proofs.Histories.{Fits, Open, AreSaid, guard_holds, EndFits, EndsFailed, WasMarked}
 use Rattle.trace_replay.proofs.Unusable.{no_home}
@@ -29,10 +29,7 @@ step_ends claimed blocks first r p (SearchFor c y) = tt
 step_ends claimed blocks first r p other = tt
 
 line_ends : (claimed : Type 0) (blocks : Blocks) (first : ℕ) (r : Request) (p : Progress) (line : Deed) (rest : List Deed) → AreSaid (line ∷ rest) → EndsBy claimed blocks first r p line
-line_ends claimed blocks first r p Clear rest a = tt
-line_ends claimed blocks first r p Centre rest a = tt
-line_ends claimed blocks first r p (Try b t) rest a = tt
-line_ends claimed blocks first r p line rest a = absurd a
+line_ends claimed blocks first r p line rest a = search rules
 
 -- an end in place of a command
 open_below : (h : Hand) (segment : Segment) (lines : List Deed) → Open h segment 1 lines → h.progress.done < h.request.count

@@ -1,8 +1,7 @@
 -- What is armed at a unit, what is live there and what failed is never more than the lines of the script brought.
-use Rattle.std.proofs.Common.{◌≡◌, ◌⊎◌, inl, inr, ℕ, ◌+◌, ◌<◌, ◌≤◌, ◌==◌, Bool, true, false, not, List, [], ◌∷◌, ◌++◌, Option, None, Some, refl, sym, ap, ◌∙◌, subst, arith}
+use Rattle.std.proofs.Common.{◌≡◌, ◌⊎◌, inl, inr, ℕ, ◌+◌, ◌<◌, ◌≤◌, ◌==◌, Bool, true, false, not, List, [], ◌∷◌, ◌++◌, Option, Some, refl, sym, ap, ◌∙◌, subst, arith, rules}
 use Rattle.std.specs.Prelude.{if◌then◌else◌, unwrap_or}
 use Rattle.std.proofs.lemmas.Bool.Decides.{eqb_tells}
-use Rattle.std.proofs.lemmas.Bool.{eqb-false}
 use Rattle.pack_geometry.specs.declared.DriveKind.TheVariants.{Rp06}
 use Rattle.fire_code.specs.Noise.{Classes}
 use Rattle.fire_code.specs.declared.NoiseClass.TheVariants.{Shown}
@@ -13,38 +12,30 @@ use Rattle.hardware_table.specs.declared.Moved.{Moved}
 use Rattle.hardware_table.specs.declared.Moved.TheVariants as verdict
 use Rattle.hardware_table.specs.declared.FaultKind.{FaultKind}
 use Rattle.hardware_table.specs.Drive.{DriveState, is_writing, new_drive}
-use Rattle.hardware_table.specs.Events.{fault_armed, online_set, locked_set, turned}
+use Rattle.hardware_table.specs.Events.{fault_armed, online_set}
 use Rattle.hardware_table.specs.Functions.{performed}
 use Rattle.hardware_table.specs.Moves.{IsVerdict, IsVerdictBy, stop_of, first_armed, was_read, was_written}
 use Rattle.hardware_table.specs.Noise.{LiveNoise, after_strike}
-use Rattle.trace_replay.specs.requests.Requests.{Request, Answer, rejection_answer}
-use Rattle.trace_replay.specs.Script.{Input, Submit, ArriveAt, MoveAt, AttendTo, Drain, Turn, Noise, Arm, SetOnline, SetLocked, inputs_of, drives_of}
+use Rattle.trace_replay.specs.requests.Requests.{Request, Answer}
+use Rattle.trace_replay.specs.Script.{Input, inputs_of, drives_of}
 use Rattle.trace_replay.specs.Moments.{Deed, Search, Seek, Recal, Offset, Centre, Clear, Pack, Transfer, Arrive, Sector, Intr, Try, Attn, End, Moment, Played, Told, Idle, played}
 use Rattle.trace_replay.specs.Drives.{drive_after}
 use Rattle.trace_replay.specs.Packs.{Surface, flips_at, surface_read, surface_written}
 use Rattle.trace_replay.specs.Service.{in_hand, target_of}
 use Rattle.trace_replay.specs.Events.{Wish, NoLine, DueLine, Arrival, SectorLine, Interrupt, Attention, Refusal, IdleLine}
-use Rattle.trace_replay.specs.History.{is_refusal, with_deed, lines_after, lines_behind, lines_of}
-use Rattle.trace_replay.specs.Replay.{Replay, at_unit, this_or, LineMay, ToldMay, Follows, unit_after, surface_after, replay_told, told_after, drained, Submission, Refused, Joined, submission, submitted, replay_played, after_moment, after_moments, next_wish}
+use Rattle.trace_replay.specs.History.{with_deed, lines_after, lines_behind, lines_of}
+use Rattle.trace_replay.specs.Replay.{Replay, at_unit, this_or, LineMay, ToldMay, Follows, unit_after, surface_after, replay_told, told_after, drained, Submission, Refused, Joined, submitted, replay_played, after_moment, after_moments, next_wish}
 use Rattle.trace_replay.specs.Runs.{start_of}
 use Rattle.trace_replay.proofs.Unchanged.{drained_keeps}
 use Rattle.trace_replay.proofs.Following.{follow_on}
 use Rattle.driver_laws.proofs.rules.Armed.{performed_armed, hard_verdict, hard_stop}
 use Rattle.driver_laws.specs.rules.Strikes.{strikes_by, strikes_in, failures_in, FailuresAreFew}
-use Rattle.driver_laws.proofs.rules.Totals.{total, total_more, line_less, fault_strikes}
+use Rattle.driver_laws.proofs.rules.Totals.{total, line_less, fault_strikes}
 use Rattle.driver_laws.proofs.rules.Lives.{left_in, armed_more, struck_less, strikes_one}
 
--- what stops a drive is no error of its noise
-tag : Moved → ℕ
-tag verdict.Hard = 1
-tag v = 0
-
--- and a write has no verdict of that sort
+-- a hard verdict of a write is what stops the drive
 write_stops : (stop : Option Moved) (marked : Bool) (places : Option (List ℕ)) → IsVerdictBy stop marked true places verdict.Hard → stop ≡ Some verdict.Hard
-unfolding tag
-write_stops (Some stop) marked places is = ap Some (sym is)
-write_stops None true places is = absurd (eqb-false 1 0 refl (ap tag is))
-write_stops None false places is = absurd (eqb-false 1 0 refl (ap tag is))
+write_stops stop marked places is = search rules
 
 module _ (shows : List ℕ → Bool) (tells : (places : List ℕ) → Classes Shown places → shows places ≡ true) (x : ℕ) where
   -- so much is armed, live or has failed
@@ -87,14 +78,7 @@ module _ (shows : List ℕ → Bool) (tells : (places : List ℕ) → Classes Sh
       (line_less (s.units x).drive (at_unit s x).state (target_of (s.units x).drive.kind (in_hand (s.units x).service)) deed) (live_less s x deed) under)
 
   ends : (s : Replay) (a : Answer) (lines : List Deed) (n : ℕ) → IsUnder s lines n → Goes s (End a) lines n
-  ends s a lines n under = at (is_refusal a)
-    where
-      none : (t b f : ℕ) → t + b + f ≤ n → t + b + 0 ≤ n
-      none t b f e = omega (arith, e)
-
-      at : (b : Bool) → sum_of (s.units x).drive s.surface.live (if b then lines else []) ≤ n
-      at true = under
-      at false = none (total (s.units x).drive.armed) (left_in shows x s.surface.live) (failures_in lines) under
+  ends s a lines n under = search rules
 
   faulted : (s : Replay) (b : ℕ) (k : FaultKind) (lines : List Deed) (n : ℕ)
       → IsVerdict (s.units x).drive (s.surface.is_marked x b) (flips_at s.surface x (s.units x).drive b) (verdict.Faulted k) → IsUnder s lines n → Goes s (Sector b (verdict.Faulted k)) lines n
@@ -171,12 +155,7 @@ module _ (shows : List ℕ → Bool) (tells : (places : List ℕ) → Classes Sh
   ]
 
   refused_lines : (line unit id : ℕ) (a : Answer) (lines : List Deed) → failures_in (lines_after x (Told line unit id (End a)) lines) ≤ failures_in lines
-  refused_lines line unit id a lines = at (x == unit) (is_refusal a)
-    where
-      at : (b r : Bool) → failures_in (if b then (if r then lines else []) else lines) ≤ failures_in lines
-      at true true = omega arith
-      at true false = omega arith
-      at false r = omega arith
+  refused_lines line unit id a lines = search rules
 
   told_line : (s : Replay) (line unit id : ℕ) (deed : Deed) (lines : List Deed) (n : ℕ) → LineMay s line unit id deed → n < 28 → IsUnder s lines n
       → IsUnder (drained (replay_told s unit deed (unit_after s unit deed))) (lines_after x (Told line unit id deed) lines) n
@@ -185,13 +164,7 @@ module _ (shows : List ℕ → Bool) (tells : (places : List ℕ) → Classes Sh
 
   told_under : (wish : Wish) (s : Replay) (line unit id : ℕ) (deed : Deed) (lines : List Deed) (n : ℕ) → ToldMay wish s line unit id deed → n < 28 → IsUnder s lines n
       → IsUnder (told_after wish s unit deed) (lines_after x (Told line unit id deed) lines) n
-  told_under (Refusal u i why) s line unit id deed lines n may small under =
-      subst (λ z. sum_of (s.units x).drive s.surface.live (lines_after x (Told line unit id z) lines) ≤ n) (sym may.answered)
-      (fewer (total (s.units x).drive.armed + left_in shows x s.surface.live) (failures_in lines) (failures_in (lines_after x (Told line unit id (End (rejection_answer why))) lines))
-      (refused_lines line unit id (rejection_answer why) lines) under)
-    where
-      fewer : (t f f' : ℕ) → f' ≤ f → t + f ≤ n → t + f' ≤ n
-      fewer t f f' p e = omega (arith, p, e)
+  told_under (Refusal u i why) s line unit id deed lines n may small under = search rules
   told_under NoLine s line unit id deed lines n may small under = told_line s line unit id deed lines n may small under
   told_under (DueLine u) s line unit id deed lines n may small under = told_line s line unit id deed lines n may small under
   told_under (Arrival u) s line unit id deed lines n may small under = told_line s line unit id deed lines n may small under
@@ -202,11 +175,7 @@ module _ (shows : List ℕ → Bool) (tells : (places : List ℕ) → Classes Sh
 
   -- ---- a line of the script
   joined_drive : (s : Replay) (r : Request) (met : Submission) → ((submitted s r met).units x).drive ≡ (s.units x).drive
-  joined_drive s r (Refused why) = refl
-  joined_drive s r Joined = elim (eqb_tells x r.unit) [
-    | inl is ↦ rw is.0 (ap (λ z. (s.units z).drive) (sym is.1))
-    | inr differ ↦ rw differ.0 refl
-  ]
+  joined_drive s r met = search rules
 
   joined_surface : (s : Replay) (r : Request) (met : Submission) → (submitted s r met).surface ≡ s.surface
   joined_surface s r (Refused why) = refl
@@ -228,30 +197,10 @@ module _ (shows : List ℕ → Bool) (tells : (places : List ℕ) → Classes Sh
 
   arms : (b : Bool) (kind : FaultKind) (times : ℕ) (d : DriveState) (l f n : ℕ) → total d.armed + l + f ≤ n
       → total (if b then fault_armed kind times d else d).armed + l + f ≤ n + (if b then times else 0)
-  arms true kind times d l f n under = subst (λ z. z + l + f ≤ n + times) (sym (total_more kind times d.armed)) (more (total d.armed) under)
-    where
-      more : (t : ℕ) → t + l + f ≤ n → t + times + l + f ≤ n + times
-      more t e = omega (arith, e)
-  arms false kind times d l f n under = none_more (total d.armed + l + f) n under
+  arms b kind times d l f n under = search rules
 
   script_under : (s : Replay) (input : Input) (lines : List Deed) (n : ℕ) → IsUnder s lines n → IsUnder (replay_played s input) lines (n + strikes_by shows x input)
-  script_under s (Submit r) lines n under =
-      subst (λ z. sum_of z (submitted s r (submission s r)).surface.live lines ≤ n + 0) (sym (joined_drive s r (submission s r)))
-      (subst (λ z. sum_of (s.units x).drive (Surface.live z) lines ≤ n + 0) (sym (joined_surface s r (submission s r))) (none_more (sum_of (s.units x).drive s.surface.live lines) n under))
-  script_under s (ArriveAt u) lines n under = none_more (sum_of (s.units x).drive s.surface.live lines) n under
-  script_under s (MoveAt a) lines n under = none_more (sum_of (s.units x).drive s.surface.live lines) n under
-  script_under s (AttendTo a) lines n under = none_more (sum_of (s.units x).drive s.surface.live lines) n under
-  script_under s Drain lines n under = none_more (sum_of (s.units x).drive s.surface.live lines) n under
-  script_under s (Turn u y) lines n under = same_armed s (if x == u then turned y (s.units x).drive else (s.units x).drive) lines n (either (x == u) (turned y (s.units x).drive) (s.units x).drive refl) under
-  script_under s (Noise noise) lines n under =
-      sums (total (s.units x).drive.armed) _ (left_in shows x s.surface.live) (strikes_by shows x (Noise noise)) (failures_in lines) (armed_more shows x noise s.surface.live) under
-    where
-      sums : (t b' b m f : ℕ) → b' ≤ b + m → t + b + f ≤ n → t + b' + f ≤ n + m
-      sums t b' b m f e under = omega (arith, e, under)
-  script_under s (Arm u kind times) lines n under = arms (x == u) kind times (s.units x).drive (left_in shows x s.surface.live) (failures_in lines) n under
-  script_under s (SetOnline u on) lines n under =
-      same_armed s (if x == u then online_set on (s.units x).drive else (s.units x).drive) lines n (either (x == u) (online_set on (s.units x).drive) (s.units x).drive (online_same on (s.units x).drive)) under
-  script_under s (SetLocked u on) lines n under = same_armed s (if x == u then locked_set on (s.units x).drive else (s.units x).drive) lines n (either (x == u) (locked_set on (s.units x).drive) (s.units x).drive refl) under
+  script_under s input lines n under = search (rules, sum_of, joined_drive, joined_surface, none_more, same_armed, either, total, left_in, armed_more, arms, online_same)
 
   -- ---- all moments
   none_yet : (n b : ℕ) → n + b < 28 → n < 28

@@ -1,5 +1,5 @@
 -- Every changed entry is written back.
-use Rattle.std.proofs.Common.{◌≡◌, inl, inr, ℕ, Bool, true, false, List, [], ◌∷◌, None, Some, refl, sym, ap, ◌∙◌, subst}
+use Rattle.std.proofs.Common.{◌≡◌, inl, inr, ℕ, Bool, true, false, List, [], ◌∷◌, None, Some, refl, sym, ap, ◌∙◌, subst, rules}
 use Rattle.std.specs.Prelude.{map, if◌then◌else◌, IsSome}
 use Rattle.std.specs.List.{AllByRecursion}
 use Rattle.driver_laws.specs.rules.Requests.{Map, writes, behind_one, behind}
@@ -15,16 +15,7 @@ use Rattle.driver_laws.proofs.rules.Ones.{IsFound, each_found}
 write_back_one : (held : Map) (e : Entry) (entries : List Entry) → AreApart (e ∷ entries) → AllFit held (e ∷ entries) → (changed : Bool) → e.changed ≡ changed
     → (AllFit (behind held (write_backs (if changed then Some e else None))) entries)
     × ((u b : ℕ) → cached entries (behind held (write_backs (if changed then Some e else None))) u b ≡ cached (e ∷ entries) held u b)
-write_back_one held e entries apart fit false not = (
-  fit.1,
-  λ u b. elim (tells u b e) [
-    | inl key ↦ ap (λ z. bytes_or z (held u b)) (none u b key) ∙ at_key held u b e key ∙ fit.0.same not ∙ sym (ap (λ z. bytes_or z (held u b)) (at_own u b e entries key.is))
-    | inr other ↦ sym (ap (λ z. bytes_or z (held u b)) (at_other u b e entries other))
-  ],
-)
-  where
-    none : (u b : ℕ) → IsKey u b e → entry_of u b entries ≡ None
-    none u b key = subst (λ z. entry_of z b entries ≡ None) (sym key.unit_is) (subst (λ z. entry_of e.unit z entries ≡ None) (sym key.block_is) apart.0)
+write_back_one held e entries apart fit false not = search rules
 write_back_one held e entries apart fit true is = (
   keeps_fit held e entries (away entries (none_misses e.unit e.block entries apart.0)) fit.1,
   λ u b. elim (tells u b e) [

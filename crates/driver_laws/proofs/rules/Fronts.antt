@@ -1,5 +1,5 @@
 -- A run that was begun is so wherever it is cut.
-use Rattle.std.proofs.Common.{◌≡◌, ℕ, List, [], ◌∷◌, ◌++◌, Option, refl, sym, ap, subst, ◌∙◌, append_assoc}
+use Rattle.std.proofs.Common.{◌≡◌, ℕ, List, [], ◌∷◌, ◌++◌, Option, refl, sym, ap, subst, append_assoc, rules}
 use Rattle.pack_geometry.specs.Pack as model
 use Rattle.pack_geometry.specs.TableSpelling.{Table}
 use Rattle.trace_replay.specs.Script.{Script, Numbered, drives_of}
@@ -16,13 +16,7 @@ played_append (Told line unit id deed ∷ xs) ys = played_append xs ys
 played_append (Idle line ∷ xs) ys = played_append xs ys
 
 pub begun_front : (script : Script) (tables : ℕ → Option Table) (old : ℕ → model.Pack) (ms rest : List Moment) → IsBegun script tables old (ms ++ rest) → IsBegun script tables old ms
-begun_front script tables old ms rest begun = record {
-  good = begun.good;
-  later = played rest ++ begun.later;
-  inputs = begun.inputs ∙ ap (λ (ns : List Numbered). ns ++ begun.later) (played_append ms rest) ∙ append_assoc (played ms) (played rest) begun.later;
-  tables_read = begun.tables_read;
-  follows = ((follow_on (start_of script tables old) ms rest).0 begun.follows).0;
-}
+begun_front script tables old ms rest begun = search (rules, played_append, append_assoc, follow_on)
 
 pub fronts_keep : BeginningsKeep → FrontsKeep
 fronts_keep keep script tables old new ms front rest begun none left =

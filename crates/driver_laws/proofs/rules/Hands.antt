@@ -1,14 +1,15 @@
 -- The request in hand stands for blocks of the map: as it begins, as a block more is done, and as it ends.
-use Rattle.std.proofs.Common.{◌≡◌, ◌≢◌, inl, inr, ℕ, ◌<◌, ◌+◌, true, List, ◌++◌, take, Option, None, Some, refl, sym, ap, ◌∙◌, subst, arith, suc, length, length-append}
+use Rattle.std.proofs.Common.{◌≡◌, ◌≢◌, inl, inr, ℕ, ◌<◌, ◌+◌, true, List, ◌++◌, take, Option, None, Some, refl, sym, ap, ◌∙◌, subst, arith, suc, length, length-append, rules}
 use Rattle.std.specs.Prelude.{is_some, IsSome}
 use Rattle.std.proofs.lemmas.Bool.{true≢false}
 use Rattle.std.proofs.lemmas.Bool.Decides.{eqb_tells}
+use borrow.Author.Count.{below_more}
 use Rattle.trace_replay.specs.requests.Requests.{Request}
 use Rattle.trace_replay.specs.Packs.{size_of_block, sector_of_block}
 use Rattle.trace_replay.specs.Conversation.{Progress, not_begun}
 use Rattle.driver_laws.specs.rules.Machine.{Blocks, bytes_or_none, bytes_of_first, blocks_done}
 use Rattle.driver_laws.specs.rules.Stands.{held_at, IsSure, HandStands, size_of_first}
-use Rattle.driver_laws.proofs.rules.Blocks.{begun_blocks, block_not_done, read_blocks, block_done, other_blocks, next_bytes, reads_so, held_some}
+use Rattle.driver_laws.proofs.rules.Blocks.{block_not_done, read_blocks, block_done, other_blocks, next_bytes, reads_so, held_some}
 
 -- only the blocks done and the bytes matter
 pub same_hand : (sure : ℕ → Type 0) (homes : ℕ → Option ℕ) (first : ℕ) (r : Request) (p q : Progress) (sectors : ℕ → List ℕ) (blocks : Blocks) → q.done ≡ p.done → q.bytes ≡ p.bytes
@@ -31,12 +32,6 @@ pub no_home_at : (sure : ℕ → Type 0) (homes : ℕ → Option ℕ) (first : �
 no_home_at sure homes first r p sectors blocks h home =
     sym (block_not_done blocks first r p.done) ∙ sym (h.contents (first + p.done)) ∙ ap (held_at sectors) home
 
-one_more : (P : ℕ → Type 0) (n k : ℕ) → k < n + 1 → ((j : ℕ) → j < n → P j) → P n → P k
-one_more P n k lt below here = elim (eqb_tells k n) [
-  | inl same ↦ subst P (sym same.1) here
-  | inr other ↦ below k (omega (arith, lt, other.1))
-]
-
 -- A BLOCK MORE of a read
 pub read_more : (sure : ℕ → Type 0) (homes : ℕ → Option ℕ) (first : ℕ) (r : Request) (p q : Progress) (sectors : ℕ → List ℕ) (blocks : Blocks) (bytes : List ℕ)
     → q.done ≡ p.done + 1 → q.bytes ≡ p.bytes ++ bytes → r.written ≡ None → IsSome (blocks (first + p.done)) → length bytes ≡ size_of_block r p.done
@@ -44,7 +39,7 @@ pub read_more : (sure : ℕ → Type 0) (homes : ℕ → Option ℕ) (first : �
     → HandStands sure homes first r p sectors blocks → HandStands sure homes first r q sectors blocks
 read_more sure homes first r p q sectors blocks bytes done all reads usable long gives h = record {
   contents = λ b. h.contents b ∙ read_blocks blocks first r p.done b (reads_so r.written reads) ∙ sym (read_blocks blocks first r q.done b (reads_so r.written reads));
-  usable = λ k lt. one_more (λ j. IsSome (blocks (first + j))) p.done k (subst (λ n. k < n) done lt) h.usable usable;
+  usable = λ k lt. below_more (λ j. IsSome (blocks (first + j))) p.done h.usable usable k (subst (λ n. k < n) done lt);
   size = λ w. ap length all ∙ length-append p.bytes bytes ∙ next_size (length p.bytes) (length bytes) p.done q.done done (h.size w) long;
   read = λ w is_sure. all ∙ ap (λ z. z ++ bytes) (h.read w is_sure) ∙ ap (λ z. bytes_of_first p.done blocks first r ++ z) (gives is_sure)
       ∙ sym (next_bytes p.done blocks first r) ∙ ap (λ n. bytes_of_first n blocks first r) (sym done);
@@ -67,7 +62,7 @@ pub written_more : (sure : ℕ → Type 0) (homes : ℕ → Option ℕ) (first :
     → HandStands sure homes first r p sectors blocks → HandStands sure homes first r q new blocks
 written_more sure homes first r p q sectors new blocks sector apart done writes home here there h = record {
   contents = λ b. contents b ∙ ap (λ n. blocks_done blocks first r n b) (sym done);
-  usable = λ k lt. one_more (λ j. IsSome (blocks (first + j))) p.done k (subst (λ n. k < n) done lt) h.usable (ap is_some (at_home sure homes first r p sectors blocks sector h home));
+  usable = λ k lt. below_more (λ j. IsSome (blocks (first + j))) p.done h.usable (ap is_some (at_home sure homes first r p sectors blocks sector h home)) k (subst (λ n. k < n) done lt);
   size = λ reads. absurd (true≢false (sym writes ∙ reads_so r.written reads));
   read = λ reads is_sure. absurd (true≢false (sym writes ∙ reads_so r.written reads));
 }
@@ -82,15 +77,7 @@ written_more sure homes first r p q sectors new blocks sector apart done writes 
 -- A REQUEST THAT BEGINS, over a map that the homes hold
 pub begins : (sure : ℕ → Type 0) (homes : ℕ → Option ℕ) (first : ℕ) (r : Request) (sectors : ℕ → List ℕ) (blocks : Blocks) → ((b : ℕ) → held_at sectors (homes b) ≡ blocks b)
     → HandStands sure homes first r not_begun sectors blocks
-begins sure homes first r sectors blocks holds = record {
-  contents = λ b. holds b ∙ sym (begun_blocks blocks first r b);
-  usable = λ k lt. absurd (none k lt);
-  size = λ reads. refl;
-  read = λ reads is_sure. refl;
-}
-  where
-    none : (k : ℕ) → k < 0 → ⊥
-    none k lt = omega (arith, lt)
+begins sure homes first r sectors blocks holds = search rules
 
 -- sectors that hold the same
 pub same_sectors : (sure : ℕ → Type 0) (homes : ℕ → Option ℕ) (first : ℕ) (r : Request) (p : Progress) (sectors new : ℕ → List ℕ) (blocks : Blocks) → ((b : ℕ) → new b ≡ sectors b)

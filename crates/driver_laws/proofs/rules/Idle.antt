@@ -1,14 +1,12 @@
 -- What holds of an idle replay, from which all bounds are counted.
-use Rattle.std.proofs.Common.{◌≡◌, inl, ℕ, List, [], ◌∷◌, Option, refl, sym, ap, ◌∙◌, subst, arith}
+use Rattle.std.proofs.Common.{◌≡◌, ℕ, List, [], ◌∷◌, Option, refl, subst, arith, rules}
 use Rattle.pack_geometry.specs.TableSpelling.{Table}
 use Rattle.hardware_table.specs.Drive.{DriveState}
 use Rattle.trace_replay.specs.requests.ServiceOrder.{Waiting as Waiter}
-use Rattle.trace_replay.proofs.requests.ServiceOrderRuns.{IsService}
 use Rattle.trace_replay.specs.requests.Requests.{Request}
-use Rattle.trace_replay.specs.Service.{cylinder_of}
-use Rattle.trace_replay.specs.Conversation.{Stage, Waiting, Progress, not_begun}
+use Rattle.trace_replay.specs.Conversation.{Waiting, not_begun}
 use Rattle.trace_replay.specs.Replay.{Replay, UnitSeen}
-use Rattle.trace_replay.proofs.Kept.{AllFit, UnitFits, IsHeld, no}
+use Rattle.trace_replay.proofs.Kept.{AllFit, UnitFits, IsHeld}
 use Rattle.driver_laws.specs.rules.Drains.{IsIdle, StartsIdle}
 use Rattle.driver_laws.proofs.rules.Units.{UnitWithin}
 
@@ -17,23 +15,10 @@ abbrev unbegun : DriveState → ℕ → Option Table → UnitSeen
 unbegun d joined table = record { drive = d; service = record { waiting = []; joined = joined }; stage = Waiting; progress = not_begun; table = table }
 
 pub unit_is : (u : UnitSeen) → u.stage ≡ Waiting → u.service.waiting ≡ [] → u.progress ≡ not_begun → unbegun u.drive u.service.joined u.table ≡ u
-unit_is u stage waiting fresh =
-    ap (λ (z : List (Waiter Request)). record (unbegun u.drive u.service.joined u.table) { service = record { waiting = z; joined = u.service.joined } }) (sym waiting)
-    ∙ ap (λ (z : Stage). record { drive = u.drive; service = u.service; stage = z; progress = not_begun; table = u.table }) (sym stage)
-    ∙ ap (λ (z : Progress). record { drive = u.drive; service = u.service; stage = u.stage; progress = z; table = u.table }) (sym fresh)
-
-none_in_order : {A : Type 0} (c : A → ℕ) (joined : ℕ) → IsService c (record { waiting = []; joined = joined })
-none_in_order c joined = record { placed = tt; ascends = tt }
+unit_is u stage waiting fresh = search rules
 
 fits_unbegun : (d : DriveState) (joined : ℕ) (table : Option Table) → UnitFits (unbegun d joined table) []
-fits_unbegun d joined table = record {
-  fits = refl;
-  order = none_in_order (cylinder_of d.kind) joined;
-  some = tt;
-  empty = λ is. refl;
-  held = λ is. absurd (no (sym is));
-  fresh = inl refl;
-}
+fits_unbegun d joined table = search rules
 
 within_unbegun : (d : DriveState) (joined : ℕ) (table : Option Table) → UnitWithin (unbegun d joined table) []
 within_unbegun d joined table = record { events = omega arith; commands = omega arith }

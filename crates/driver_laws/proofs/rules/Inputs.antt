@@ -1,8 +1,7 @@
 -- A LINE OF THE SCRIPT: its request is submitted to the machine, or the machine is as it was.
-use Rattle.std.proofs.Common.{◌≡◌, ℕ, suc, ◌<◌, ◌≤◌, ◌+◌, nat_le, false, List, [], ◌∷◌, ◌++◌, length, Option, None, Some, refl, sym, ap, ◌∙◌, subst, arith, All}
+use Rattle.std.proofs.Common.{◌≡◌, ℕ, suc, ◌<◌, ◌≤◌, ◌+◌, nat_le, false, List, [], ◌∷◌, ◌++◌, length, Option, None, Some, refl, sym, ap, ◌∙◌, subst, arith, All, rules}
 use Rattle.pack_geometry.specs.declared.DriveKind.{DriveKind}
 use Rattle.pack_geometry.specs.Geometry.{limit_of, block_count}
-use Rattle.partitions.specs.Partitions.{admission}
 use Rattle.fire_code.specs.Noise.{IsNoise}
 use Rattle.hardware_table.specs.Noise.{LiveNoise}
 use Rattle.trace_replay.proofs.requests.ServiceOrderRuns.{newcomer, after_join-waiting}
@@ -15,7 +14,7 @@ use Rattle.trace_replay.specs.Packs.{surface_played}
 use Rattle.trace_replay.specs.Service.{cylinder_of, in_hand, frames_needed}
 use Rattle.trace_replay.specs.Conversation.{goes_on}
 use Rattle.trace_replay.specs.Events.{Serving, Wish, NoLine, IdleLine}
-use Rattle.trace_replay.specs.Replay.{Replay, UnitSeen, next_wish, InputMay, after_moment, Submission, Refused, Joined, submission, submission_by, submitted, unit_joined, joined_by, event_of, conditions_after, has_frames, act_submitted}
+use Rattle.trace_replay.specs.Replay.{Replay, UnitSeen, next_wish, InputMay, after_moment, Submission, Refused, Joined, submission, submitted, unit_joined, joined_by, event_of, conditions_after, act_submitted}
 use Rattle.trace_replay.proofs.Kept.{played_kind}
 use Rattle.driver_laws.specs.rules.Machine.{Machine, request_of, frames_of, kind_of, meets, after_input, answers_of_input, submitted as machine_submitted, answers_at_once}
 use Rattle.driver_laws.specs.rules.Stands.{Setup, home_in, is_sure_among, UnitStands, QueueStands, IsLive, StageStands, StandsFor, owed, owed_by, armed_by, MomentStep}
@@ -58,9 +57,7 @@ joined_stands_for setup armed s m r k h there new inside = record {
 
 -- what it meets is the same by the machine
 met_same : (setup : Setup) (armed : List LiveNoise) (s : Replay) (m : Machine) (r : Request) → Keeps setup s → StandsFor setup armed s m → submission s r ≡ meets setup.drives m r
-met_same setup armed s m r k h =
-    ap (λ kind. submission_by (admission kind r.part r.block r.count) (has_frames s r)) (k.kinds r.unit)
-    ∙ ap (λ n. submission_by (admission (kind_of setup.drives r.unit) r.part r.block r.count) (nat_le (n + frames_needed r) 16384)) h.frames
+met_same setup armed s m r k h = search rules
 
 -- ---- the script changes conditions
 pub conditions_stand : (setup : Setup) (armed : List LiveNoise) (s : Replay) (m : Machine) (input : Input) → StandsFor setup armed s m → (surface_played s.surface input).sector ≡ s.surface.sector

@@ -1,37 +1,26 @@
 -- What every state keeps that a legal beginning reaches is kept by each moment.
-use Rattle.std.proofs.Common.{◌≡◌, ◌≢◌, ◌⊎◌, inl, inr, ℕ, ◌==◌, ◌&&◌, nat_lt, Bool, true, false, List, [], Option, None, Some, refl, sym, ap, ◌∙◌, subst, arith}
-use Rattle.std.specs.Prelude.{if◌then◌else◌, find, option_map}
-use Rattle.std.proofs.lemmas.Option.{same_Some, none-some}
+use Rattle.std.proofs.Common.{◌≡◌, ◌≢◌, ◌⊎◌, inl, inr, ℕ, ◌&&◌, nat_lt, Bool, true, false, List, Option, None, Some, refl, sym, ap, ◌∙◌, subst, rules}
+use Rattle.std.specs.Prelude.{if◌then◌else◌, find}
 use Rattle.std.proofs.lemmas.Bool.Decides.{eqb_tells}
-use Rattle.std.proofs.lemmas.Bool.{false≢true}
 use Rattle.pack_geometry.specs.Pack as model
-use Rattle.hardware_table.specs.declared.FaultKind.{FaultKind}
-use Rattle.hardware_table.specs.declared.Moved.{Moved}
-use Rattle.hardware_table.specs.declared.Moved.TheVariants as verdict
 use Rattle.hardware_table.specs.Adapter.{AdapterState}
 use Rattle.hardware_table.specs.Drive.{is_positioning}
-use Rattle.hardware_table.specs.Moves.{IsVerdict, IsVerdictBy}
 use Rattle.trace_replay.specs.requests.Requests.{Rejection, rejection_answer}
-use Rattle.trace_replay.specs.Moments.{Deed, Search, Arrive, Sector, Intr, Try, Attn, End, Told}
+use Rattle.trace_replay.specs.Moments.{Deed, Search, End, Told}
 use Rattle.trace_replay.specs.Adapters.{AdapterSeen, can_move}
-use Rattle.trace_replay.specs.Packs.{VerdictMay, flips_at}
 use Rattle.trace_replay.specs.Conversation.{goes_on}
-use Rattle.trace_replay.specs.Events.{Act, Done, Refusing, Arriving, Trying, Serving, NothingToDo, Event, Wish, NoLine, DueLine, Arrival, SectorLine, Interrupt, Attention, Refusal, IdleLine, wish_of, wanted, act_after, act_of_arrival, act_of_move, act_of_attend, can_attend, adapters_there, is_no_line}
+use Rattle.trace_replay.specs.Events.{Act, Refusing, Event, Wish, NoLine, DueLine, Arrival, SectorLine, Interrupt, Attention, Refusal, IdleLine, wish_of, wanted, act_after, act_of_arrival, act_of_move, act_of_attend, can_attend, adapters_there, is_no_line}
 use Rattle.trace_replay.specs.Replay.{Replay, UnitSeen, with_state, next_wish, LineMay, ToldMay, unit_after, replay_told, drained, act_drained}
-use Rattle.trace_replay.specs.History.{with_deed, lines_after}
+use Rattle.trace_replay.specs.History.{lines_after}
 use Rattle.trace_replay.proofs.Unchanged.{either, with_other}
-use Rattle.trace_replay.proofs.Kept.{refused_is}
 use Rattle.driver_laws.specs.rules.Stands.{Setup}
 use Rattle.driver_laws.proofs.rules.MachineUnits.{IsFirst}
 use Rattle.trace_replay.proofs.Histories.{WasMarked}
-use Rattle.trace_replay.proofs.Unusable.{read_is_none, marked_only, was_told}
+use Rattle.trace_replay.proofs.Unusable.{marked_only, was_told}
 
 -- what holds of one state and of all others holds of all after one of them changed
 pub with_each : {T : Type 0} (P : ℕ → T → Type 0) (states : ℕ → T) (k : ℕ) (state : T) → P k state → ((x : ℕ) → x ≢ k → P x (states x)) → (x : ℕ) → P x (with_state states k state x)
-with_each P states k state mine others x = elim (eqb_tells x k) [
-  | inl same ↦ rw same.0 (subst (λ z. P z state) (sym same.1) mine)
-  | inr other ↦ rw other.0 (others x other.1)
-]
+with_each P states k state mine others x = search rules
 
 -- ---- wishes
 unit_in : Wish → ℕ
@@ -69,34 +58,12 @@ pub calm_first : (act : Act) (goes : Bool) → IsCalm act → IsFirst act goes
 calm_first (Refusing u i why) goes is = absurd is
 calm_first other goes is = tt
 
-not_two : (n : ℕ) → n ≡ 0 → n ≡ 2 → ⊥
-not_two n e f = omega (arith, e, f)
-
 pub calm_line : (adapters : ℕ → AdapterSeen) (line : ℕ) (drains between : Bool) (speaker : ℕ) (act : Act) (goes : Bool) (unit : ℕ) (deed : Deed) → IsFirst act goes
     → wanted adapters (record { line = line; drains = drains; between = between; act = act; speaker = speaker }) goes ≡ wish_of unit deed → IsCalm act
-unfolding unit_in sort_in
-calm_line adapters line drains between speaker Done goes unit deed first is = tt
-calm_line adapters line drains between speaker (Refusing u i why) true unit deed first is = absurd (false≢true (sym first))
-calm_line adapters line drains between speaker (Refusing u i why) false unit deed first is = absurd (not_two (sort_in (wish_of unit deed)) (wish_unit unit deed).1 (sym (ap sort_in is)))
-calm_line adapters line drains between speaker (Arriving u) goes unit deed first is = tt
-calm_line adapters line drains between speaker (Trying a) goes unit deed first is = tt
-calm_line adapters line drains between speaker (Serving a i ds) goes unit deed first is = tt
-calm_line adapters line drains between speaker NothingToDo goes unit deed first is = tt
-
-calm_interrupt : (act : Act) → IsCalm act → IsCalm (act_after Intr act)
-calm_interrupt (Refusing u i why) is = absurd is
-calm_interrupt other is = tt
-
-calm_attention : (act : Act) → IsCalm act → IsCalm (act_after Attn act)
-calm_attention (Refusing u i why) is = absurd is
-calm_attention other is = tt
+calm_line adapters line drains between speaker act goes unit deed first is = search rules
 
 pub calm_after : (deed : Deed) (act : Act) → IsCalm act → IsCalm (act_after deed act)
-calm_after Arrive act is = tt
-calm_after (Sector b v) act is = tt
-calm_after Intr act is = calm_interrupt act is
-calm_after Attn act is = calm_attention act is
-calm_after other act is = is
+calm_after deed act is = search rules
 
 -- nor is an event of a drain
 calm_attend : (adapters : ℕ → AdapterState) (found : Option ℕ) → IsCalm (act_of_attend adapters found)
@@ -120,60 +87,21 @@ calm_either false x y a b = b
 
 -- where no line is to come none does
 pub no_line_told : (s : Replay) (line unit id : ℕ) (deed : Deed) → next_wish s ≡ NoLine → ToldMay (next_wish s) s line unit id deed → ⊥
-unfolding unit_in sort_in
-no_line_told s line unit id deed is may = at (subst (λ w. ToldMay w s line unit id deed) is may)
-  where
-    at : LineMay s line unit id deed → ⊥
-    at m = omega (arith, ap sort_in (sym is ∙ m.wished), (wish_unit unit deed).1)
+no_line_told s line unit id deed is may = search rules
 
 pub no_line_idle : (s : Replay) → next_wish s ≡ NoLine → next_wish s ≡ IdleLine → ⊥
-unfolding unit_in sort_in
-no_line_idle s is idle = omega (arith, ap sort_in (sym is ∙ idle))
+no_line_idle s is idle = cc
 
 -- ---- a verdict mark is of a marked sector
-sort : Moved → ℕ
-sort verdict.Clean = 0
-sort (verdict.Burst at q) = 1
-sort verdict.Hard = 2
-sort verdict.Marked = 3
-sort (verdict.Faulted k) = 4
-sort verdict.Offline = 5
-
-stop_sort : (online : Bool) (armed : Option FaultKind) (stop : Moved) → (if online then option_map verdict.Faulted armed else Some verdict.Offline) ≡ Some stop → sort stop ≡ 3 → ⊥
-unfolding sort
-stop_sort true None stop is three = none-some stop is
-stop_sort true (Some k) stop is three = omega (arith, three, ap sort (same_Some (verdict.Faulted k) stop is))
-stop_sort false armed stop is three = omega (arith, three, ap sort (same_Some verdict.Offline stop is))
-
-marked_by : (stop : Option Moved) (marked write : Bool) (places : Option (List ℕ)) → ((v : Moved) → stop ≡ Some v → sort v ≡ 3 → ⊥) → IsVerdictBy stop marked write places verdict.Marked → marked ≡ true
-unfolding sort
-marked_by (Some stop) marked write places never is = absurd (never stop refl (ap sort (sym is)))
-marked_by None true write places never is = refl
-marked_by None false true places never is = absurd (omega (arith, ap sort is))
-marked_by None false false places never is = absurd (read_is_none places is)
-
 abbrev AreTrue : Setup → (ℕ → List Deed) → Type 0
 AreTrue setup lines = (unit block : ℕ) → WasMarked block (lines unit) → model.is_marked (setup.packs unit) block ≡ true
 
 line_true : (setup : Setup) (s : Replay) (line unit id : ℕ) (deed : Deed) (lines : ℕ → List Deed) → ((unit block : ℕ) → s.surface.is_marked unit block ≡ model.is_marked (setup.packs unit) block)
     → LineMay s line unit id deed → AreTrue setup lines → AreTrue setup (λ x. lines_after x (Told line unit id deed) (lines x))
-line_true setup s line unit id deed lines marks may all x b = elim (eqb_tells x unit) [
-  | inl same ↦ rw same.0 (λ w. at same.1 (was_told deed (lines x) b w))
-  | inr other ↦ rw other.0 (all x b)
-]
-  where
-    at : x ≡ unit → (deed ≡ Sector b verdict.Marked) ⊎ WasMarked b (lines x) → model.is_marked (setup.packs x) b ≡ true
-    at here (inl sector) =
-        ap (λ z. model.is_marked (setup.packs z) b) here ∙ sym (marks unit b)
-        ∙ marked_only (s.units unit).drive (s.surface.is_marked unit b) (flips_at s.surface unit (s.units unit).drive b) (subst (λ z. VerdictMay s.surface unit (s.units unit).drive z) sector may.verdict)
-    at here (inr before) = all x b before
+line_true setup s line unit id deed lines marks may all x b = search (rules, eqb_tells, was_told, marked_only)
 
 refusal_true : (setup : Setup) (line unit id : ℕ) (why : Rejection) (lines : ℕ → List Deed) → AreTrue setup lines → AreTrue setup (λ x. lines_after x (Told line unit id (End (rejection_answer why))) (lines x))
-refusal_true setup line unit id why lines all x b = at (x == unit)
-  where
-    at : (c : Bool) → WasMarked b (if c then with_deed (End (rejection_answer why)) (lines x) else lines x) → model.is_marked (setup.packs x) b ≡ true
-    at true = subst (λ z. WasMarked b (if z then lines x else []) → model.is_marked (setup.packs x) b ≡ true) (sym (refused_is why)) (all x b)
-    at false = all x b
+refusal_true setup line unit id why lines all x b = search rules
 
 pub told_true : (setup : Setup) (wish : Wish) (s : Replay) (line unit id : ℕ) (deed : Deed) (lines : ℕ → List Deed) → ((unit block : ℕ) → s.surface.is_marked unit block ≡ model.is_marked (setup.packs unit) block)
     → ToldMay wish s line unit id deed → AreTrue setup lines → AreTrue setup (λ x. lines_after x (Told line unit id deed) (lines x))

@@ -1,21 +1,15 @@
 -- Each moment that may come keeps what every reached state keeps.
-use Rattle.std.proofs.Common.{◌≡◌, inl, inr, ℕ, ◌==◌, Bool, true, false, List, [], Option, Some, refl, ap, ◌∙◌, arith}
+use Rattle.std.proofs.Common.{◌≡◌, ℕ, true, false, List, [], Option, refl, ap, ◌∙◌, rules}
 use Rattle.std.specs.Prelude.{if◌then◌else◌}
-use Rattle.std.proofs.lemmas.Bool.Decides.{eqb_tells}
 use Rattle.pack_geometry.specs.declared.DriveKind.{DriveKind}
 use Rattle.pack_geometry.specs.Pack as model
-use Rattle.drive_registers.specs.declared.Function.TheVariants as function
-use Rattle.hardware_table.specs.Drive.{is_positioning}
 use Rattle.trace_replay.specs.requests.Requests.{Request}
 use Rattle.trace_replay.specs.Script.{Input, Submit, ArriveAt, MoveAt, AttendTo, Drain, IsInput}
 use Rattle.trace_replay.specs.Moments.{Deed, Moment, Played, Told, Idle}
-use Rattle.trace_replay.specs.Adapters.{AdapterSeen, can_move}
-use Rattle.trace_replay.specs.Drives.{attached}
 use Rattle.trace_replay.specs.Packs.{surface_of}
-use Rattle.trace_replay.specs.Service.{in_hand, target_of}
 use Rattle.trace_replay.specs.Conversation.{goes_on}
-use Rattle.trace_replay.specs.Events.{Arriving, Trying, NothingToDo, Event, Wish, NoLine, DueLine, Refusal, wanted, can_attend, serving}
-use Rattle.trace_replay.specs.Replay.{Replay, UnitSeen, next_wish, at_unit, ToldMay, InputMay, MayCome, after_moment, unit_after, replay_told, told_after, act_drained, Submission, Refused, Joined, submission, submitted, unit_joined, replay_played, event_of, act_submitted}
+use Rattle.trace_replay.specs.Events.{NothingToDo, Event, Wish, Refusal, can_attend, serving}
+use Rattle.trace_replay.specs.Replay.{Replay, UnitSeen, next_wish, ToldMay, InputMay, MayCome, after_moment, unit_after, replay_told, told_after, Submission, Refused, Joined, submission, submitted, unit_joined, replay_played, event_of, act_submitted}
 use Rattle.trace_replay.specs.History.{lines_after}
 use Rattle.trace_replay.specs.Causes.{AsksSome}
 use Rattle.trace_replay.proofs.Unchanged.{told_keeps, surface_marks, with_other}
@@ -23,7 +17,7 @@ use Rattle.trace_replay.proofs.Kept.{AllFit, told_all, played_all, starts, after
 use Rattle.driver_laws.specs.rules.Machine.{kind_of}
 use Rattle.driver_laws.specs.rules.Stands.{Setup, start_over, IsGiven}
 use Rattle.driver_laws.proofs.rules.MachineUnits.{Keeps}
-use Rattle.driver_laws.proofs.rules.Keeping.{with_each, Events, line_events, told_true, calm_first, calm_drain, calm_either}
+use Rattle.driver_laws.proofs.rules.Keeping.{with_each, Events, line_events, told_true, calm_first, calm_either}
 use Rattle.trace_replay.proofs.Histories.{WasMarked}
 use Rattle.trace_replay.proofs.Asking.{there_asks}
 use Rattle.trace_replay.proofs.Unusable.{attached_kind}
@@ -35,12 +29,7 @@ pub record Steady (setup : Setup) (s : Replay) : Type 0 where
   pub marks : (unit block : ℕ) → s.surface.is_marked unit block ≡ model.is_marked (setup.packs unit) block
 
 line_steady : (setup : Setup) (s : Replay) (unit : ℕ) (deed : Deed) (event : Event) → Steady setup s → Steady setup (record (replay_told s unit deed (unit_after s unit deed)) { event = event })
-line_steady setup s unit deed event h = record {
-  kinds = with_each (λ x (u : UnitSeen). u.drive.kind ≡ kind_of setup.drives x) s.units unit (unit_after s unit deed)
-      (after_kind (s.units unit).drive (at_unit s unit).state (target_of (s.units unit).drive.kind (in_hand (s.units unit).service)) deed ∙ h.kinds unit) (λ x apart. h.kinds x);
-  tables = with_each (λ x (u : UnitSeen). u.table ≡ setup.tables x) s.units unit (unit_after s unit deed) (h.tables unit) (λ x apart. h.tables x);
-  marks = λ u b. ap (λ f. f u b) (surface_marks s unit deed) ∙ h.marks u b;
-}
+line_steady setup s unit deed event h = search (rules, with_each, after_kind, surface_marks)
 
 told_steady : (setup : Setup) (wish : Wish) (s : Replay) (unit : ℕ) (deed : Deed) → Steady setup s → Steady setup (told_after wish s unit deed)
 told_steady setup wish s unit deed h =
@@ -55,33 +44,16 @@ joined_steady setup s r Joined h = record {
 }
 
 played_steady : (setup : Setup) (s : Replay) (input : Input) → Steady setup s → Steady setup (replay_played s input)
-played_steady setup s (Submit r) h = joined_steady setup s r (submission s r) h
-played_steady setup s (ArriveAt u) h = h
-played_steady setup s (MoveAt a) h = h
-played_steady setup s (AttendTo a) h = h
-played_steady setup s Drain h = h
-played_steady setup s other h = record { kinds = λ x. played_kind x (s.units x).drive other ∙ h.kinds x; tables = h.tables; marks = h.marks }
+played_steady setup s input h = search (rules, joined_steady, played_kind)
 
 -- ---- who goes on
 told_events : (wish : Wish) (s : Replay) (line unit id : ℕ) (deed : Deed) → Events s → ToldMay wish s line unit id deed → Events (told_after wish s unit deed)
 told_events (Refusal u i why) s line unit id deed e may = record { quiet = e.quiet; refusing = tt }
 told_events other s line unit id deed e may = line_events s line unit id deed e may
 
-wish_number : Wish → ℕ
-wish_number (DueLine unit) = 1
-wish_number wish = 0
-
-rests : (adapters : ℕ → AdapterSeen) (e : Event) (goes : Bool) → wanted adapters e goes ≡ NoLine → goes ≡ false
-unfolding wish_number
-rests adapters e true is = absurd (omega (arith, ap wish_number is))
-rests adapters e false is = refl
-
 -- before a line of the script no unit goes on
 all_rest : (s : Replay) (line : ℕ) → Events s → InputMay s line → (unit : ℕ) → goes_on (s.units unit).stage ≡ false
-all_rest s line e may unit = elim (eqb_tells unit s.event.speaker) [
-  | inl same ↦ ap (λ z. goes_on (s.units z).stage) same.1 ∙ rests s.adapters s.event (goes_on (s.units s.event.speaker).stage) may.over
-  | inr other ↦ e.quiet unit other.1
-]
+all_rest s line e may unit = search rules
 
 submitted_events : (s : Replay) (r : Request) (line : ℕ) (met : Submission) → ((unit : ℕ) → goes_on (s.units unit).stage ≡ false)
     → Events (record (submitted s r met) { event = record { line = line; drains = false; between = false; act = act_submitted r met; speaker = r.unit } })
@@ -93,23 +65,14 @@ submitted_events s r line Joined rest = record {
 
 played_events : (s : Replay) (line : ℕ) (input : Input) → ((unit : ℕ) → goes_on (s.units unit).stage ≡ false) → Events (after_moment s (Played line input))
 played_events s line (Submit r) rest = submitted_events s r line (submission s r) rest
-played_events s line (ArriveAt u) rest = record {
-  quiet = λ x apart. rest x;
-  refusing = calm_first (if is_positioning (s.units u).drive.work then Arriving u else NothingToDo) (goes_on (s.units 0).stage) (calm_either (is_positioning (s.units u).drive.work) (Arriving u) NothingToDo tt tt);
-}
-played_events s line (MoveAt a) rest = record {
-  quiet = λ x apart. rest x;
-  refusing = calm_first (if can_move (s.adapters a).state then Trying a else NothingToDo) (goes_on (s.units 0).stage) (calm_either (can_move (s.adapters a).state) (Trying a) NothingToDo tt tt);
-}
+played_events s line (ArriveAt u) rest = search rules
+played_events s line (MoveAt a) rest = search rules
 played_events s line (AttendTo a) rest = record {
   quiet = λ x apart. rest x;
   refusing = calm_first (if can_attend (s.adapters a).state then serving a (s.adapters a).state else NothingToDo) (goes_on (s.units 0).stage)
       (calm_either (can_attend (s.adapters a).state) (serving a (s.adapters a).state) NothingToDo tt tt);
 }
-played_events s line Drain rest = record {
-  quiet = λ x apart. rest x;
-  refusing = calm_first (if s.outstanding == 0 then NothingToDo else act_drained s) (goes_on (s.units 0).stage) (calm_either (s.outstanding == 0) NothingToDo (act_drained s) tt (calm_drain s));
-}
+played_events s line Drain rest = search rules
 played_events s line other rest = record { quiet = λ x apart. rest x; refusing = tt }
 
 -- ---- inputs ask for some blocks
@@ -121,16 +84,7 @@ input_asks drives other is = tt
 -- ---- ALL OF IT
 keeps_from : (setup : Setup) (s : Replay) (lines : ℕ → List Deed) → AllFit s lines → ((unit block : ℕ) → WasMarked block (lines unit) → model.is_marked (setup.packs unit) block ≡ true)
     → Steady setup s → Events s → Keeps setup s
-keeps_from setup s lines fits marked steady events = record {
-  lines = lines;
-  fits = fits;
-  marked = marked;
-  kinds = steady.kinds;
-  tables = steady.tables;
-  marks = steady.marks;
-  quiet = events.quiet;
-  refusing = events.refusing;
-}
+keeps_from setup s lines fits marked steady events = search rules
 
 steady_of : (setup : Setup) (s : Replay) → Keeps setup s → Steady setup s
 steady_of setup s k = record { kinds = k.kinds; tables = k.tables; marks = k.marks }
@@ -153,16 +107,7 @@ moment_kept setup s (Told line unit id deed) k given may =
     keeps_from setup (after_moment s (Told line unit id deed)) (λ x. lines_after x (Told line unit id deed) (k.lines x)) (told_all (next_wish s) s line unit id deed k.lines may k.fits)
     (told_true setup (next_wish s) s line unit id deed k.lines k.marks may k.marked) (told_steady setup (next_wish s) s unit deed (steady_of setup s k))
     (told_events (next_wish s) s line unit id deed (events_of setup s k) may)
-moment_kept setup s (Idle line) k given may = record {
-  lines = k.lines;
-  fits = k.fits;
-  marked = k.marked;
-  kinds = k.kinds;
-  tables = k.tables;
-  marks = k.marks;
-  quiet = k.quiet;
-  refusing = tt;
-}
+moment_kept setup s (Idle line) k given may = search rules
 
 pub start_kept : (setup : Setup) → Keeps setup (start_over setup)
 start_kept setup = record {

@@ -1,5 +1,5 @@
 -- What the moments so far tell of each unit: who asked for its requests, whether it was offline, and what was armed.
-use Rattle.std.proofs.Common.{◌≡◌, ◌⊎◌, inl, inr, ℕ, Bool, true, false, List, [], ◌∷◌, ◌++◌, refl, sym, ap, ◌∙◌, subst, nat_lt, All}
+use Rattle.std.proofs.Common.{◌≡◌, ◌⊎◌, inl, inr, ℕ, Bool, true, false, List, [], ◌∷◌, ◌++◌, refl, sym, ◌∙◌, subst, nat_lt, All, rules}
 use Rattle.std.specs.Prelude.{drop}
 use Rattle.std.specs.List.{AllByRecursion}
 use Rattle.std.proofs.lemmas.List.{append_assoc}
@@ -45,13 +45,7 @@ weaker P Q (Told line unit id deed ∷ ms) f was = weaker P Q ms f was
 weaker P Q (Idle line ∷ ms) f was = weaker P Q ms f was
 
 pub offline_more : (r : Request) (ms : List Moment) (m : Moment) → WasOffline r ms → WasOffline r (ms ++ m ∷ [])
-offline_more r ms m w = record {
-  before = w.before;
-  after = w.after ++ m ∷ [];
-  parts = ap (λ z. z ++ m ∷ []) w.parts ∙ append_assoc w.before w.after (m ∷ []);
-  submitted = w.submitted;
-  offline = w.offline;
-}
+offline_more r ms m w = search (rules, append_assoc)
 
 -- the lines of a unit, one moment further
 pub lines_on : (x : ℕ) (lines : List Deed) (ms : List Moment) (m : Moment) → lines_behind x lines (ms ++ m ∷ []) ≡ lines_after x m (lines_behind x lines ms)

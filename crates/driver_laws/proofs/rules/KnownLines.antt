@@ -1,13 +1,10 @@
 -- What is known stays known behind a line of the trace, and behind one of the script.
-use Rattle.std.proofs.Common.{◌≡◌, inl, inr, ℕ, ◌==◌, true, false, List, [], ◌∷◌, ◌++◌, Some, refl, sym, ap, ◌∙◌, subst, nat_lt}
+use Rattle.std.proofs.Common.{◌≡◌, inl, inr, ℕ, ◌==◌, true, false, List, [], ◌∷◌, ◌++◌, Some, refl, sym, ◌∙◌, subst, nat_lt, rules}
 use Rattle.std.specs.Prelude.{if◌then◌else◌}
-use Rattle.std.proofs.lemmas.Bool.Decides.{eqb_tells}
-use Rattle.std.proofs.lemmas.Bool.{false≢true, eqb-false, eqb-true}
-use Rattle.hardware_table.specs.declared.FaultKind.{FaultKind}
+use Rattle.std.proofs.lemmas.Bool.{false≢true, eqb-true}
 use Rattle.hardware_table.specs.declared.Moved.{Moved}
 use Rattle.hardware_table.specs.declared.Moved.TheVariants as verdict
 use Rattle.hardware_table.specs.Drive.{is_writing}
-use Rattle.hardware_table.specs.Events.{times_armed}
 use Rattle.hardware_table.specs.Moves.{IsVerdict}
 use Rattle.fire_code.specs.Remainder.{remainder}
 use Rattle.fire_code.specs.Burst.{IsUncorrectable}
@@ -18,12 +15,12 @@ use Rattle.trace_replay.specs.Moments.{Deed, Sector, End, Moment, Told}
 use Rattle.trace_replay.specs.Packs.{flips_at}
 use Rattle.trace_replay.specs.Service.{in_hand, service_after, target_of}
 use Rattle.trace_replay.specs.Conditions.{online_behind}
-use Rattle.trace_replay.specs.History.{is_refusal, with_deed, lines_after, last_tried, fails}
+use Rattle.trace_replay.specs.History.{with_deed, lines_after, last_tried, fails}
 use Rattle.trace_replay.specs.Replay.{Replay, UnitSeen, hand_of, at_unit, with_state, LineMay, unit_after, surface_after}
 use Rattle.trace_replay.proofs.Kept.{UnitFits, held_by, end_kept}
-use Rattle.driver_laws.specs.rules.Grounds.{WasPlayed, Submits, ArmsFault, ArmsShownNoise, WasOffline}
+use Rattle.driver_laws.specs.rules.Grounds.{WasPlayed, ArmsFault, ArmsShownNoise, WasOffline}
 use Rattle.driver_laws.proofs.rules.Armed.{line_arms_none, offline_verdict, faulted_verdict, hard_verdict, struck_by}
-use Rattle.driver_laws.proofs.rules.Known.{more, weaker, offline_more, ArmsLike, AnyFails, Ground, AreAsked, OffAt, ArmedAt, FailedAt, Known, asked_more, ground_more, live_more, line_live, head_asked, line_asked, tried_tag, verdict_of}
+use Rattle.driver_laws.proofs.rules.Known.{more, weaker, offline_more, ArmsLike, AnyFails, Ground, AreAsked, OffAt, ArmedAt, FailedAt, Known, asked_more, ground_more, live_more, line_live, head_asked, line_asked, verdict_of}
 use Rattle.driver_laws.proofs.rules.Stages.{first_of}
 
 -- ---- A LINE OF A UNIT
@@ -39,24 +36,10 @@ module _ (s : Replay) (line unit id : ℕ) (ms : List Moment) (lines : ℕ → L
       subst (λ z. WasOffline (in_hand z) (Longer deed)) (sym service) (offline_more (in_hand (s.units unit).service) ms (Told line unit id deed) (k.offline unit block (sym tried ∙ e)))
 
   sector_off : (b : ℕ) (v : Moved) → LineMay s line unit id (Sector b v) → OffAt (unit_after s unit (Sector b v)) (Sector b v ∷ lines unit) (Longer (Sector b v))
-  sector_off b v may block e = record {
-    before = ms;
-    after = Told line unit id (Sector b v) ∷ [];
-    parts = refl;
-    submitted = asked.1;
-    offline = ap (λ z. online_behind z true ms) asked.0 ∙ sym said
-        ∙ offline_verdict (s.units unit).drive (s.surface.is_marked unit b) (is_writing (s.units unit).drive.work) (flips_at s.surface unit (s.units unit).drive b)
-        (subst (λ z. IsVerdict (s.units unit).drive (s.surface.is_marked unit b) (flips_at s.surface unit (s.units unit).drive b) z) (ap verdict_of e) may.verdict);
-  }
-    where
-      asked : ((in_hand (s.units unit).service).unit ≡ unit) × WasPlayed (Submits (in_hand (s.units unit).service)) ms
-      asked = head_asked unit ms (s.units unit).service.waiting (held_by (s.units unit).service.waiting id may.service) (k.asked unit)
+  sector_off b v may block e = search (rules, offline_verdict, verdict_of, head_asked, held_by)
 
   end_off : (a : Answer) → LineMay s line unit id (End a) → OffAt (unit_after s unit (End a)) (with_deed (End a) (lines unit)) (Longer (End a))
-  end_off a may block e = absurd (eqb-false 0 1 refl (ap tried_tag (sym (ap (λ z. last_tried (if z then lines unit else [])) kept) ∙ e)))
-    where
-      kept : is_refusal a ≡ false
-      kept = end_kept (s.units unit).drive (hand_of (s.units unit)) (s.units unit).stage (End a) (lines unit) may.talk fit.fits
+  end_off a may block e = search rules
 
   own_off : (deed : Deed) → LineMay s line unit id deed → OffAt (unit_after s unit deed) (with_deed deed (lines unit)) (Longer deed)
   own_off (Sector b v) may = sector_off b v may
@@ -89,15 +72,7 @@ module _ (s : Replay) (line unit id : ℕ) (ms : List Moment) (lines : ℕ → L
       fits (SetLocked u on) like = like
 
   struck : (b : ℕ) (v : Moved) → IsVerdict (s.units unit).drive (s.surface.is_marked unit b) (flips_at s.surface unit (s.units unit).drive b) v → fails v ≡ true → Ground unit ms
-  struck b verdict.Clean is f = absurd (false≢true f)
-  struck b (verdict.Burst at q) is f = absurd (false≢true f)
-  struck b verdict.Hard is f = shown_noise b is
-  struck b (verdict.Faulted kind) is f = inl (k.armed unit j.0 j.1)
-    where
-      j : (j : FaultKind) × (nat_lt 0 (times_armed j (s.units unit).drive.armed) ≡ true)
-      j = faulted_verdict (s.units unit).drive kind (s.surface.is_marked unit b) (is_writing (s.units unit).drive.work) (flips_at s.surface unit (s.units unit).drive b) is
-  struck b verdict.Marked is f = absurd (false≢true f)
-  struck b verdict.Offline is f = absurd (false≢true f)
+  struck b v is f = search (rules, false≢true, shown_noise, nat_lt, faulted_verdict)
 
   old_failed : (deed : Deed) → AnyFails (lines unit) → Ground unit (Longer deed)
   old_failed deed any = ground_more unit ms (Told line unit id deed) (k.failed unit any)
@@ -118,10 +93,7 @@ module _ (s : Replay) (line unit id : ℕ) (ms : List Moment) (lines : ℕ → L
   -- of its unit what is new, of any other what was
   told_of : (deed : Deed) (P : ℕ → UnitSeen → List Deed → Type 0) (x : ℕ) → P unit (unit_after s unit deed) (with_deed deed (lines unit)) → P x (s.units x) (lines x)
       → P x (with_state s.units unit (unit_after s unit deed) x) (lines_after x (Told line unit id deed) (lines x))
-  told_of deed P x mine other = elim (eqb_tells x unit) [
-    | inl is ↦ rw is.0 (subst (λ z. P z (unit_after s unit deed) (with_deed deed (lines z))) (sym is.1) mine)
-    | inr differ ↦ rw differ.0 other
-  ]
+  told_of deed P x mine other = search rules
 
   pub line_known : (deed : Deed) → LineMay s line unit id deed
       → Known (with_state s.units unit (unit_after s unit deed)) (surface_after s unit deed).live (Longer deed) (λ x. lines_after x (Told line unit id deed) (lines x))

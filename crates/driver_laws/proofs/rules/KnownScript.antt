@@ -1,14 +1,12 @@
 -- What is known stays known behind a line of the script, and so behind all moments.
-use Rattle.std.proofs.Common.{◌≡◌, inl, inr, ℕ, ◌==◌, Bool, true, false, List, [], ◌∷◌, ◌++◌, Option, refl, sym, ap, ◌∙◌, subst, arith, nat_lt}
-use Rattle.std.specs.Prelude.{if◌then◌else◌, unwrap_or}
-use Rattle.std.proofs.lemmas.Bool.Decides.{eqb_tells}
+use Rattle.std.proofs.Common.{◌≡◌, ℕ, ◌==◌, Bool, true, false, List, [], ◌∷◌, ◌++◌, Option, refl, sym, ap, ◌∙◌, subst, nat_lt, rules}
+use Rattle.std.specs.Prelude.{if◌then◌else◌}
 use Rattle.std.proofs.lemmas.List.{append_assoc, append-nil}
 use Rattle.std.proofs.lemmas.List.Elements.{All-cons}
 use Rattle.std.proofs.lemmas.Bool.{false≢true, eqb-false, eqb-true}
 use Rattle.pack_geometry.specs.declared.DriveKind.{DriveKind}
 use Rattle.hardware_table.specs.declared.FaultKind.{FaultKind}
-use Rattle.hardware_table.specs.declared.FaultKind.TheVariants as fault
-use Rattle.hardware_table.specs.Drive.{DriveState, new_drive, none_armed}
+use Rattle.hardware_table.specs.Drive.{DriveState}
 use Rattle.hardware_table.specs.Events.{times_armed, fault_armed, online_set, locked_set, turned}
 use Rattle.hardware_table.specs.Noise.{LiveNoise, with_noise}
 use Rattle.hardware_table.proofs.NoiseLaws.{among_armed}
@@ -27,9 +25,6 @@ use Rattle.trace_replay.proofs.AsSaid.{is_as_said}
 use Rattle.trace_replay.proofs.Histories.{Fits}
 use Rattle.pack_geometry.specs.Pack as model
 use Rattle.pack_geometry.specs.TableSpelling.{Table}
-use Rattle.pack_geometry.specs.declared.DriveKind.TheVariants.{Rp06}
-use Rattle.drive_registers.specs.declared.Function.TheVariants as function
-use Rattle.hardware_table.specs.Functions.{performed}
 use Rattle.trace_replay.specs.Service.{first_waiting, in_hand, request_or_none, cylinder_of}
 use Rattle.trace_replay.specs.Conversation.{Hand, Stage, Waiting, is_waiting}
 use Rattle.trace_replay.specs.Conditions.{online_behind}
@@ -37,7 +32,6 @@ use Rattle.trace_replay.specs.History.{with_deed, lines_after, lines_of, last_tr
 use Rattle.trace_replay.specs.Replay.{Replay, UnitSeen, hand_of, with_state, LineMay, ToldMay, MayCome, Follows, unit_after, unit_joined, conditions_after, Submission, Refused, Joined, submission, submitted, replay_played, drained, replay_told, told_after, after_moment, after_moments, new_replay, next_wish}
 use Rattle.trace_replay.proofs.Kept.{UnitFits, AllFit, head_stays, refused_is, moments_all, starts}
 use Rattle.driver_laws.specs.rules.Grounds.{WasPlayed, Submits, ArmsFault, WasOffline}
-use Rattle.driver_laws.proofs.rules.Armed.{performed_armed}
 use Rattle.driver_laws.proofs.rules.Known.{more, newest, offline_more, lines_on, ArmsLike, AnyFails, IsAsked, AreAsked, OffAt, ArmedAt, LiveKnown, Known, asked_more, ground_more, live_more, known_more, all_alike, tried_tag}
 use Rattle.driver_laws.proofs.rules.KnownLines.{line_known}
 
@@ -108,10 +102,7 @@ joined_asked u r lines ms line fit all =
     (refl, newest (Submits r) ms line (Submit r) refl) (asked_more r.unit ms (Played line (Submit r)) u.service.waiting all))
 
 unit_or : (P : ℕ → UnitSeen → Type 0) (units : ℕ → UnitSeen) (n : ℕ) (u : UnitSeen) (x : ℕ) → P n u → P x (units x) → P x (with_state units n u x)
-unit_or P units n u x mine other = elim (eqb_tells x n) [
-  | inl is ↦ rw is.0 (subst (λ z. P z u) (sym is.1) mine)
-  | inr differ ↦ rw differ.0 other
-]
+unit_or P units n u x mine other = search rules
 
 submitted_known : (s : Replay) (r : Request) (met : Submission) (line : ℕ) (ms : List Moment) (lines : ℕ → List Deed) → UnitFits (s.units r.unit) (lines r.unit)
     → Known s.units s.surface.live ms lines → Known (submitted s r met).units (submitted s r met).surface.live (ms ++ Played line (Submit r) ∷ []) lines
@@ -188,26 +179,7 @@ module _ (drives : ℕ → Option DriveKind) (tables : ℕ → Option Table) (pa
   Start = new_replay drives tables (surface_of packs)
 
   start_known : KnownIn Start [] (λ x. [])
-  start_known = record {
-    asked = λ x. tt;
-    offline = λ x block e. absurd (eqb-false 0 1 refl (ap tried_tag e));
-    armed = λ x kind e. absurd (no_times x kind e);
-    noise = λ k d lt. absurd (omega (arith, lt));
-    failed = λ x any. absurd any;
-  }
-    where
-      none : (kind : FaultKind) → times_armed kind none_armed ≡ 0
-      none fault.Seek = refl
-      none fault.Opi = refl
-      none fault.Dte = refl
-      none fault.Hcrc = refl
-      none fault.Late = refl
-
-      attached_none : (x : ℕ) → (Start.units x).drive.armed ≡ none_armed
-      attached_none x = performed_armed function.Pack (performed function.Preset (new_drive (unwrap_or (drives x) Rp06) x)) ∙ performed_armed function.Preset (new_drive (unwrap_or (drives x) Rp06) x)
-
-      no_times : (x : ℕ) (kind : FaultKind) → nat_lt 0 (times_armed kind (Start.units x).drive.armed) ≡ true → ⊥
-      no_times x kind e = false≢true (sym (ap (λ z. nat_lt 0 (times_armed kind z)) (attached_none x) ∙ ap (nat_lt 0) (none kind)) ∙ e)
+  start_known = search rules
 
   abbrev pub KnownBehind : List Moment → Type 0
   KnownBehind ms = KnownIn (after_moments Start ms) ms (λ x. lines_of x ms)

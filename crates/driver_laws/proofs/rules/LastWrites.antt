@@ -1,18 +1,17 @@
 -- Reads give what the writes that were answered before them left.
-use Rattle.std.proofs.Common.{◌≡◌, inl, inr, ℕ, ◌==◌, Bool, true, false, List, [], ◌∷◌, ◌++◌, Option, None, Some, refl, sym, ap, ◌∙◌, subst}
+use Rattle.std.proofs.Common.{◌≡◌, inl, inr, ℕ, ◌==◌, Bool, true, false, List, [], ◌∷◌, ◌++◌, Option, Some, refl, sym, ap, ◌∙◌, subst, rules}
 use Rattle.std.specs.Prelude.{if◌then◌else◌}
 use Rattle.std.specs.List.{AllByRecursion, list_any}
 use Rattle.std.proofs.lemmas.Option.{none-some}
-use Rattle.std.proofs.lemmas.Bool.{ne_eqb, or_parts, eqb-false}
 use Rattle.std.proofs.lemmas.Bool.Decides.{eqb_tells}
 use Rattle.pack_geometry.specs.declared.DriveKind.{DriveKind}
 use Rattle.pack_geometry.specs.Pack as model
 use Rattle.pack_geometry.specs.TableSpelling.{Table}
 use Rattle.pack_geometry.specs.Homes.{contents_of}
-use Rattle.trace_replay.specs.requests.Requests.{Request, first_block, Answer, ReadOk, WriteOk, Failed, OutsidePartition, EndOfPartition, NoFrames, Rejection, AtEnd, Beyond, FramesShort, rejection_answer}
+use Rattle.trace_replay.specs.requests.Requests.{Request, first_block, Answer, Rejection, rejection_answer}
 use Rattle.trace_replay.specs.Script.{Input, Submit, Numbered, AreApart, Script, drives_of, inputs_of}
 use Rattle.trace_replay.specs.Moments.{Moment, Answered, answers_in}
-use Rattle.trace_replay.specs.Replay.{Submission, Refused, Joined}
+use Rattle.trace_replay.specs.Replay.{Submission}
 use Rattle.trace_replay.specs.Runs.{IsLegalRun}
 use Rattle.driver_laws.specs.rules.Machine.{Blocks, Machine, kind_of, idle, request_of, without, meets, after_input, answers_of_input, answers_at_once, MayAnswer, blocks_after, Steps, submitted as machine_submitted}
 use Rattle.driver_laws.specs.rules.LegalAnswers.{AnswersTo, with_asked, ids_asked, unaliased, all_claimed, none_claimed}
@@ -42,17 +41,11 @@ found_asked all id (x ∷ rs) r are is = elim (eqb_tells x.id id) [
 -- ---- one answer
 left_is : (drives : ℕ → Option DriveKind) (claimed : Type 0) (m : Machine) (r : Request) (answer : Answer) → MayAnswer claimed (m.blocks r.unit) (first_block (kind_of drives r.unit) r) r answer
     → blocks_after m.blocks (first_block (kind_of drives r.unit) r) r answer ≡ left_by drives (Some r) answer m.blocks
-left_is drives claimed m r OutsidePartition may = absurd may
-left_is drives claimed m r EndOfPartition may = absurd may
-left_is drives claimed m r NoFrames may = absurd may
-left_is drives claimed m r other may = refl
+left_is drives claimed m r answer may = search rules
 
 gives_it : (drives : ℕ → Option DriveKind) (claims : (line : ℕ) → Request → Type 0) (m : Machine) (r : Request) (line : ℕ) (answer : Answer)
     → MayAnswer (claims line r) (m.blocks r.unit) (first_block (kind_of drives r.unit) r) r answer → Gives drives claims (Some r) m.blocks line answer
-gives_it drives claims m r line (ReadOk bytes) may = may.3
-gives_it drives claims m r line WriteOk may = tt
-gives_it drives claims m r line (Failed cause done) may = tt
-gives_it drives claims m r line other may = absurd may
+gives_it drives claims m r line answer may = search rules
 
 -- ---- answers one after another
 pub record Left (drives : ℕ → Option DriveKind) (claims : (line : ℕ) → Request → Type 0) (all : List Numbered) (m : Machine) (answers : List Answered) (new : Machine) : Type 0 where
@@ -87,18 +80,7 @@ steps_left drives claims all line m (a ∷ answers) new are steps =
 
 -- ---- a refusal changes nothing
 pub refusal_left : (drives : ℕ → Option DriveKind) (asked : Option Request) (why : Rejection) (blocks : ℕ → Blocks) → left_by drives asked (rejection_answer why) blocks ≡ blocks
-refusal_left drives None why blocks = refl
-refusal_left drives (Some r) AtEnd blocks = refl
-refusal_left drives (Some r) Beyond blocks = refl
-refusal_left drives (Some r) FramesShort blocks = refl
-
-refusal_gives : (drives : ℕ → Option DriveKind) (claims : (line : ℕ) → Request → Type 0) (asked : Option Request) (why : Rejection) (blocks : ℕ → Blocks) (line : ℕ) → Gives drives claims asked blocks line (rejection_answer why)
-refusal_gives drives claims None AtEnd blocks line = tt
-refusal_gives drives claims None Beyond blocks line = tt
-refusal_gives drives claims None FramesShort blocks line = tt
-refusal_gives drives claims (Some r) AtEnd blocks line = tt
-refusal_gives drives claims (Some r) Beyond blocks line = tt
-refusal_gives drives claims (Some r) FramesShort blocks line = tt
+refusal_left drives asked why blocks = search rules
 
 abbrev pub IsAskedAs : List Numbered → Input → Type 0
 IsAskedAs all (Submit r) = asked_in r.id all ≡ Some r
@@ -106,12 +88,7 @@ IsAskedAs all input = Unit {0}
 
 submitted_left : (drives : ℕ → Option DriveKind) (claims : (line : ℕ) → Request → Type 0) (all : List Numbered) (line : ℕ) (m : Machine) (r : Request) (met : Submission) → AllAsked all m.outstanding → asked_in r.id all ≡ Some r
     → Left drives claims all m (answers_at_once line r met) (machine_submitted m r met)
-submitted_left drives claims all line m r (Refused why) are is = record {
-  reads = (refusal_gives drives claims (asked_in r.id all) why m.blocks line, tt);
-  blocks = sym (refusal_left drives (asked_in r.id all) why m.blocks);
-  asked = are;
-}
-submitted_left drives claims all line m r Joined are is = record { reads = tt; blocks = refl; asked = (is, are) }
+submitted_left drives claims all line m r met are is = search rules
 
 input_left : (drives : ℕ → Option DriveKind) (claims : (line : ℕ) → Request → Type 0) (all : List Numbered) (line : ℕ) (m : Machine) (input : Input) → AllAsked all m.outstanding → IsAskedAs all input
     → Left drives claims all m (answers_of_input drives m line input) (after_input drives m input)
@@ -156,10 +133,7 @@ answers_left drives claims all m (n ∷ inputs) answers new are asked is =
 
 other_asked : (r : Request) (line : ℕ) (ns : List Numbered) (input : Input) (ids : List ℕ) → list_any (λ other. other == r.id) (with_asked input ids) ≡ false → IsAskedAs ns input
     → IsAskedAs (record { line = line; input = Submit r } ∷ ns) input × (list_any (λ other. other == r.id) ids ≡ false)
-other_asked r line ns (Submit x) ids apart is =
-    let both : (x.id == r.id ≡ false) × (list_any (λ other. other == r.id) ids ≡ false) = or_parts (x.id == r.id) (list_any (λ other. other == r.id) ids) apart in
-    (rw (ne_eqb r.id x.id (λ e. eqb-false x.id r.id both.0 (sym e))) is, both.1)
-other_asked r line ns it ids apart is = (tt, apart)
+other_asked r line ns input ids apart is = search rules
 
 others_asked : (r : Request) (line : ℕ) (ns xs : List Numbered) → list_any (λ other. other == r.id) (ids_asked xs) ≡ false → AllByRecursion (λ (n : Numbered). IsAskedAs ns n.input) xs
     → AllByRecursion (λ (n : Numbered). IsAskedAs (record { line = line; input = Submit r } ∷ ns) n.input) xs
@@ -169,10 +143,7 @@ others_asked r line ns (x ∷ xs) apart all =
     (one.0, others_asked r line ns xs one.1 all.1)
 
 itself_asked : (r : Request) (line : ℕ) (ns : List Numbered) → asked_in r.id (record { line = line; input = Submit r } ∷ ns) ≡ Some r
-itself_asked r line ns = elim (eqb_tells r.id r.id) [
-  | inl same ↦ rw same.0 refl
-  | inr other ↦ absurd (other.1 refl)
-]
+itself_asked r line ns = search rules
 
 pub with_asked_all : (line : ℕ) (input : Input) (ns : List Numbered) → AreApart (with_asked input (ids_asked ns)) → AllByRecursion (λ (n : Numbered). IsAskedAs ns n.input) ns
     → AllByRecursion (λ (n : Numbered). IsAskedAs (record { line = line; input = input } ∷ ns) n.input) (record { line = line; input = input } ∷ ns)

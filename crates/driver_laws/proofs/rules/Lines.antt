@@ -1,6 +1,5 @@
 -- A LINE OF THE TRACE is a step of the machine, or leaves it as it is.
-use Rattle.std.proofs.Common.{◌≡◌, ◌≢◌, ℕ, ◌≤◌, ◌+◌, ◌-◌, ◌&&◌, nat_lt, Bool, true, false, List, [], ◌∷◌, ◌++◌, length, drop, Option, Some, refl, sym, ap, ◌∙◌, subst, arith}
-use Rattle.std.specs.Prelude.{if◌then◌else◌}
+use Rattle.std.proofs.Common.{◌≡◌, ◌≢◌, ℕ, ◌≤◌, ◌+◌, ◌-◌, ◌&&◌, nat_lt, Bool, true, false, List, [], ◌∷◌, ◌++◌, length, drop, Option, Some, refl, sym, ap, ◌∙◌, subst, arith, rules}
 use Rattle.std.proofs.lemmas.Option.{none-some}
 use Rattle.std.proofs.lemmas.Bool.{eq-eqb, ne_eqb}
 use Rattle.pack_geometry.specs.Geometry.{limit_of}
@@ -13,7 +12,7 @@ use Rattle.trace_replay.specs.Moments.{Deed, Sector, End, Told, Answered}
 use Rattle.trace_replay.specs.Adapters.{AdapterSeen}
 use Rattle.trace_replay.specs.Service.{first_waiting, request_or_none, ids, in_hand, head_of, service_after, frames_needed}
 use Rattle.trace_replay.specs.Conversation.{goes_on, not_begun}
-use Rattle.trace_replay.specs.Events.{Act, Done, Refusing, Serving, Event, Wish, NoLine, Refusal, wanted, wish_in, wish_in_serving, first_ready, is_no_line}
+use Rattle.trace_replay.specs.Events.{Act, Done, Event, Wish, Refusal, wanted, wish_in, is_no_line}
 use Rattle.trace_replay.specs.Replay.{Replay, UnitSeen, next_wish, hand_of, LineMay, RefusalMay, ToldMay, after_moment, unit_after, surface_after, replay_told, told_after, drained, act_drained, act_done, frames_after, outstanding_after}
 use Rattle.trace_replay.proofs.Unchanged.{drained_keeps, either}
 use Rattle.driver_laws.specs.rules.Machine.{Blocks, Machine, request_of, without, frames_of, kind_of, blocks_done, done_in, MayAnswer, blocks_after, after_answer, Step, Steps}
@@ -92,9 +91,7 @@ ends_now setup armed s m line unit id answer are k h may =
 may_be : (setup : Setup) (armed : List LiveNoise) (m : Machine) (unit : ℕ) (kind : DriveKind) (r : Request) (answer : Answer) → kind ≡ kind_of setup.drives unit → r.unit ≡ unit
     → MayAnswer (IsSure (is_sure_among armed unit) (home_in setup unit) (first_block kind r) r) (m.blocks unit) (first_block kind r) r answer
     → MayAnswer (IsSure (is_sure_among armed r.unit) (home_in setup r.unit) (first_block (kind_of setup.drives r.unit) r) r) (m.blocks r.unit) (first_block (kind_of setup.drives r.unit) r) r answer
-may_be setup armed m unit kind r answer same here may =
-    subst (λ x. MayAnswer (IsSure (is_sure_among armed x) (home_in setup x) (first_block (kind_of setup.drives x) r) r) (m.blocks x) (first_block (kind_of setup.drives x) r) r answer) (sym here)
-    (subst (λ z. MayAnswer (IsSure (is_sure_among armed unit) (home_in setup unit) (first_block z r) r) (m.blocks unit) (first_block z r) r answer) same may)
+may_be setup armed m unit kind r answer same here may = search rules
 
 -- the machine after the end of the request in hand of a unit
 abbrev AfterEnd : Setup → Replay → Machine → ℕ → Answer → Machine
@@ -167,23 +164,8 @@ end_stands setup armed s m line unit id answer are k h may = record {
     }
 
 -- ---- what is owed
-ready_owes : (ready : List ℕ) (line : ℕ) → owed_by (first_ready ready) line ≡ []
-ready_owes [] line = refl
-ready_owes (u ∷ us) line = refl
-
-start_owes : (a : AdapterSeen) (busy : Bool) (line : ℕ) → owed_by (if busy then NoLine else first_ready a.ready) line ≡ []
-start_owes a true line = refl
-start_owes a false line = ready_owes a.ready line
-
-serving_owes : (adapter : ℕ) (a : AdapterSeen) (interrupt : Bool) (drives : List ℕ) (line : ℕ) → owed_by (wish_in_serving adapter a interrupt drives) line ≡ []
-serving_owes adapter a true drives line = refl
-serving_owes adapter a false [] line = start_owes a a.state.busy line
-serving_owes adapter a false (d ∷ ds) line = refl
-
 calm_wish : (adapters : ℕ → AdapterSeen) (act : Act) (line : ℕ) → IsCalm act → owed_by (wish_in adapters act) line ≡ []
-calm_wish adapters (Refusing u i why) line calm = absurd calm
-calm_wish adapters (Serving a i ds) line calm = serving_owes a (adapters a) i ds line
-calm_wish adapters other line calm = refl
+calm_wish adapters act line calm = search rules
 
 pub calm_owes : (adapters : ℕ → AdapterSeen) (e : Event) (goes : Bool) (line : ℕ) → IsCalm e.act → owed_by (wanted adapters e goes) line ≡ []
 calm_owes adapters e true line calm = refl

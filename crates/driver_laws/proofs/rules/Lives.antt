@@ -1,5 +1,5 @@
 -- How often the live noise of a unit that shows can still strike: a read uses one, and no line of the trace brings more.
-use Rattle.std.proofs.Common.{◌≡◌, ◌⊎◌, inl, inr, ℕ, ◌+◌, ◌-◌, ◌≤◌, ◌==◌, ◌&&◌, Bool, true, false, not, List, [], ◌∷◌, ◌++◌, Option, None, Some, refl, sym, subst, arith}
+use Rattle.std.proofs.Common.{◌≡◌, ◌⊎◌, inl, inr, ℕ, ◌+◌, ◌-◌, ◌≤◌, ◌==◌, ◌&&◌, Bool, true, false, not, List, [], ◌∷◌, ◌++◌, Option, None, Some, refl, sym, subst, arith, rules}
 use Rattle.std.specs.Prelude.{if◌then◌else◌, nat_le, filter}
 use Rattle.std.proofs.lemmas.Option.{same_Some, none-some}
 use Rattle.std.proofs.lemmas.Bool.Decides.{nat_tests}
@@ -25,10 +25,7 @@ module _ (shows : List ℕ → Bool) (x : ℕ) where
   left_in (noise ∷ live) = left_by noise + left_in live
 
   join : (ms ns : List LiveNoise) → left_in (ms ++ ns) ≡ left_in ms + left_in ns
-  join [] ns = sym (none (left_in ns))
-    where
-      none : (n : ℕ) → 0 + n ≡ n
-      none n = omega arith
+  join [] ns = search rules
   join (m ∷ ms) ns = sums (left_by m) (left_in (ms ++ ns)) (left_in ms) (left_in ns) (join ms ns)
     where
       sums : (a b c d : ℕ) → b ≡ c + d → a + b ≡ a + c + d
@@ -53,15 +50,7 @@ module _ (shows : List ℕ → Bool) (x : ℕ) where
 
   -- NOISE THAT IS ARMED brings what it strikes.
   brings : (noise : LiveNoise) → is_spent noise.span ≡ false → left_by noise ≤ (if (x == noise.unit) && shows noise.places then strikes_while noise.span else 0)
-  brings noise lives = at ((x == noise.unit) && shows noise.places) noise.span lives
-    where
-      some : (n : ℕ) → (n == 0) ≡ false → 1 + (n - 1) ≤ n
-      some n e = grind (arith, nat_tests)
-
-      at : (b : Bool) (span : NoiseSpan) → is_spent span ≡ false → (if b then left_while span else 0) ≤ (if b then strikes_while span else 0)
-      at true (Times n) e = some n e
-      at true (Until code) e = omega arith
-      at false span e = omega arith
+  brings noise lives = search rules
 
   pub armed_more : (noise : LiveNoise) (live : List LiveNoise)
       → left_in (with_noise noise live) ≤ left_in live + (if (x == noise.unit) && shows noise.places then strikes_while noise.span else 0)
@@ -109,12 +98,7 @@ module _ (shows : List ℕ → Bool) (x : ℕ) where
   kept code false = omega arith
 
   rest_less : (word : ℕ) (b : Bool) (span : NoiseSpan) → rest_of b (span_left word span) ≤ (if b then left_while span else 0)
-  rest_less word false span = hidden_rest (span_left word span)
-  rest_less word true (Times n) = weaker (rest_of true (span_left word (Times n))) (1 + (n - 1)) (used n (nat_le n 1) refl)
-    where
-      weaker : (a b : ℕ) → 1 + a ≤ b → a ≤ b
-      weaker a b e = omega (arith, e)
-  rest_less word true (Until code) = kept code (is_ended_by word (Until code))
+  rest_less word b span = search rules
 
   pub struck_less : (unit block word : ℕ) (live : List LiveNoise) → left_in (after_strike unit block word live) ≤ left_in live
   struck_less unit block word [] = omega arith

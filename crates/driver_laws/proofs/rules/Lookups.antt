@@ -1,8 +1,7 @@
 -- Which entry a block has.
-use Rattle.std.proofs.Common.{◌≡◌, ◌⊎◌, inl, inr, ℕ, ◌==◌, ◌&&◌, Bool, true, false, List, [], ◌∷◌, ◌++◌, None, Some, refl, sym, ap, ◌∙◌, subst}
+use Rattle.std.proofs.Common.{◌≡◌, ◌⊎◌, inl, inr, ℕ, ◌==◌, ◌&&◌, Bool, true, false, List, [], ◌∷◌, ◌++◌, None, Some, refl, sym, ap, ◌∙◌, subst, rules}
 use Rattle.std.specs.Prelude.{if◌then◌else◌}
 use Rattle.std.specs.List.{AllByRecursion}
-use Rattle.std.proofs.lemmas.Bool.Decides.{eqb_tells}
 use Rattle.std.proofs.lemmas.Option.{none-some, same_Some}
 use Rattle.driver_laws.specs.declared.rules.cached.Entry.{Entry}
 use Rattle.driver_laws.specs.rules.Entries.{is_of, entry_of, others, AreApart}
@@ -14,37 +13,16 @@ pub record IsKey (unit block : ℕ) (e : Entry) : Type 0 where
   pub is : is_of unit block e ≡ true
 
 pub tells : (unit block : ℕ) (e : Entry) → IsKey unit block e ⊎ (is_of unit block e ≡ false)
-tells unit block e = elim (eqb_tells unit e.unit) [
-  | inl u ↦ elim (eqb_tells block e.block) [
-    | inl b ↦ inl (record { unit_is = u.1; block_is = b.1; is = rw (u.0, b.0) refl })
-    | inr nb ↦ inr (rw (u.0, nb.0) refl)
-  ]
-  | inr nu ↦ inr (rw nu.0 refl)
-]
+tells unit block e = search rules
 
 pub true_false : {b : Bool} → b ≡ true → b ≡ false → ⊥
 true_false one other = cc
 
 pub is_key : (unit block : ℕ) (e : Entry) → is_of unit block e ≡ true → IsKey unit block e
-is_key unit block e is = elim (tells unit block e) [
-  | inl key ↦ key
-  | inr not ↦ absurd (true_false is not)
-]
+is_key unit block e is = search rules
 
 pub own_key : (e : Entry) → is_of e.unit e.block e ≡ true
-own_key e = elim (tells e.unit e.block e) [
-  | inl key ↦ key.is
-  | inr not ↦ absurd (true_false (both e.unit e.block) not)
-]
-  where
-    both : (unit block : ℕ) → (unit == unit) && (block == block) ≡ true
-    both unit block = elim (eqb_tells unit unit) [
-      | inl u ↦ elim (eqb_tells block block) [
-        | inl b ↦ rw (u.0, b.0) refl
-        | inr nb ↦ absurd (nb.1 refl)
-      ]
-      | inr nu ↦ absurd (nu.1 refl)
-    ]
+own_key e = search rules
 
 -- ---- the first of some entries
 pub at_own : (unit block : ℕ) (e : Entry) (entries : List Entry) → is_of unit block e ≡ true → entry_of unit block (e ∷ entries) ≡ Some e
@@ -138,7 +116,4 @@ last_apart (x ∷ front) last apart = (last_of x front (none_misses x.unit x.blo
 
 -- two entries of one block are not told apart by which asks
 pub other_way : (x y : Entry) → is_of x.unit x.block y ≡ false → is_of y.unit y.block x ≡ false
-other_way x y not = elim (tells y.unit y.block x) [
-  | inl key ↦ absurd (true_false (subst (λ n. (n == y.unit) && (x.block == y.block) ≡ true) key.unit_is (subst (λ n. (y.unit == y.unit) && (n == y.block) ≡ true) key.block_is (own_key y))) not)
-  | inr other ↦ other
-]
+other_way x y not = search rules

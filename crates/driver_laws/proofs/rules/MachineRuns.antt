@@ -1,12 +1,12 @@
 -- THE LAWS of legal beginnings and runs.
-use Rattle.std.proofs.Common.{◌≡◌, ℕ, ◌<◌, ◌≤◌, ◌+◌, ◌-◌, ◌*◌, List, [], ◌∷◌, ◌++◌, length, Option, None, Some, refl, sym, ap, ◌∙◌, subst, arith, All, ◌==◌, not}
+use Rattle.std.proofs.Common.{◌≡◌, ℕ, ◌<◌, ◌≤◌, ◌+◌, ◌-◌, List, [], ◌∷◌, ◌++◌, length, Option, None, Some, refl, sym, ap, ◌∙◌, subst, arith, All, ◌==◌, not, rules}
 use Rattle.std.specs.Prelude.{is_some, slice_index}
 use Rattle.std.specs.List.{AllByRecursion}
 use Rattle.std.proofs.lemmas.Option.{none-some}
 use Rattle.std.proofs.lemmas.List.Elements.{All-head, All-tail}
 use Rattle.pack_geometry.specs.declared.DriveKind.{DriveKind}
 use Rattle.pack_geometry.specs.declared.DriveKind.TheVariants.{Rp06}
-use Rattle.pack_geometry.specs.Geometry.{block_count, copy_at, sectors_of}
+use Rattle.pack_geometry.specs.Geometry.{block_count, copy_at}
 use Rattle.pack_geometry.specs.Pack as model
 use Rattle.pack_geometry.specs.Content.{bytes_at}
 use Rattle.pack_geometry.specs.TableSpelling.{Table}
@@ -100,11 +100,7 @@ more_sure armed other unit sector is = is
 
 one_line : (drives : ℕ → Option DriveKind) (claims : (line : ℕ) → Request → Type 0) (m : Machine) (n : Numbered) (inputs : List Numbered) (answers : List Answered) (new : Machine) → inputs ≡ []
     → AnswersTo drives claims m (n ∷ inputs) answers new → AnswersAt drives claims m n answers new
-one_line drives claims m n inputs answers new none is = at (subst (λ z. AnswersTo drives claims m (n ∷ z) answers new) none is)
-  where
-    at : AnswersTo drives claims m (n ∷ []) answers new → AnswersAt drives claims m n answers new
-    at one = subst (λ z. AnswersAt drives claims m n answers z) (sym one.5.1)
-        (subst (λ z. AnswersAt drives claims m n z one.2) (sym (one.3 ∙ ap (λ z. one.0 ++ z) one.5.0 ∙ append_nil one.0)) one.4)
+one_line drives claims m n inputs answers new none is = search rules
 
 pub each_line : EachLineSteps
 unfolding AllGood
@@ -187,16 +183,10 @@ left_at kind pack sectors None same = refl
 left_at kind pack sectors (Some x) same = ap Some (same x refl)
 
 pub room_at : (drive : Option DriveKind) (pack : model.Pack) (table : Option Table) (kind : DriveKind) → IsTableAt drive pack table → drive ≡ Some kind → length (places_of table) ≤ 126
-room_at drive pack table kind is declared = at (subst (λ z. IsTableAt z pack table) declared is)
-  where
-    at : IsTableAt (Some kind) pack table → length (places_of table) ≤ 126
-    at there = table_room kind pack table there
+room_at drive pack table kind is declared = search rules
 
 pub below_count : (kind : DriveKind) (x : ℕ) → x < copy_at kind 0 → x < block_count kind
-below_count kind x below = small x (block_count kind) (sectors_of kind) below
-  where
-    small : (x all some : ℕ) → x < all - some + 2 * 0 → x < all
-    small x all some h = omega (arith, h)
+below_count kind x below = search rules
 
 run_held : (claims : (line : ℕ) → Request → Type 0) (script : Script) (tables : ℕ → Option Table) (old new : ℕ → model.Pack) (ms : List Moment) → IsLegalRun script tables old new ms
     → (g : GoesOn (SetupOf script tables old) claims [] (start_of script tables old) (FirstOf (SetupOf script tables old)) ms) → HoldMap (drives_of script) tables new g.last.blocks

@@ -1,6 +1,6 @@
 -- Where a request stands, line by line: what its stage says of the map stays so.
-use Rattle.std.proofs.Common.{◌≡◌, ℕ, zero, suc, ◌≤◌, ◌+◌, ◌==◌, ◌&&◌, nat_lt, Bool, true, false, not, List, [], ◌∷◌, ◌++◌, drop, Option, None, Some, refl, subst, arith, ◌∙◌}
-use Rattle.std.specs.Prelude.{if◌then◌else◌, is_some}
+use Rattle.std.proofs.Common.{◌≡◌, ℕ, zero, suc, ◌≤◌, ◌+◌, ◌==◌, ◌&&◌, nat_lt, true, false, not, List, [], ◌∷◌, ◌++◌, Option, None, Some, refl, subst, arith, ◌∙◌, rules}
+use Rattle.std.specs.Prelude.{is_some}
 use Rattle.std.proofs.lemmas.Option.{same_Some, none-some}
 use Rattle.std.proofs.lemmas.Bool.Decides.{nat_tests}
 use Rattle.std.proofs.lemmas.Bool.{false≢true}
@@ -12,22 +12,19 @@ use Rattle.trace_replay.specs.Schedule.{step_after}
 use Rattle.trace_replay.specs.declared.retry_offsets.Step.{Step}
 use Rattle.trace_replay.specs.declared.retry_offsets.Step.TheVariants as retry
 use Rattle.pack_geometry.specs.Geometry.{place_at}
-use Rattle.trace_replay.specs.requests.Requests.{Request, ReadOk, WriteOk}
-use Rattle.trace_replay.specs.Moments.{Deed, Centre, Clear, Transfer, Try, End}
+use Rattle.trace_replay.specs.requests.Requests.{Request}
+use Rattle.trace_replay.specs.Moments.{Deed, Transfer, End}
 use Rattle.trace_replay.specs.Packs.{repaired_from}
-use Rattle.trace_replay.specs.Conversation.{Hand, Stage, Waiting, Steps, UnderWay, AtOnce, Moving, Saying, Ending, Segment, OwnBlocks, Replacement, Positioning, SearchFor, Progress, due, guarded, transfer_of, command_of, needs_unlocked, is_write, step_taken, step_ended, said, saying, sector_may, is_under_way, progress_interrupted, outcome, interrupted_by, continued, ok_answer, retried, marked, forwarded, entry_of, start_of, clear_lines, centre_lines, try_lines, last_of}
+use Rattle.trace_replay.specs.Conversation.{Hand, Stage, Waiting, Steps, UnderWay, AtOnce, Moving, Saying, Ending, Segment, OwnBlocks, Replacement, Positioning, SearchFor, Progress, due, guarded, transfer_of, command_of, needs_unlocked, is_write, step_taken, step_ended, said, saying, sector_may, is_under_way, progress_interrupted, outcome, interrupted_by, continued, retried, marked, forwarded, entry_of, start_of, clear_lines, centre_lines, try_lines, last_of}
 use Rattle.trace_replay.proofs.Histories.{Fits, Open, AreSaid, guard_holds}
 use Rattle.driver_laws.specs.rules.Machine.{Blocks}
-use Rattle.driver_laws.specs.rules.Stands.{HandStands, LastStands, AnswerStands, RestStands, StageStands}
-use Rattle.driver_laws.proofs.rules.Blocks.{not_written, repaired_length}
+use Rattle.driver_laws.specs.rules.Stands.{HandStands, LastStands, RestStands, StageStands}
+use Rattle.driver_laws.proofs.rules.Blocks.{repaired_length}
 use Rattle.driver_laws.proofs.rules.Hands.{same_hand, read_more}
 
 -- ---- a stage behind lines
 pub rest_stands : (sure : ℕ → Type 0) (homes : ℕ → Option ℕ) (first : ℕ) (r : Request) (p : Progress) (blocks : Blocks) (work : Work) (next : Stage) → RestStands r p next → StageStands sure homes first r p blocks work next
-rest_stands sure homes first r p blocks work (Moving segment left last) is = absurd is
-rest_stands sure homes first r p blocks work (Saying lines next) is = absurd is
-rest_stands sure homes first r p blocks work (Ending answer) is = is
-rest_stands sure homes first r p blocks work other is = tt
+rest_stands sure homes first r p blocks work next is = search rules
 
 pub saying_stands : (sure : ℕ → Type 0) (homes : ℕ → Option ℕ) (first : ℕ) (r : Request) (p : Progress) (blocks : Blocks) (work : Work) (lines : List Deed) (next : Stage) → RestStands r p next
     → StageStands sure homes first r p blocks work (saying lines next)
@@ -37,24 +34,15 @@ saying_stands sure homes first r p blocks work (line ∷ lines) next is = is
 -- ---- a line that is due by itself: PACK leaves the stage, a step's command takes a step, and a line behind an interrupt was said
 pub pack_stands : (sure : ℕ → Type 0) (homes : ℕ → Option ℕ) (first : ℕ) (r : Request) (p : Progress) (blocks : Blocks) (was now : Work) (d : DriveState) (h : Hand) (deed : Deed) (stage : Stage)
     → due d h stage ≡ Some deed → StageStands sure homes first r p blocks was stage → StageStands sure homes first r p blocks now stage
-pack_stands sure homes first r p blocks was now d h deed (Moving segment left last) is st = absurd (none-some deed is)
-pack_stands sure homes first r p blocks was now d h deed (Saying lines next) is st = st
-pack_stands sure homes first r p blocks was now d h deed (Ending answer) is st = st
-pack_stands sure homes first r p blocks was now d h deed other is st = tt
+pack_stands sure homes first r p blocks was now d h deed stage is st = search rules
 
 pub step_stands : (sure : ℕ → Type 0) (homes : ℕ → Option ℕ) (first : ℕ) (r : Request) (p : Progress) (blocks : Blocks) (was now : Work) (d : DriveState) (h : Hand) (deed : Deed) (stage : Stage)
     → due d h stage ≡ Some deed → StageStands sure homes first r p blocks was stage → StageStands sure homes first r p blocks now (step_taken stage)
-step_stands sure homes first r p blocks was now d h deed (Moving segment left last) is st = absurd (none-some deed is)
-step_stands sure homes first r p blocks was now d h deed (Saying lines next) is st = st
-step_stands sure homes first r p blocks was now d h deed (Ending answer) is st = st
-step_stands sure homes first r p blocks was now d h deed other is st = tt
+step_stands sure homes first r p blocks was now d h deed stage is st = search rules
 
 pub said_stands : (sure : ℕ → Type 0) (homes : ℕ → Option ℕ) (first : ℕ) (r : Request) (p : Progress) (blocks : Blocks) (was now : Work) (d : DriveState) (h : Hand) (deed : Deed) (stage : Stage)
     → due d h stage ≡ Some deed → StageStands sure homes first r p blocks was stage → StageStands sure homes first r p blocks now (said stage)
-said_stands sure homes first r p blocks was now d h deed (Moving segment left last) is st = absurd (none-some deed is)
-said_stands sure homes first r p blocks was now d h deed (Saying lines next) is st = saying_stands sure homes first r p blocks now (drop 1 lines) next st
-said_stands sure homes first r p blocks was now d h deed (Ending answer) is st = st
-said_stands sure homes first r p blocks was now d h deed other is st = tt
+said_stands sure homes first r p blocks was now d h deed stage is st = search rules
 
 -- ---- lines that an event brings
 pub arrive_stands : (sure : ℕ → Type 0) (homes : ℕ → Option ℕ) (first : ℕ) (r : Request) (p : Progress) (blocks : Blocks) (now : Work) (stage : Stage)
@@ -77,10 +65,7 @@ step_goes h (SearchFor c y) = tt
 step_goes h other = tt
 
 line_goes : (h : Hand) (line : Deed) (rest : List Deed) → AreSaid (line ∷ rest) → Goes h line
-line_goes h Clear rest a = tt
-line_goes h Centre rest a = tt
-line_goes h (Try b t) rest a = tt
-line_goes h line rest a = absurd a
+line_goes h line rest a = search rules
 
 pub due_goes : (d : DriveState) (h : Hand) (stage : Stage) (deed : Deed) (lines : List Deed) → due d h stage ≡ Some deed → Fits h stage lines → Goes h deed
 due_goes d h Waiting deed lines is f = absurd (none-some deed is)
@@ -149,16 +134,8 @@ marked_stands : (h : Hand) (p : Progress) (segment : Segment) → RestStands h.r
 marked_stands h p OwnBlocks = forwarded_stands h p (entry_of h (start_of OwnBlocks h))
 marked_stands h p (Replacement b) = tt
 
-ok_stands : (r : Request) (p : Progress) (w : Bool) → is_some r.written ≡ w → AnswerStands r p (if w then WriteOk else ReadOk p.bytes)
-ok_stands r p true is = is
-ok_stands r p false is = (not_written r.written is, refl)
-
 continued_stands : (h : Hand) → RestStands h.request h.progress (continued h)
-continued_stands h = at (h.progress.done == h.request.count)
-  where
-    at : (b : Bool) → RestStands h.request h.progress (if b then Ending (ok_answer h) else AtOnce OwnBlocks)
-    at true = ok_stands h.request h.progress (is_write h) refl
-    at false = tt
+continued_stands h = search rules
 
 outcome_stands : (h : Hand) (segment : Segment) (last : Moved) → RestStands h.request h.progress (outcome last h segment)
 outcome_stands h segment verdict.Hard = retried_stands h.request h.progress (step_after h.progress.failures (not (is_write h))) (place_at h.kind (start_of segment h)).cylinder segment h.progress.done

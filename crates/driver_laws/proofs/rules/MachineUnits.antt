@@ -1,23 +1,19 @@
 -- A line of a unit, its end apart, leaves it standing for the same blocks of the map.
-use Rattle.std.proofs.Common.{◌≡◌, ◌≢◌, ℕ, ◌<◌, ◌≤◌, ◌+◌, ◌-◌, ◌==◌, ◌&&◌, ◌||◌, Bool, true, false, not, List, [], ◌∷◌, Option, Some, refl, sym, ap, ◌∙◌, subst, arith}
-use Rattle.std.specs.Prelude.{if◌then◌else◌, is_some}
+use Rattle.std.proofs.Common.{◌≡◌, ◌≢◌, ℕ, ◌<◌, ◌≤◌, ◌+◌, ◌-◌, ◌==◌, ◌&&◌, ◌||◌, Bool, true, false, not, List, [], ◌∷◌, Option, Some, refl, sym, ap, ◌∙◌, subst, arith, rules}
+use Rattle.std.specs.Prelude.{is_some}
 use Rattle.std.proofs.lemmas.Option.{same_Some, none-some}
-use Rattle.std.proofs.lemmas.Bool.{false≢true}
 use Rattle.pack_geometry.specs.declared.DriveKind.{DriveKind}
-use Rattle.pack_geometry.specs.declared.DriveKind.TheVariants.{Rp06, Rm03, Rm05}
 use Rattle.pack_geometry.specs.Geometry.{place_at, limit_of}
 use Rattle.pack_geometry.specs.Pack as model
 use Rattle.pack_geometry.specs.PackTable.{AreTablesOf}
 use Rattle.drive_registers.specs.declared.Function.{Function}
 use Rattle.drive_registers.specs.declared.Function.TheVariants as function
-use Rattle.hardware_table.specs.declared.FaultKind.TheVariants as fault
 use Rattle.hardware_table.specs.declared.Moved.{Moved}
 use Rattle.hardware_table.specs.declared.Moved.TheVariants as verdict
-use Rattle.hardware_table.specs.Adapter.{AdapterState, drive_stepped, stepped, next_block}
+use Rattle.hardware_table.specs.Adapter.{AdapterState, drive_stepped}
 use Rattle.hardware_table.specs.Drive.{DriveState, is_ready, is_writing, is_transferring}
-use Rattle.hardware_table.specs.Events.{transfer_ended}
 use Rattle.hardware_table.specs.Functions.{performed, refusals, needs_online}
-use Rattle.hardware_table.specs.Moves.{after_move, was_read}
+use Rattle.hardware_table.specs.Moves.{was_read}
 use Rattle.hardware_table.specs.Noise.{LiveNoise}
 use Rattle.trace_replay.specs.requests.ServiceOrder.{Waiting as Waiter}
 use Rattle.trace_replay.specs.requests.Requests.{Request, first_block}
@@ -66,16 +62,11 @@ pub plain : (sure : ℕ → Type 0) (homes : ℕ → Option ℕ) (sectors : ℕ 
     → HandStands sure homes (first_block u.drive.kind (in_hand u.service)) (in_hand u.service) p sectors blocks
     → StageStands sure homes (first_block u.drive.kind (in_hand u.service)) (in_hand u.service) p blocks d.work stage
     → UnitStands sure homes (record { drive = d; service = u.service; stage = stage; progress = p; table = u.table }) sectors blocks
-plain sure homes sectors blocks u d stage p is h st = record {
-  hand = subst (λ k. HandStands sure homes (first_block k (in_hand u.service)) (in_hand u.service) p sectors blocks) (sym is) h;
-  stage = subst (λ k. StageStands sure homes (first_block k (in_hand u.service)) (in_hand u.service) p blocks d.work stage) (sym is) st;
-}
+plain sure homes sectors blocks u d stage p is h st = search rules
 
 -- ---- what is under way after a transfer command, and after a sector
 third : (a b c : Bool) → a && (b && c) ≡ true → c ≡ true
-third true true c is = is
-third true false c is = absurd (false≢true is)
-third false b c is = absurd (false≢true is)
+third a b c is = search rules
 
 taken : (f : Function) (d : DriveState) → takes f d ≡ true → refusals f d == 0 ≡ true
 taken f d is = third (is_ready d.work) (not (needs_online f) || d.online) (refusals f d == 0) is
@@ -84,27 +75,8 @@ pub transfer_goes : (w : Bool) (d : DriveState) → takes (transfer_function w) 
 transfer_goes true d is = rw (taken function.Write d is) refl
 transfer_goes false d is = rw (taken function.Read d is) refl
 
-moved_work : (kind : DriveKind) (v : Moved) (block : ℕ) (d : DriveState) → d.kind ≡ kind → (after_move v block d).work ≡ d.work
-moved_work kind verdict.Clean block d is = refl
-moved_work kind (verdict.Burst at q) block d is = refl
-moved_work kind verdict.Hard block d is = refl
-moved_work kind (verdict.Faulted fault.Seek) block d is = refl
-moved_work kind (verdict.Faulted fault.Opi) block d is = refl
-moved_work kind (verdict.Faulted fault.Dte) block d is = refl
-moved_work kind (verdict.Faulted fault.Hcrc) block d is = refl
-moved_work kind (verdict.Faulted fault.Late) block d is = refl
-moved_work Rp06 verdict.Marked block d is = rw is refl
-moved_work Rm03 verdict.Marked block d is = rw is refl
-moved_work Rm05 verdict.Marked block d is = rw is refl
-moved_work kind verdict.Offline block d is = refl
-
 pub stepped_goes : (v : Moved) (a : AdapterState) (d : DriveState) (w : Bool) → is_writing d.work ≡ w → is_transferring (drive_stepped v a d).work ≡ true → is_writing (drive_stepped v a d).work ≡ w
-stepped_goes v a d w is = at (stepped v a).completion
-  where
-    at : (b : Bool) → is_transferring (if b then transfer_ended (after_move v (next_block a) d) else after_move v (next_block a) d).work ≡ true
-        → is_writing (if b then transfer_ended (after_move v (next_block a) d) else after_move v (next_block a) d).work ≡ w
-    at true moves = absurd (false≢true moves)
-    at false moves = ap is_writing (moved_work d.kind v (next_block a) d refl) ∙ is
+stepped_goes v a d w is h0 = search rules
 
 -- ---- A LINE
 abbrev pub IsNoEnd : Deed → Type 0

@@ -1,22 +1,19 @@
 -- Noise that is no alias: what a read that is struck by it gives.
-use Rattle.std.proofs.Common.{◌≡◌, ◌⊎◌, inl, inr, ℕ, ◌<◌, ◌≤◌, ◌+◌, ◌-◌, Bool, true, false, List, [], ◌∷◌, length, take, get_or, Option, None, Some, refl, sym, ap, subst, arith, All}
+use Rattle.std.proofs.Common.{◌≡◌, ℕ, ◌≤◌, ◌-◌, Bool, true, false, List, [], ◌∷◌, length, take, Option, None, Some, refl, sym, subst, arith, All, rules}
 use Rattle.std.specs.List.{find}
 use Rattle.std.specs.Prelude.{if◌then◌else◌}
 use Rattle.std.proofs.lemmas.Option.{same_Some, none-some}
 use Rattle.std.proofs.lemmas.Bool.Decides.{nat_tests}
-use Rattle.std.proofs.lemmas.List.Elements.{All-head, All-tail, All-cons, All-weaker, All-contains}
-use Rattle.std.proofs.lemmas.Bool.{cases_lt}
+use Rattle.std.proofs.lemmas.List.Elements.{All-head, All-tail, All-cons, All-weaker}
 use Rattle.fire_code.specs.Remainder.{remainder}
-use Rattle.fire_code.specs.Burst.{IsShortBurst, IsBurst, places_of}
+use Rattle.fire_code.specs.Burst.{IsShortBurst, IsBurst}
 use Rattle.fire_code.specs.Noise.{IsNoise, IsAlias}
-use Rattle.fire_code.proofs.Noises.{short_from_ends}
 use Rattle.fire_code.proofs.Bursts.{burst_not_zero}
 use Rattle.hardware_table.specs.Noise.{LiveNoise, IsAmong, with_noise, after_strike, strikes, oldest, flips, is_ended_by, is_at}
 use Rattle.hardware_table.proofs.NoiseLaws.{among_armed, among_struck}
 use Rattle.trace_replay.specs.Packs.{read_as, repaired_from}
 use Rattle.trace_replay.proofs.ReadBytes.{repairs_bursts}
 use Rattle.driver_laws.specs.rules.Stands.{IsLive, is_sure_among}
-use Rattle.hardware_table.specs.declared.Moved.{Moved}
 use Rattle.hardware_table.specs.declared.Moved.TheVariants as verdict
 use Rattle.hardware_table.specs.Moves.{IsReadVerdict}
 use Rattle.driver_laws.proofs.rules.Armed.{flips_of}
@@ -55,22 +52,8 @@ struck_harmless armed live unit block word places all is =
     flipped_by armed unit block word (oldest unit block live) places (λ n o. found_in (is_at unit block) (IsLive armed) live n all o) is
 
 -- ---- noise that is no alias shows, or is a short burst
-near_ends : (places : List ℕ) → IsShortBurst places → get_or places (length places - 1) 0 - get_or places 0 0 ≤ 10
-near_ends places short = at (cases_lt 0 (length places - 1))
-  where
-    at : (0 < length places - 1) ⊎ (length places - 1 ≤ 0) → get_or places (length places - 1) 0 - get_or places 0 0 ≤ 10
-    at (inl some) = let e : get_or places (length places - 1) 0 ≤ get_or places 0 0 + 10 = short.near 0 (length places - 1) 0 some (omega (arith, some)) in omega (arith, e)
-    at (inr one) = let e : length places - 1 ≡ 0 = omega (arith, one) in rw e (omega arith)
-
 is_short : (places : List ℕ) (at q : ℕ) → IsNoise places → ¬ (IsAlias places) → IsBurst at q (remainder places) → IsShortBurst places
-is_short places at q noise sure burst = by (cases_lt 10 (get_or places (length places - 1) 0 - get_or places 0 0))
-  where
-    far : 10 < get_or places (length places - 1) 0 - get_or places 0 0 → IsShortBurst places → ⊥
-    far wide short = let e : get_or places (length places - 1) 0 - get_or places 0 0 ≤ 10 = near_ends places short in omega (arith, e, wide)
-
-    by : (10 < get_or places (length places - 1) 0 - get_or places 0 0) ⊎ (get_or places (length places - 1) 0 - get_or places 0 0 ≤ 10) → IsShortBurst places
-    by (inl wide) = absurd (sure (record { long = far wide; hidden = λ u. u.no_burst (places_of 11 (at - 1) q) burst.burst burst.is }))
-    by (inr near) = short_from_ends places noise near
+is_short places at q noise sure burst = search rules
 
 no_zero : (places : List ℕ) → ¬ (IsAlias places) → remainder places ≡ 0 → ⊥
 no_zero places sure zero_is = sure (record { long = λ short. burst_not_zero places short zero_is; hidden = λ u. u.wrong zero_is })
@@ -80,14 +63,9 @@ pub read_clean : (places : Option (List ℕ)) (sector : List ℕ) → ((ps : Lis
 read_clean None sector sure is = refl
 read_clean (Some ps) sector sure is = absurd (no_zero ps (sure ps refl) is)
 
-moved_number : Moved → ℕ
-moved_number verdict.Clean = 0
-moved_number verdict = 1
-
 pub read_burst : (places : Option (List ℕ)) (sector : List ℕ) (at q size : ℕ) → length sector ≤ 512 → ((ps : List ℕ) → places ≡ Some ps → IsNoise ps × (¬ (IsAlias ps)))
     → IsReadVerdict places (verdict.Burst at q) → repaired_from 0 at q (take size (read_as places sector)) ≡ take size sector
-unfolding moved_number
-read_burst None sector at q size small sure is = absurd (omega (arith, ap moved_number is))
+read_burst None sector at q size small sure is = cc
 read_burst (Some ps) sector at q size small sure is = repairs_bursts ps sector at q size (is_short ps at q (sure ps refl).0 (sure ps refl).1 is) is small
 
 -- ---- noise that is armed, and noise that was used
@@ -98,13 +76,7 @@ itself_live : (armed : List LiveNoise) (new : LiveNoise) → IsNoise new.places 
 itself_live armed new noise = record { noise = noise; no_alias = λ sure. sure.1 refl refl }
 
 like_kin : (armed : List LiveNoise) (live : List LiveNoise) (n : LiveNoise) → All (IsLive armed) live → IsAmong live n → IsLive armed n
-like_kin armed live n all among = at (All-contains (IsLive armed) live among.kin all among.listed)
-  where
-    at : IsLive armed among.kin → IsLive armed n
-    at kin = record {
-      noise = subst IsNoise (sym among.places) kin.noise;
-      no_alias = λ sure. subst (λ z. ¬ (IsAlias z)) (sym among.places) (kin.no_alias (subst (λ z. is_sure_among armed z among.kin.block) among.unit (subst (λ z. is_sure_among armed n.unit z) among.block sure)));
-    }
+like_kin armed live n all among = search rules
 
 pub armed_live : (armed live : List LiveNoise) (new : LiveNoise) → IsNoise new.places → All (IsLive armed) live → All (IsLive (new ∷ armed)) (with_noise new live)
 armed_live armed live new noise all =

@@ -1,5 +1,5 @@
 -- Each id is answered as often as it is asked for.
-use Rattle.std.proofs.Common.{◌≡◌, inl, inr, ℕ, zero, suc, ◌≤◌, ◌+◌, ◌==◌, ◌||◌, Bool, true, false, List, [], ◌∷◌, ◌++◌, Option, Some, refl, sym, ap, ◌∙◌, subst, arith}
+use Rattle.std.proofs.Common.{◌≡◌, inl, inr, ℕ, zero, suc, ◌≤◌, ◌+◌, ◌==◌, ◌||◌, Bool, true, false, List, [], ◌∷◌, ◌++◌, Option, Some, refl, sym, ap, ◌∙◌, subst, arith, rules}
 use Rattle.std.specs.Prelude.{if◌then◌else◌, Contains}
 use Rattle.std.specs.List.{list_any}
 use Rattle.std.proofs.lemmas.Option.{none-some}
@@ -8,7 +8,7 @@ use Rattle.pack_geometry.specs.declared.DriveKind.{DriveKind}
 use Rattle.trace_replay.specs.requests.Requests.{Request}
 use Rattle.trace_replay.specs.Script.{Input, Submit, Numbered, AreApart}
 use Rattle.trace_replay.specs.Moments.{Answered}
-use Rattle.trace_replay.specs.Replay.{Submission, Refused, Joined}
+use Rattle.trace_replay.specs.Replay.{Submission}
 use Rattle.driver_laws.specs.rules.Machine.{Machine, request_of, without, meets, after_input, answers_of_input, answers_at_once, Steps, submitted as machine_submitted}
 use Rattle.driver_laws.specs.rules.LegalAnswers.{AnswersTo, with_asked, ids_asked, times_answered}
 use Rattle.driver_laws.proofs.rules.Outstanding.{found_id}
@@ -40,10 +40,7 @@ left_out id gone (x ∷ rs) r is = elim (eqb_tells x.id gone) [
 
 -- answers one after another
 pub answered_append : (id : ℕ) (xs ys : List Answered) → times_answered id (xs ++ ys) ≡ times_answered id xs + times_answered id ys
-answered_append id [] ys = none (times_answered id ys)
-  where
-    none : (n : ℕ) → n ≡ 0 + n
-    none n = omega arith
+answered_append id [] ys = search rules
 answered_append id (a ∷ xs) ys = more (if a.id == id then 1 else 0) (times_answered id (xs ++ ys)) (times_answered id xs) (times_answered id ys) (answered_append id xs ys)
   where
     more : (a b c d : ℕ) → b ≡ c + d → a + b ≡ a + c + d
@@ -51,10 +48,7 @@ answered_append id (a ∷ xs) ys = more (if a.id == id then 1 else 0) (times_ans
 
 steps_count : (drives : ℕ → Option DriveKind) (claims : (line : ℕ) → Request → Type 0) (line id : ℕ) (m : Machine) (answers : List Answered) (new : Machine) → Steps drives claims line m answers new
     → times_out id m.outstanding ≡ times_answered id answers + times_out id new.outstanding
-steps_count drives claims line id m [] new steps = ap (λ (z : Machine). times_out id z.outstanding) (sym steps) ∙ none (times_out id new.outstanding)
-  where
-    none : (n : ℕ) → n ≡ 0 + n
-    none n = omega arith
+steps_count drives claims line id m [] new steps = search rules
 steps_count drives claims line id m (a ∷ answers) new steps =
     left_out id a.id m.outstanding steps.2.request steps.2.found
     ∙ ap (λ z. (if a.id == id then 1 else 0) + times_out id (without z m.outstanding)) (sym (found_id a.id m.outstanding steps.2.request steps.2.found))
@@ -68,14 +62,7 @@ steps_count drives claims line id m (a ∷ answers) new steps =
 submitted_count : (line id : ℕ) (r : Request) (ids : List ℕ) (m : Machine) (met : Submission) → times_among id (r.id ∷ ids) + times_out id m.outstanding
     ≡ times_answered id (answers_at_once line r met) + (times_among id ids + times_out id (machine_submitted m r met).outstanding)
 unfolding times_among times_out
-submitted_count line id r ids m (Refused why) = refused (if r.id == id then 1 else 0) (times_among id ids) (times_out id m.outstanding)
-  where
-    refused : (a b c : ℕ) → a + b + c ≡ a + 0 + (b + c)
-    refused a b c = omega arith
-submitted_count line id r ids m Joined = joined (if r.id == id then 1 else 0) (times_among id ids) (times_out id m.outstanding)
-  where
-    joined : (a b c : ℕ) → a + b + c ≡ 0 + (b + (a + c))
-    joined a b c = omega arith
+submitted_count line id r ids m met = search rules
 
 input_count : (drives : ℕ → Option DriveKind) (line id : ℕ) (input : Input) (ids : List ℕ) (m : Machine) → times_among id (with_asked input ids) + times_out id m.outstanding
     ≡ times_answered id (answers_of_input drives m line input) + (times_among id ids + times_out id (after_input drives m input).outstanding)
@@ -140,13 +127,7 @@ once_among id (other ∷ ids) apart = elim (eqb_tells other id) [
 
 -- what is listed is outstanding once at least
 pub listed_out : (id : ℕ) (rs : List Request) (r : Request) → request_of id rs ≡ Some r → 1 ≤ times_out id rs
-listed_out id rs r is = subst (λ z. 1 ≤ z) (sym (left_out id id rs r is)) (elim (eqb_tells id id) [
-  | inl same ↦ rw same.0 (some (times_out id (without id rs)))
-  | inr differ ↦ absurd (differ.1 refl)
-])
-  where
-    some : (n : ℕ) → 1 ≤ 1 + n
-    some n = omega arith
+listed_out id rs r is = search (rules, left_out, eqb_tells, times_out)
 
 pub not_among : (id : ℕ) (ids : List ℕ) → ¬ (Contains ids id) → times_among id ids ≡ 0
 unfolding times_among

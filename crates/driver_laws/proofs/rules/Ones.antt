@@ -1,16 +1,15 @@
 -- After any answer each block holds what it held, or what was cached, or what was to be written.
-use Rattle.std.proofs.Common.{◌≡◌, inl, inr, ℕ, zero, suc, ◌-◌, ◌==◌, Bool, true, false, List, [], ◌∷◌, ◌++◌, length, Option, None, Some, refl, sym, ap, ◌∙◌, subst}
+use Rattle.std.proofs.Common.{◌≡◌, inl, ℕ, zero, suc, ◌-◌, Bool, true, false, List, [], ◌∷◌, ◌++◌, Option, None, Some, refl, sym, ap, ◌∙◌, subst, rules}
 use Rattle.std.specs.Prelude.{if◌then◌else◌, slice_get}
 use Rattle.std.specs.List.{AllByRecursion}
 use Rattle.std.proofs.lemmas.Option.{none-some, same_Some}
-use Rattle.driver_laws.specs.rules.Requests.{Map, writes, written_over, behind_one, behind}
+use Rattle.driver_laws.specs.rules.Requests.{Map, writes, behind_one, behind}
 use Rattle.driver_laws.specs.declared.rules.cached.Entry.{Entry}
-use Rattle.driver_laws.specs.rules.Entries.{State, IsCache, is_of, entry_of, AreApart, if_changed, to_write_back, write_backs, written_back}
-use Rattle.driver_laws.specs.rules.Calls.{entry, read_by, read_done, write_by, write_done}
-use Rattle.driver_laws.specs.rules.Contents.{bytes_or, cached, IsOne, AreOne}
+use Rattle.driver_laws.specs.rules.Entries.{State, IsCache, is_of, entry_of, AreApart, to_write_back, write_backs, written_back}
+use Rattle.driver_laws.specs.rules.Calls.{read_by, read_done, write_by, write_done}
+use Rattle.driver_laws.specs.rules.Contents.{AreOne}
 use Rattle.driver_laws.proofs.rules.Requested.{read_same, behind_more}
-use Rattle.driver_laws.proofs.rules.Lookups.{IsKey, tells, own_key, at_own, at_other, none_misses, other_way}
-use Rattle.driver_laws.proofs.rules.Rooms.{write_other}
+use Rattle.driver_laws.proofs.rules.Lookups.{own_key, at_own, at_other, none_misses, other_way}
 
 -- ---- each entry is that of its block
 abbrev pub IsFound : List Entry → Entry → Type 0
@@ -34,36 +33,13 @@ get_all P (e ∷ entries) zero x all is = subst P (same_Some e x is) all.0
 get_all P (e ∷ entries) (suc k) x all is = get_all P entries k x all.1 is
 
 pub back_all : (P : Entry → Type 0) (s : State) (x : Entry) → AllByRecursion P s.entries → to_write_back s ≡ Some x → P x
-back_all P s x all is = by (length s.entries == s.capacity) is
-  where
-    at : (o : Option Entry) → slice_get s.entries (length s.entries - 1) ≡ o → if_changed o ≡ Some x → P x
-    at None none e = absurd (none-some x e)
-    at (Some l) some e = changed (l.changed) e
-      where
-        changed : (c : Bool) → (if c then Some l else None) ≡ Some x → P x
-        changed false e = absurd (none-some x e)
-        changed true e = subst P (same_Some l x e) (get_all P s.entries (length s.entries - 1) l all some)
-
-    by : (full : Bool) → (if full then if_changed (slice_get s.entries (length s.entries - 1)) else None) ≡ Some x → P x
-    by false e = absurd (none-some x e)
-    by true e = at (slice_get s.entries (length s.entries - 1)) refl e
+back_all P s x all is = search (rules, none-some, same_Some, get_all)
 
 -- ---- ONE OF THESE: a block that is written has what it had, where it can't be used, or these bytes
-written_is : (P : Option (List ℕ) → Type 0) (held : Option (List ℕ)) (bytes : List ℕ) → P held → P (Some bytes) → P (written_over (Some bytes) held)
-written_is P None bytes was now = was
-written_is P (Some old) bytes was now = now
-
 module _ (map : Map) (entries : List Entry) (unit block : ℕ) (from : Option (List ℕ)) where
   -- an entry is written back
   pub back_one : (now : Map) (x : Entry) → IsFound entries x → AreOne map entries unit block from now → AreOne map entries unit block from (behind_one now (writes x.unit x.block x.bytes))
-  back_one now x found one u b = elim (tells u b x) [
-    | inl key ↦ subst (λ t. IsOne map entries unit block from u b (if t then written_over (Some x.bytes) (now u b) else now u b)) (sym key.is)
-        (written_is (IsOne map entries unit block from u b) (now u b) x.bytes (one u b) (inr (inl (sym (content u b key)))))
-    | inr not ↦ subst (IsOne map entries unit block from u b) (sym (write_other now x u b not)) (one u b)
-  ]
-    where
-      content : (u b : ℕ) → IsKey u b x → cached entries map u b ≡ Some x.bytes
-      content u b key = ap (λ z. bytes_or z (map u b)) (subst (λ z. entry_of z b entries ≡ Some x) (sym key.unit_is) (subst (λ z. entry_of x.unit z entries ≡ Some x) (sym key.block_is) found))
+  back_one now x found one u b = search rules
 
   pub backs_one : (now : Map) (xs : List Entry) → AllByRecursion (IsFound entries) xs → AreOne map entries unit block from now → AreOne map entries unit block from (behind now (written_back xs))
   backs_one now [] found one = one
@@ -83,11 +59,7 @@ module _ (map : Map) (entries : List Entry) (unit block : ℕ) (from : Option (L
 
 -- the block itself is written
 pub own_one : (map : Map) (entries : List Entry) (unit block : ℕ) (from : List ℕ) (now : Map) → AreOne map entries unit block (Some from) now → AreOne map entries unit block (Some from) (behind_one now (writes unit block from))
-own_one map entries unit block from now one u b = elim (tells u b (entry unit block from true)) [
-  | inl key ↦ subst (λ t. IsOne map entries unit block (Some from) u b (if t then written_over (Some from) (now u b) else now u b)) (sym key.is)
-      (written_is (IsOne map entries unit block (Some from) u b) (now u b) from (one u b) (inr (inr (key.unit_is, (key.block_is, (refl, refl))))))
-  | inr not ↦ subst (IsOne map entries unit block (Some from) u b) (sym (write_other now (entry unit block from true) u b not)) (one u b)
-]
+own_one map entries unit block from now one u b = search rules
 
 pub none_one : (map : Map) (entries : List Entry) (unit block : ℕ) (from : Option (List ℕ)) → AreOne map entries unit block from map
 none_one map entries unit block from u b = inl refl

@@ -1,5 +1,5 @@
 -- Requests that are outstanding: one joins, and one leaves.
-use Rattle.std.proofs.Common.{◌≡◌, ◌≢◌, inl, inr, ℕ, ◌+◌, ◌==◌, Bool, true, false, List, [], ◌∷◌, length, Option, None, Some, refl, sym, ap, ◌∙◌, arith}
+use Rattle.std.proofs.Common.{◌≡◌, ◌≢◌, inl, inr, ℕ, ◌+◌, ◌==◌, Bool, true, false, List, [], ◌∷◌, length, Option, None, Some, refl, sym, ap, ◌∙◌, arith, rules}
 use Rattle.std.specs.Prelude.{if◌then◌else◌}
 use Rattle.std.specs.List.{AllByRecursion}
 use Rattle.std.proofs.lemmas.Option.{same_Some, none-some}
@@ -86,10 +86,7 @@ others_wait drives unit rs r ws new all = each_weaker (λ (w : Waiter Request). 
     (λ w is. record { unit_is = is.unit_is; listed = rw (ne_eqb r.id w.request.id (new_id r rs w.request.id w.request new is.listed)) is.listed; good = is.good; inside = is.inside }) ws all
 
 pub joins_found : (r : Request) (rs : List Request) → request_of r.id (r ∷ rs) ≡ Some r
-joins_found r rs = elim (eqb_tells r.id r.id) [
-  | inl same ↦ rw same.0 refl
-  | inr other ↦ absurd (other.1 refl)
-]
+joins_found r rs = search rules
 
 ids_new : (drives : ℕ → Option DriveKind) (unit : ℕ) (rs : List Request) (r : Request) (ws : List (Waiter Request)) → request_of r.id rs ≡ None
     → AllByRecursion (λ (w : Waiter Request). IsOutstanding drives unit rs w.request) ws → AllByRecursion (λ (w : Waiter Request). w.request.id ≢ r.id) ws

@@ -1,19 +1,15 @@
 -- A line of a unit keeps it in agreement with its drive and its adapter.
-use Rattle.std.proofs.Common.{◌≡◌, ℕ, ◌<◌, ◌==◌, ◌&&◌, ◌||◌, Bool, true, false, not, List, [], ◌∷◌, Option, None, Some, is_some, refl, sym, ap, ◌∙◌, subst, arith, ◌*◌, ◌-◌, ◌+◌, ◌≤◌, min, nat_lt}
-use Rattle.std.specs.Prelude.{if◌then◌else◌}
+use Rattle.std.proofs.Common.{◌≡◌, ℕ, ◌<◌, ◌==◌, ◌&&◌, ◌||◌, Bool, true, false, not, List, [], ◌∷◌, Option, None, Some, is_some, refl, sym, ap, ◌∙◌, subst, arith, ◌*◌, ◌-◌, nat_lt, rules}
 use Rattle.std.specs.Int.{bit_at}
-use Rattle.std.proofs.lemmas.Bool.Decides.{nat_tests}
 use Rattle.std.proofs.lemmas.Option.{none-some}
-use Rattle.std.proofs.lemmas.Bool.{false≢true, true≢false, false_from_ne_true, or_parts, eqb-true}
+use Rattle.std.proofs.lemmas.Bool.{false≢true, true≢false, false_from_ne_true, or_parts}
 use Rattle.pack_geometry.specs.declared.Place.{Place}
 use Rattle.pack_geometry.specs.Geometry.{place_at}
 use Rattle.drive_registers.specs.declared.Function.TheVariants as function
 use Rattle.drive_registers.specs.declared.OffsetCode.{OffsetCode}
 use Rattle.drive_registers.specs.Codes.{offset_code}
-use Rattle.hardware_table.specs.Events.{arrived_from}
 use Rattle.hardware_table.specs.declared.Register.TheVariants as register
 use Rattle.hardware_table.specs.declared.Moved.{Moved}
-use Rattle.hardware_table.specs.declared.Moved.TheVariants as verdict
 use Rattle.hardware_table.specs.Drive.{DriveState, is_positioning, is_transferring, has_error, on, with_register}
 use Rattle.hardware_table.specs.Adapter.{AdapterState, stepped, bytes_between}
 use Rattle.hardware_table.specs.Functions.{performed}
@@ -34,26 +30,11 @@ pub settled : {u : UnitSeen} {a : AdapterSeen} {n : ℕ} (p t c : Bool) → Driv
     → t ≡ is_moving u.stage && not a.state.completion → is_busy_for a.state n ≡ is_moving u.stage → bit_at a.state.attentions (drive_of n) ≡ on c 1
     → is_listed n a.ready ≡ waits u.stage → is_waiting u.stage ≡ not (is_some (head_of u.service)) → (has_error u.drive ≡ true → may_have_errors u.stage ≡ true)
     → is_well_said u.stage ≡ true → (is_moving u.stage ≡ true → Counts u.stage a.state) → Agrees u a n
-settled {u} {a} {n} p t c d under never trans busy bit queued held errors well counts = record {
-  positions = rw (d.positions, d.calls) under;
-  never_both = rw (d.positions, d.calls) never;
-  transfers = rw d.transfers trans;
-  busy = busy;
-  attention = rw d.calls bit;
-  queued = queued;
-  held = held;
-  errors = errors;
-  said = well;
-  counts = counts;
-}
+settled {u} {a} {n} p t c d under never trans busy bit queued held errors well counts = search rules
 
 -- where nothing is under way
 pub at_rest : {u : UnitSeen} {a : AdapterSeen} {n : ℕ} → Agrees u a n → is_under_way u.stage ≡ false → is_moving u.stage ≡ false → DriveIs u.drive false false false
-at_rest {u} {a} g under moving = record {
-  positions = (or_parts (is_positioning u.drive.work) u.drive.attention (sym g.positions ∙ under)).0;
-  transfers = g.transfers ∙ ap (λ b. b && not a.state.completion) moving;
-  calls = (or_parts (is_positioning u.drive.work) u.drive.attention (sym g.positions ∙ under)).1;
-}
+at_rest {u} {a} g under moving = search rules
 
 -- THE UNIT AFTER A LINE, over its parts
 abbrev pub UnitNext : UnitSeen → AdapterSeen → Deed → List ℕ → UnitSeen
@@ -73,18 +54,13 @@ AdapterNext u a n deed bytes = adapter_told a n deed (UnitNext u a deed bytes).s
 stepping : {u u' : UnitSeen} {a a' : AdapterSeen} {n : ℕ} → Agrees u a n → Stepping u.stage u'.stage → DriveIs u'.drive true false false → has_error u'.drive ≡ has_error u.drive
     → a'.state ≡ a.state → is_busy_for a.state n ≡ false → bit_at a.state.attentions (drive_of n) ≡ 0 → is_listed n a'.ready ≡ waits u'.stage
     → is_some (head_of u'.service) ≡ true → Agrees u' a' n
-stepping {u} {u'} {a} {a'} {n} g st d errors state busy bit queued held =
-    settled true false false d st.under refl (sym (ap (λ b. b && not a'.state.completion) st.moving)) (ap (λ z. is_busy_for z n) state ∙ busy ∙ sym st.moving)
-    (ap (λ (z : AdapterState). bit_at z.attentions (drive_of n)) state ∙ bit) queued (st.waiting ∙ sym (ap not held))
-    (λ e. absurd (true≢false (sym (g.errors (sym errors ∙ e)) ∙ st.clear))) st.said (λ e. absurd (true≢false (sym e ∙ st.moving)))
+stepping {u} {u'} {a} {a'} {n} g st d errors state busy bit queued held = search rules
 
 -- ---- a line behind which nothing is under way
 resting : {u' : UnitSeen} {a' : AdapterSeen} {n : ℕ} → Quiet u'.stage → DriveIs u'.drive false false false → (has_error u'.drive ≡ true → may_have_errors u'.stage ≡ true)
     → is_busy_for a'.state n ≡ false → bit_at a'.state.attentions (drive_of n) ≡ 0 → is_listed n a'.ready ≡ waits u'.stage
     → is_some (head_of u'.service) ≡ true → Agrees u' a' n
-resting {u'} {a'} {n} q d errors busy bit queued held =
-    settled false false false d q.under refl (sym (ap (λ b. b && not a'.state.completion) q.moving)) (busy ∙ sym q.moving) bit queued (q.waiting ∙ sym (ap not held)) errors q.said
-    (λ e. absurd (true≢false (sym e ∙ q.moving)))
+resting {u'} {a'} {n} q d errors busy bit queued held = search rules
 
 there_is : (next : Option Request) (id : ℕ) → ids next ≡ Some id → is_some next ≡ true
 there_is None id is = absurd (none-some id is)
@@ -98,12 +74,7 @@ record Before (u : UnitSeen) (a : AdapterSeen) (n : ℕ) : Type 0 where
   pub bit : bit_at a.state.attentions (drive_of n) ≡ 0
 
 before : {u : UnitSeen} {a : AdapterSeen} {n : ℕ} → Agrees u a n → Quiet u.stage → Before u a n
-before {u} {a} {n} g q = record {
-  rest = at_rest g q.under q.moving;
-  quiet = q;
-  busy = g.busy ∙ q.moving;
-  bit = g.attention ∙ ap (λ b. on b 1) (at_rest g q.under q.moving).calls;
-}
+before {u} {a} {n} g q = search rules
 
 again : {d e : DriveState} {p t c : Bool} → e.work ≡ d.work → e.attention ≡ d.attention → DriveIs d p t c → DriveIs e p t c
 again w c f = record { positions = ap is_positioning w ∙ f.positions; transfers = ap is_transferring w ∙ f.transfers; calls = c ∙ f.calls }
@@ -117,31 +88,10 @@ drive_below n = omega arith
 
 -- what a transfer counts
 whole : (count : ℕ) → bytes_between count 512 0 count ≡ 512 * count
-whole count = at (0 + count == count)
-  where
-    at : (b : Bool) → (if b then 512 * count - (512 - 512) else 512 * count) ≡ 512 * count
-    at true = omega arith
-    at false = refl
-
-one_less : (bytes left : ℕ) → bytes ≡ 512 * left → nat_lt 0 left ≡ true → bytes - min 512 bytes ≡ 512 * (left - 1)
-one_less bytes left is some = less (lt_of left some)
-  where
-    lt_of : (n : ℕ) → nat_lt 0 n ≡ true → 1 ≤ n
-    lt_of n e = grind (arith, nat_tests)
-
-    less : 1 ≤ left → bytes - min 512 bytes ≡ 512 * (left - 1)
-    less pos = omega (arith, is, pos)
-
-none_left : (left : ℕ) → 512 * left ≡ 0 → left ≡ 0
-none_left left is = omega (arith, is)
+whole count = search rules
 
 sector_counts : (v : Moved) (a : AdapterState) (segment : Segment) (left : ℕ) → a.byte_count ≡ 512 * left → nat_lt 0 left ≡ true → Counts (Moving segment (left - 1) v) (stepped v a)
-sector_counts verdict.Clean a segment left is some = record {
-  stopped = λ e. absurd (false≢true e);
-  counted = λ e. one_less a.byte_count left is some;
-  finished = λ e c. none_left (left - 1) (sym (one_less a.byte_count left is some) ∙ eqb-true (a.byte_count - min 512 a.byte_count) 0 c);
-}
-sector_counts other a segment left is some = record { stopped = λ e. refl; counted = λ e. absurd (true≢false e); finished = λ e. absurd (true≢false e) }
+sector_counts v a segment left is some = search rules
 
 -- ---- each line
 module _ (u : UnitSeen) (a : AdapterSeen) (n id : ℕ) (bytes : List ℕ) (g : Agrees u a n) (serves : ServiceMay u.service id) where
@@ -253,17 +203,7 @@ module _ (u : UnitSeen) (a : AdapterSeen) (n id : ℕ) (bytes : List ℕ) (g : A
       d = transfer_is write (addressed (place_at u.drive.kind block) u.drive) may (again refl refl b.rest)
 
   own_arrive : Comes Arrive → DriveMay u.drive Target Arrive → Goal Arrive
-  own_arrive comes may =
-      settled false false true d.0 w.under refl (sym (ap (λ b. b && not a.state.completion) w.moving)) g.busy
-      (raised_same a.state.attentions (drive_of n) (drive_below n))
-      (queued_after (waits u.stage) n Arrive a.ready (λ e l. sym g.queued ∙ l)) (w.waiting ∙ sym (ap not there)) (λ e. g.errors (sym d.1 ∙ e)) g.said
-      (λ e. absurd (true≢false (sym e ∙ w.moving)))
-    where
-      w : Stepping (UnderWay [] OwnBlocks) u.stage
-      w = under_way u.stage comes
-
-      d : DriveIs (arrived_from u.drive.work u.drive) false false true × (has_error (arrived_from u.drive.work u.drive) ≡ has_error u.drive)
-      d = arrived_is u.drive.work u.drive may
+  own_arrive comes may = search (rules, settled, raised_same, drive_below, queued_after, there, true≢false, under_way, arrived_is)
 
   own_attn : Comes Attn → DriveMay u.drive Target Attn → Goal Attn
   own_attn comes may =

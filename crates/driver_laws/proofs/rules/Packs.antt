@@ -1,8 +1,7 @@
 -- PACK comes once before a command: a unit that has said it speaks next, its volume is valid, and a command is due.
-use Rattle.std.proofs.Common.{◌≡◌, inl, inr, ℕ, ◌+◌, ◌≤◌, ◌==◌, ◌&&◌, nat_lt, Bool, true, false, not, List, [], ◌∷◌, ◌++◌, Option, Some, refl, sym, ap, ◌∙◌, subst, arith}
+use Rattle.std.proofs.Common.{◌≡◌, inl, inr, ℕ, ◌+◌, ◌≤◌, ◌==◌, ◌&&◌, Bool, true, false, not, List, [], ◌∷◌, Option, Some, refl, sym, ap, ◌∙◌, subst, arith, rules}
 use Rattle.std.specs.Prelude.{if◌then◌else◌}
-use Rattle.std.specs.List.{list_any}
-use Rattle.std.proofs.lemmas.Option.{same_Some, none-some}
+use Rattle.std.proofs.lemmas.Option.{same_Some}
 use Rattle.std.proofs.lemmas.Bool.Decides.{eqb_tells}
 use Rattle.std.proofs.lemmas.Bool.{eqb-true}
 use Rattle.pack_geometry.specs.declared.DriveKind.{DriveKind}
@@ -10,15 +9,15 @@ use Rattle.pack_geometry.specs.TableSpelling.{Table}
 use Rattle.hardware_table.specs.Drive.{DriveState}
 use Rattle.trace_replay.specs.requests.Requests.{Failed, Offline, Locked, Rejection, rejection_answer}
 use Rattle.trace_replay.specs.Moments.{Deed, Search, Seek, Recal, Offset, Pack, Transfer, Arrive, Sector, Intr, Attn, End, Moment, Played, Told, Idle}
-use Rattle.trace_replay.specs.Adapters.{AdapterSeen, adapter_of, with_ready}
+use Rattle.trace_replay.specs.Adapters.{AdapterSeen, adapter_of}
 use Rattle.trace_replay.specs.Packs.{Surface}
-use Rattle.trace_replay.specs.Conversation.{Positioning, SearchFor, Segment, Hand, is_write, transfer_of, command_of, needs_unlocked, guarded, due, Stage, Waiting, Steps, UnderWay, AtOnce, Moving, Saying, Ending, TalkMay, goes_on}
-use Rattle.trace_replay.specs.Events.{Act, Done, Refusing, Arriving, Trying, Serving, NothingToDo, Event, Wish, NoLine, DueLine, Arrival, SectorLine, Interrupt, Attention, Refusal, IdleLine, wish_of, wish_in, wanted, first_ready, is_no_line}
-use Rattle.trace_replay.specs.Replay.{Replay, new_replay, with_state, next_wish, hand_of, act_drained, drained, LineMay, ToldMay, Follows, after_moment, after_moments, unit_after, adapter_told, told_after, replay_told}
+use Rattle.trace_replay.specs.Conversation.{Positioning, SearchFor, Hand, is_write, transfer_of, command_of, needs_unlocked, guarded, due, Stage, Waiting, Steps, UnderWay, AtOnce, Moving, Saying, Ending, TalkMay, goes_on}
+use Rattle.trace_replay.specs.Events.{Event, Wish, NoLine, DueLine, Arrival, SectorLine, Interrupt, Attention, Refusal, IdleLine, wish_of, wanted}
+use Rattle.trace_replay.specs.Replay.{Replay, new_replay, with_state, next_wish, hand_of, drained, LineMay, ToldMay, Follows, after_moment, after_moments, unit_after, adapter_told, told_after, replay_told}
 use Rattle.trace_replay.specs.History.{with_deed, lines_after, lines_behind}
 use Rattle.trace_replay.specs.Causes.{AskSome, wants_command}
-use Rattle.trace_replay.proofs.Histories.{Fits, AreSaid}
-use Rattle.trace_replay.proofs.Kept.{AllFit, EndKept, end_kept, told_all, played_all, refused_is, no}
+use Rattle.trace_replay.proofs.Histories.{Fits}
+use Rattle.trace_replay.proofs.Kept.{AllFit, EndKept, end_kept, told_all, played_all, no}
 use Rattle.driver_laws.specs.rules.Commands.{command_by, commands_in}
 use Rattle.driver_laws.proofs.rules.Costs.{cost_by, cost_in}
 use Rattle.driver_laws.proofs.rules.Queues.{same as its_test}
@@ -29,15 +28,10 @@ pack_last (Pack ∷ lines) = 1
 pack_last lines = 0
 
 pub one_at_most : (lines : List Deed) → pack_last lines ≤ 1
-one_at_most [] = omega arith
-one_at_most (Pack ∷ lines) = omega arith
-one_at_most (line ∷ lines) = omega arith
+one_at_most lines = search rules
 
 not_last : (lines : List Deed) → (pack_last lines ≡ 1 → ⊥) → pack_last lines ≡ 0
-not_last lines never = at (pack_last lines) (one_at_most lines) never
-  where
-    at : (n : ℕ) → n ≤ 1 → (n ≡ 1 → ⊥) → n ≡ 0
-    at n few apart = omega arith
+not_last lines never = search rules
 
 -- a unit that has said PACK
 pub record Packed (s : Replay) (x : ℕ) : Type 0 where
@@ -62,17 +56,9 @@ wish_sort : Wish → ℕ
 wish_sort (DueLine u) = 1
 wish_sort wish = 0
 
-same_unit : (x y : ℕ) → DueLine x ≡ DueLine y → x ≡ y
-unfolding wish_unit
-same_unit x y e = ap wish_unit e
-
 unit_wished : (unit : ℕ) (deed : Deed) → wish_unit (wish_of unit deed) ≡ unit
 unfolding wish_unit
-unit_wished unit Arrive = refl
-unit_wished unit (Sector k v) = refl
-unit_wished unit Intr = refl
-unit_wished unit Attn = refl
-unit_wished unit deed = refl
+unit_wished unit deed = search rules
 
 pub its_own : (x unit : ℕ) (deed : Deed) → DueLine x ≡ wish_of unit deed → x ≡ unit
 unfolding wish_unit
@@ -95,10 +81,7 @@ IsGuarded deed = ⊥
 guard_valid : (P : Deed → Type 0) (online locking valid : Bool) (done : ℕ) (command deed : Deed) → valid ≡ true
     → (if not online then End (Failed Offline done) else if locking then End (Failed Locked done) else if not valid then Pack else command) ≡ deed
     → P (End (Failed Offline done)) → P (End (Failed Locked done)) → P command → P deed
-guard_valid P false locking valid done command deed is so off lock go = subst P so off
-guard_valid P true true valid done command deed is so off lock go = subst P so lock
-guard_valid P true false false done command deed is so off lock go = absurd (no is)
-guard_valid P true false true done command deed is so off lock go = subst P so go
+guard_valid P online locking valid done command deed is so off lock go = search rules
 
 step_guarded : (step : Positioning) → IsGuarded (command_of step)
 step_guarded (SearchFor c y) = tt
@@ -151,61 +134,13 @@ line_counted other lines behind kept counted = unpacked other lines behind (omeg
 
 -- ---- behind PACK the same unit speaks
 pack_wants : (d : DriveState) (h : Hand) (stage : Stage) (lines : List Deed) → due d h stage ≡ Some Pack → Fits h stage lines → wants_command stage ≡ true
-pack_wants d h Waiting lines is f = absurd (none-some Pack is)
-pack_wants d h (Steps left segment) lines is f = refl
-pack_wants d h (UnderWay left segment) lines is f = absurd (none-some Pack is)
-pack_wants d h (AtOnce segment) lines is f = refl
-pack_wants d h (Moving segment left last) lines is f = absurd (none-some Pack is)
-pack_wants d h (Saying [] next) lines is f = absurd (none-some Pack is)
-pack_wants d h (Saying (line ∷ rest) next) lines is f = absurd (subst (λ z. AreSaid (z ∷ rest)) (same_Some line Pack is) f.0)
-pack_wants d h (Ending answer) lines is f = absurd (grind (arith, same_Some (End answer) Pack is))
-
-ready_stays : (busy : Bool) (ready : List ℕ) (unit : ℕ) → (if busy then NoLine else first_ready ready) ≡ DueLine unit
-    → (if busy then NoLine else first_ready (with_ready true unit ready)) ≡ DueLine unit
-unfolding wish_sort
-ready_stays true ready unit is = absurd (not_due unit NoLine refl (sym is))
-ready_stays false [] unit is = absurd (not_due unit NoLine refl (sym is))
-ready_stays false (x ∷ rest) unit is = at (not (list_any (λ other. other == unit) (x ∷ rest)))
-  where
-    at : (b : Bool) → first_ready (if b then (x ∷ rest) ++ unit ∷ [] else x ∷ rest) ≡ DueLine unit
-    at true = is
-    at false = is
-
--- the wishes of an event, where the adapter of the unit keeps its state and its unit ready
-waits_on : (adapters : ℕ → AdapterSeen) (unit : ℕ) (segment : Segment) (act : Act) → wish_in adapters act ≡ DueLine unit
-    → wish_in (with_state adapters (adapter_of unit) (adapter_told (adapters (adapter_of unit)) unit Pack (Steps [] segment))) act ≡ DueLine unit
-unfolding wish_sort
-waits_on adapters unit segment Done is = absurd (not_due unit NoLine refl (sym is))
-waits_on adapters unit segment (Refusing u i why) is = absurd (not_due unit (Refusal u i why) refl (sym is))
-waits_on adapters unit segment (Arriving u) is = absurd (not_due unit (Arrival u) refl (sym is))
-waits_on adapters unit segment (Trying a) is = absurd (not_due unit (wish_in adapters (Trying a)) refl (sym is))
-waits_on adapters unit segment (Serving a true drives) is = absurd (not_due unit (wish_in adapters (Serving a true drives)) refl (sym is))
-waits_on adapters unit segment (Serving a false (drive ∷ drives)) is = absurd (not_due unit (wish_in adapters (Serving a false (drive ∷ drives))) refl (sym is))
-waits_on adapters unit segment NothingToDo is = absurd (not_due unit IdleLine refl (sym is))
-waits_on adapters unit segment (Serving a false []) is = elim (eqb_tells a (adapter_of unit)) [
-  | inl same ↦ rw same.0 (subst (λ z. wish_in adapters (Serving z false []) ≡ DueLine unit
-      → (if (adapters (adapter_of unit)).state.busy then NoLine else first_ready (with_ready true unit (adapters (adapter_of unit)).ready)) ≡ DueLine unit)
-      (sym same.1) (λ was. ready_stays (adapters (adapter_of unit)).state.busy (adapters (adapter_of unit)).ready unit was) is)
-  | inr other ↦ rw other.0 is
-]
+pack_wants d h stage lines is f = search rules
 
 -- whose line comes next, by the stages of the speaker
 speaks_by : (adapters : ℕ → AdapterSeen) (e : Event) (speaker_stage stage : Stage) (unit : ℕ) → wanted adapters e (goes_on speaker_stage) ≡ DueLine unit
     → (e.speaker ≡ unit → speaker_stage ≡ stage) → wants_command stage ≡ true
     → wanted (with_state adapters (adapter_of unit) (adapter_told (adapters (adapter_of unit)) unit Pack stage)) (record e { between = false; speaker = unit }) (goes_on stage) ≡ DueLine unit
-speaks_by adapters e speaker_stage Waiting unit is same wants = absurd (no wants)
-speaks_by adapters e speaker_stage (Steps (step ∷ left) segment) unit is same wants = refl
-speaks_by adapters e speaker_stage (UnderWay left segment) unit is same wants = absurd (no wants)
-speaks_by adapters e speaker_stage (AtOnce segment) unit is same wants = refl
-speaks_by adapters e speaker_stage (Moving segment left last) unit is same wants = absurd (no wants)
-speaks_by adapters e speaker_stage (Saying lines next) unit is same wants = absurd (no wants)
-speaks_by adapters e speaker_stage (Ending answer) unit is same wants = absurd (no wants)
-speaks_by adapters e speaker_stage (Steps [] segment) unit is same wants = at (goes_on speaker_stage) refl is
-  where
-    at : (b : Bool) → goes_on speaker_stage ≡ b → wanted adapters e b ≡ DueLine unit
-        → wish_in (with_state adapters (adapter_of unit) (adapter_told (adapters (adapter_of unit)) unit Pack (Steps [] segment))) e.act ≡ DueLine unit
-    at false so was = waits_on adapters unit segment e.act was
-    at true so was = absurd (no (ap goes_on (sym (same (same_unit e.speaker unit was))) ∙ so))
+speaks_by adapters e speaker_stage stage unit is same wants = search rules
 
 pack_next : (s : Replay) (line unit id : ℕ) (lines : List Deed) → LineMay s line unit id Pack → Fits (hand_of (s.units unit)) (s.units unit).stage lines
     → Packed (replay_told s unit Pack (unit_after s unit Pack)) unit
@@ -227,26 +162,13 @@ none_packed s lines wish is sort p x last = not_due x wish sort (sym (p.packed x
 pub unpacked_all : (s t : Replay) (lines : ℕ → List Deed) → ((x : ℕ) → pack_last (lines x) ≡ 1 → ⊥) → PacksOnce s lines → PacksOnce t lines
 unpacked_all s t lines never p = record { packed = λ x last. absurd (never x last); counted = p.counted }
 
--- the state behind the next event of a drain is this one, where a line comes next
-drained_same : (R : Replay → Type 0) (a b c : Bool) (s t : Replay) → b ≡ false → R s → R (if a && (b && c) then t else s)
-drained_same R false b c s t is r = r
-drained_same R true true c s t is r = absurd (no (sym is))
-drained_same R true false c s t is r = r
-
 drained_packed : (s : Replay) (unit : ℕ) → Packed s unit → Packed (drained s) unit
-drained_packed s unit p =
-    drained_same (λ z. Packed z unit) s.event.drains (is_no_line (next_wish s)) (nat_lt 0 s.outstanding) s (record s { event = record s.event { between = true; act = act_drained s } })
-    (ap is_no_line p.next) p
+drained_packed s unit p = search rules
 
 -- the lines of the unit itself end with PACK only behind PACK
 packed_now : (s t : Replay) (line unit id : ℕ) (deed : Deed) (lines : List Deed) → EndKept deed → pack_last (with_deed deed lines) ≡ 1
     → (deed ≡ Pack → Packed t unit) → Packed t unit
-packed_now s t line unit id Pack lines kept last so = so refl
-packed_now s t line unit id (End answer) lines kept last so = absurd (apart 0 refl (subst (λ z. pack_last (if z then lines else []) ≡ 1) kept last))
-  where
-    apart : (n : ℕ) → n ≡ 0 → n ≡ 1 → ⊥
-    apart n h k = omega (arith, h, k)
-packed_now s t line unit id deed lines kept last so = absurd (omega (arith, last))
+packed_now s t line unit id deed lines kept last so = search rules
 
 -- no end of a line that the unit comes to is a refusal
 deed_kept : (d : DriveState) (h : Hand) (stage : Stage) (deed : Deed) (lines : List Deed) → TalkMay d h stage deed → Fits h stage lines → EndKept deed
@@ -293,11 +215,7 @@ line_packs s line unit id deed lines may all p = record { packed = packed_of; co
 
 -- a refusal changes no lines
 refusal_lines : (line unit id : ℕ) (why : Rejection) (lines : ℕ → List Deed) (x : ℕ) → lines_after x (Told line unit id (End (rejection_answer why))) (lines x) ≡ lines x
-refusal_lines line unit id why lines x = at (x == unit)
-  where
-    at : (b : Bool) → (if b then with_deed (End (rejection_answer why)) (lines x) else lines x) ≡ lines x
-    at true = subst (λ z. (if z then lines x else []) ≡ lines x) (sym (refused_is why)) refl
-    at false = refl
+refusal_lines line unit id why lines x = search rules
 
 refusal_packs : (s t : Replay) (line unit id : ℕ) (why : Rejection) (lines : ℕ → List Deed) → ((x : ℕ) → pack_last (lines x) ≡ 1 → ⊥) → PacksOnce s lines
     → PacksOnce t (λ x. lines_after x (Told line unit id (End (rejection_answer why))) (lines x))

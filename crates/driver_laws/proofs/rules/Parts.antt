@@ -1,6 +1,5 @@
 -- A part of a session is a line of the machine of blocks, whatever the number of the line before it.
-use Rattle.std.proofs.Common.{◌≡◌, ℕ, ◌≤◌, nat_lt, true, List, [], ◌∷◌, ◌++◌, refl, sym, ap, ◌∙◌, subst, arith}
-use Rattle.std.proofs.lemmas.Bool.Decides.{nat_tests}
+use Rattle.std.proofs.Common.{◌≡◌, ℕ, ◌≤◌, List, [], ◌∷◌, ◌++◌, refl, sym, ap, ◌∙◌, subst, rules}
 use Rattle.pack_geometry.specs.PackTable.{AreTablesOf}
 use Rattle.hardware_table.specs.Noise.{LiveNoise}
 use Rattle.trace_replay.specs.requests.Requests.{Request}
@@ -37,18 +36,12 @@ numbered_keeps : (setup : Setup) (s : Replay) (n : ℕ) → Keeps setup s → Ke
 numbered_keeps setup s n k = record { lines = k.lines; fits = k.fits; marked = k.marked; kinds = k.kinds; tables = k.tables; marks = k.marks; quiet = k.quiet; refusing = k.refusing }
 
 pub may_input : (s : Replay) (line : ℕ) → 1 ≤ line → MayPlay s → InputMay (numbered 0 s) line
-may_input s line some may = record { later = below line some; over = may.over; finished = may.finished; at_work = may.at_work }
-  where
-    below : (n : ℕ) → 1 ≤ n → nat_lt 0 n ≡ true
-    below n is = grind (arith, nat_tests)
+may_input s line some may = search rules
 
 -- lines of a trace play nothing
 lines_given : (setup : Setup) (ms : List Moment) → played ms ≡ [] → AreGiven setup.drives ms
 lines_given setup [] none = tt
-lines_given setup (Played line input ∷ ms) none = absurd (differ (record { line = line; input = input }) (played ms) none)
-  where
-    differ : {A : Type 0} (x : A) (xs : List A) → x ∷ xs ≡ [] → ⊥
-    differ x xs e = cc
+lines_given setup (Played line input ∷ ms) none = search rules
 lines_given setup (Told line unit id deed ∷ ms) none = (tt, lines_given setup ms none)
 lines_given setup (Idle line ∷ ms) none = (tt, lines_given setup ms none)
 

@@ -1,11 +1,10 @@
 -- No id is asked for twice, so the line that submits a request is the only one with its id.
-use Rattle.std.proofs.Common.{◌≡◌, inl, inr, ◌⊎◌, ℕ, ◌≤◌, ◌+◌, ◌==◌, false, List, [], ◌∷◌, ◌++◌, refl, sym, ap, ◌∙◌, subst, arith}
+use Rattle.std.proofs.Common.{◌≡◌, inl, inr, ◌⊎◌, ℕ, ◌≤◌, ◌+◌, ◌==◌, false, List, [], ◌∷◌, ◌++◌, refl, sym, ap, ◌∙◌, subst, arith, rules}
 use Rattle.std.specs.Prelude.{if◌then◌else◌}
 use Rattle.std.specs.List.{list_any}
 use Rattle.std.proofs.lemmas.Bool.Decides.{eqb_tells}
 use Rattle.std.proofs.lemmas.Bool.{eq-eqb, or_parts}
 use Rattle.trace_replay.specs.requests.Requests.{Request}
-use Rattle.trace_replay.specs.Service.{no_request}
 use Rattle.trace_replay.specs.Script.{Input, Submit, AreApart}
 use Rattle.trace_replay.specs.Moments.{Moment, Played, Told, Idle, played}
 use Rattle.driver_laws.specs.rules.Grounds.{WasPlayed, Submits}
@@ -80,10 +79,7 @@ once_at_most id (Played line input ∷ ms) apart = at (once_at_most id ms) (sort
 -- ---- in two parts
 pub times_join : (id : ℕ) (ms ns : List Moment) → times id (ms ++ ns) ≡ times id ms + times id ns
 unfolding times
-times_join id [] ns = sym (none (times id ns))
-  where
-    none : (n : ℕ) → 0 + n ≡ n
-    none n = omega arith
+times_join id [] ns = search rules
 times_join id (Told line unit i deed ∷ ms) ns = times_join id ms ns
 times_join id (Idle line ∷ ms) ns = times_join id ms ns
 times_join id (Played line input ∷ ms) ns = sums (asks id input) (times id (ms ++ ns)) (times id ms) (times id ns) (times_join id ms ns)
@@ -113,17 +109,13 @@ asked_once r (Played line input ∷ ms) (inr was) = more (asks r.id input) (time
     more : (a b : ℕ) → 1 ≤ b → 1 ≤ a + b
     more a b e = omega (arith, e)
 
-request_in : Input → Request
-request_in (Submit r) = r
-request_in input = no_request
-
 -- and only one has its id
 pub one_request : (r q : Request) (ms : List Moment) → WasPlayed (Submits r) ms → WasPlayed (Submits q) ms → r.id ≡ q.id → times r.id ms ≤ 1 → r ≡ q
-unfolding times request_in
+unfolding times
 one_request r q [] was wasq same few = absurd was
 one_request r q (Told line unit i deed ∷ ms) was wasq same few = one_request r q ms was wasq same few
 one_request r q (Idle line ∷ ms) was wasq same few = one_request r q ms was wasq same few
-one_request r q (Played line input ∷ ms) (inl is) (inl isq) same few = ap request_in (sym is ∙ isq)
+one_request r q (Played line input ∷ ms) (inl is) (inl isq) same few = cc
 one_request r q (Played line input ∷ ms) (inl is) (inr wasq) same few = absurd (two (asks r.id input) (times r.id ms) (asks_of r input is) (subst (λ z. 1 ≤ times z ms) (sym same) (asked_once q ms wasq)) few)
   where
     two : (a b : ℕ) → a ≡ 1 → 1 ≤ b → a + b ≤ 1 → ⊥

@@ -1,8 +1,7 @@
 -- The units that are ready at an adapter, and the bits of its attentions.
-use Rattle.std.proofs.Common.{◌≡◌, ◌≢◌, inl, inr, ℕ, ◌<◌, ◌-◌, ◌*◌, ◌^◌, ◌%◌, ◌==◌, ◌&&◌, ◌||◌, Bool, true, false, not, List, [], ◌∷◌, ◌++◌, refl, sym, ap, ◌∙◌, subst, bit_and, bit_or, w8}
+use Rattle.std.proofs.Common.{◌≡◌, ◌≢◌, ℕ, ◌<◌, ◌-◌, ◌*◌, ◌^◌, ◌%◌, ◌==◌, ◌||◌, Bool, true, false, not, List, [], ◌∷◌, ◌++◌, refl, sym, ap, ◌∙◌, subst, bit_and, bit_or, w8, rules}
 use Rattle.std.specs.Prelude.{if◌then◌else◌}
 use Rattle.std.specs.Int.{bit_at}
-use Rattle.std.proofs.lemmas.Bool.Decides.{eqb_tells}
 use Rattle.std.proofs.lemmas.Nat.{one_shl}
 use Rattle.std.proofs.lemmas.Nat.Bits.{bit_at_set_same, bit_at_set_other, bit_at_clear_same, bit_at_clear_other}
 use Rattle.std.proofs.lemmas.Bool.{false≢true, true≢false, ne_eqb, eqb-true}
@@ -13,10 +12,7 @@ use Rattle.driver_laws.specs.rules.Consistent.{is_listed}
 
 -- ---- without a unit
 pub same : (n : ℕ) → (n == n) ≡ true
-same n = elim (eqb_tells n n) [
-  | inl is ↦ is.0
-  | inr other ↦ absurd (other.1 refl)
-]
+same n = search rules
 
 pub gone : (n : ℕ) (xs : List ℕ) → is_listed n (without n xs) ≡ false
 gone n [] = refl
@@ -37,11 +33,7 @@ others_stay n m (x ∷ xs) apart = at (x == n) refl (others_stay n m xs apart)
 
 -- ---- with a unit behind all others
 listed_behind : (m : ℕ) (xs : List ℕ) (n : ℕ) → is_listed m (xs ++ n ∷ []) ≡ is_listed m xs || (n == m)
-listed_behind m [] n = at (n == m)
-  where
-    at : (b : Bool) → b || false ≡ b
-    at true = refl
-    at false = refl
+listed_behind m [] n = search rules
 listed_behind m (x ∷ xs) n = at (x == m) (is_listed m (xs ++ n ∷ [])) (is_listed m xs) (n == m) (listed_behind m xs n)
   where
     at : (b c d e : Bool) → c ≡ d || e → b || c ≡ (b || d) || e
@@ -49,37 +41,17 @@ listed_behind m (x ∷ xs) n = at (x == m) (is_listed m (xs ++ n ∷ [])) (is_li
     at false c d e is = is
 
 joined_self : (w : Bool) (n : ℕ) (xs : List ℕ) → is_listed n (with_ready w n xs) ≡ w || is_listed n xs
-joined_self false n xs = refl
-joined_self true n xs = at (is_listed n xs) refl
-  where
-    at : (b : Bool) → is_listed n xs ≡ b → is_listed n (if not (is_listed n xs) then xs ++ n ∷ [] else xs) ≡ true
-    at true e = rw e e
-    at false e = rw e (listed_behind n xs n ∙ rw (same n, e) refl)
+joined_self w n xs = search (rules, listed_behind, same)
 
 left_self : (b : Bool) (n : ℕ) (xs : List ℕ) (w : Bool) → (b ≡ false → is_listed n xs ≡ true → w ≡ true) → w || is_listed n (if b then without n xs else xs) ≡ w
-left_self true n xs true stays = refl
-left_self true n xs false stays = gone n xs
-left_self false n xs true stays = refl
-left_self false n xs false stays = at (is_listed n xs) (stays refl)
-  where
-    at : (b : Bool) → (b ≡ true → false ≡ true) → b ≡ false
-    at true h = absurd (false≢true (h refl))
-    at false h = refl
+left_self b n xs w stays = search (rules, gone, false≢true)
 
 left_other : (b : Bool) (n m : ℕ) (xs : List ℕ) → m ≢ n → is_listed m (if b then without n xs else xs) ≡ is_listed m xs
 left_other true n m xs apart = others_stay n m xs apart
 left_other false n m xs apart = refl
 
 pub others_joined : (w : Bool) (n m : ℕ) (xs : List ℕ) → m ≢ n → is_listed m (with_ready w n xs) ≡ is_listed m xs
-others_joined w n m xs apart = at (w && not (is_listed n xs))
-  where
-    or_false : (b : Bool) → b || false ≡ b
-    or_false true = refl
-    or_false false = refl
-
-    at : (b : Bool) → is_listed m (if b then xs ++ n ∷ [] else xs) ≡ is_listed m xs
-    at false = refl
-    at true = listed_behind m xs n ∙ ap (λ b. is_listed m xs || b) (ne_eqb n m (λ is. apart (sym is))) ∙ or_false (is_listed m xs)
+others_joined w n m xs apart = search (rules, listed_behind, ne_eqb)
 
 -- a unit is listed after a line of its own exactly where it then waits; and no other one comes or goes
 pub queued_after : (w : Bool) (n : ℕ) (deed : Deed) (xs : List ℕ) → (leaves deed ≡ false → is_listed n xs ≡ true → w ≡ true) → is_listed n (ready_after w n deed xs) ≡ w
@@ -123,12 +95,7 @@ once_behind n (x ∷ xs) absent once = (listed_behind x xs n ∙ ap (λ b. is_li
         at false c e = e
 
 pub once_joined : (w : Bool) (n : ℕ) (xs : List ℕ) → AreApart xs → AreApart (with_ready w n xs)
-once_joined false n xs once = once
-once_joined true n xs once = at (is_listed n xs) refl
-  where
-    at : (b : Bool) → is_listed n xs ≡ b → AreApart (if not (is_listed n xs) then xs ++ n ∷ [] else xs)
-    at true e = rw e once
-    at false e = rw e (once_behind n xs e once)
+once_joined w n xs once = search (rules, once_behind)
 
 pub once_after : (w : Bool) (n : ℕ) (deed : Deed) (xs : List ℕ) → AreApart xs → AreApart (ready_after w n deed xs)
 once_after w n deed xs once = once_joined w n (if leaves deed then without n xs else xs) (at (leaves deed))

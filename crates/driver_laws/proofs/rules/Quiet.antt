@@ -1,11 +1,11 @@
 -- Moments without a sector leave the packs alone.
-use Rattle.std.proofs.Common.{◌≡◌, ℕ, List, [], ◌∷◌, ◌++◌, Option, refl, sym, ap, ◌∙◌}
+use Rattle.std.proofs.Common.{◌≡◌, ℕ, List, [], ◌∷◌, ◌++◌, Option, refl, sym, ap, ◌∙◌, rules}
 use Rattle.pack_geometry.specs.declared.DriveKind.{DriveKind}
 use Rattle.pack_geometry.specs.Pack as model
 use Rattle.trace_replay.specs.Moments.{Deed, Sector, Moment, Played, Told, Idle}
-use Rattle.trace_replay.specs.Script.{Input, Submit, ArriveAt, MoveAt, AttendTo, Drain, Turn, Noise, Arm, SetOnline, SetLocked}
+use Rattle.trace_replay.specs.Script.{Input}
 use Rattle.trace_replay.specs.Packs.{Surface}
-use Rattle.trace_replay.specs.Replay.{Replay, Submission, Refused, Joined, AreLeft, submission, submitted, surface_after, next_wish, after_moment, after_moments}
+use Rattle.trace_replay.specs.Replay.{Replay, AreLeft, surface_after, next_wish, after_moment, after_moments}
 use Rattle.trace_replay.proofs.Unchanged.{told_keeps}
 use Rattle.driver_laws.specs.rules.Beginnings.{IsNoSector, AreNoSectors, QuietMomentsKeep}
 
@@ -17,20 +17,7 @@ deed_same s line unit id (Sector b v) none = absurd none
 deed_same s line unit id other none = refl
 
 pub played_same : (s : Replay) (line : ℕ) (input : Input) → Same s (after_moment s (Played line input))
-played_same s line (Submit r) = at (submission s r)
-  where
-    at : (met : Submission) → (submitted s r met).surface.sector ≡ s.surface.sector
-    at (Refused why) = refl
-    at Joined = refl
-played_same s line (ArriveAt u) = refl
-played_same s line (MoveAt a) = refl
-played_same s line (AttendTo a) = refl
-played_same s line Drain = refl
-played_same s line (Turn u y) = refl
-played_same s line (Noise n) = refl
-played_same s line (Arm u k n) = refl
-played_same s line (SetOnline u on) = refl
-played_same s line (SetLocked u on) = refl
+played_same s line input = search rules
 
 moment_same : (s : Replay) (m : Moment) → IsNoSector m → Same s (after_moment s m)
 moment_same s (Played line input) none = played_same s line input

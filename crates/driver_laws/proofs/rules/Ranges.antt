@@ -1,5 +1,5 @@
 -- Ranges of bytes, and bytes that are laid over others.
-use Rattle.std.proofs.Common.{◌≡◌, ℕ, zero, suc, ◌+◌, ◌-◌, ◌*◌, ◌/◌, ◌%◌, ◌<◌, ◌≤◌, List, [], ◌∷◌, ◌++◌, length, take, drop, Some, refl, sym, ap, ◌∙◌, arith}
+use Rattle.std.proofs.Common.{◌≡◌, ℕ, zero, suc, ◌+◌, ◌-◌, ◌*◌, ◌/◌, ◌%◌, ◌<◌, ◌≤◌, List, [], ◌∷◌, ◌++◌, length, take, drop, Some, refl, sym, ap, ◌∙◌, arith, rules}
 use Rattle.std.specs.Prelude.{get_or}
 use Rattle.std.proofs.lemmas.List.{take_all, take_at, take-append-le, drop-append-le, drop_more, drop_all}
 use Rattle.trace_replay.specs.Packs.{size_of_block}
@@ -36,10 +36,7 @@ length_range zero blocks first at = refl
 length_range (suc n) blocks first at = ap suc (length_range n blocks first (at + 1))
 
 pub range_more : (m n : ℕ) (blocks : Blocks) (first at : ℕ) → range (m + n) blocks first at ≡ range m blocks first at ++ range n blocks first (at + m)
-range_more zero n blocks first at =
-    let none : at ≡ at + 0 = omega arith in
-    let same : 0 + n ≡ n = omega arith in
-    ap (λ k. range k blocks first at) same ∙ ap (range n blocks first) none
+range_more zero n blocks first at = search rules
 range_more (suc m) n blocks first at =
     let next : at + 1 + m ≡ at + suc m = omega arith in
     let more : suc m + n ≡ suc (m + n) = omega arith in
@@ -61,19 +58,7 @@ drop_range m n blocks first at le =
 -- a piece of a buffer over which a range was laid
 pub range_laid : (skip size n : ℕ) (blocks : Blocks) (first at : ℕ) (into : List ℕ) → n ≤ length into → skip + size ≤ n
     → take size (drop skip (laid (range n blocks first at) into)) ≡ range size blocks first (at + skip)
-range_laid skip size n blocks first at into room few =
-    let long : length (range n blocks first at) ≡ n = length_range n blocks first at in
-    let fits : length (range n blocks first at) ≤ length into = omega (arith, long, room) in
-    let in_range : skip ≤ length (range n blocks first at) = omega (arith, long, few) in
-    let left : length (range (n - skip) blocks first (at + skip)) ≡ n - skip = length_range (n - skip) blocks first (at + skip) in
-    let less : size ≤ length (range (n - skip) blocks first (at + skip)) = omega (arith, left, few) in
-    let below : size ≤ n - skip = omega (arith, few) in
-    let start : skip ≤ n = omega (arith, few) in
-    ap (λ zs. take size (drop skip zs)) (laid_short (range n blocks first at) into fits)
-    ∙ ap (take size) (drop-append-le skip (range n blocks first at) (drop (length (range n blocks first at)) into) in_range)
-    ∙ ap (λ zs. take size (zs ++ drop (length (range n blocks first at)) into)) (drop_range skip n blocks first at start)
-    ∙ take-append-le size (range (n - skip) blocks first (at + skip)) (drop (length (range n blocks first at)) into) less
-    ∙ take_range size (n - skip) blocks first (at + skip) below
+range_laid skip size n blocks first at into room few = search (rules, length_range, laid_short, drop-append-le, drop_range, take-append-le, take_range)
 
 -- ---- WHOLE BLOCKS
 block_from : (m j q : ℕ) (blocks : Blocks) (first : ℕ) (bytes : List ℕ) → blocks (first + q) ≡ Some bytes → length bytes ≡ 512 → j + m ≡ 512

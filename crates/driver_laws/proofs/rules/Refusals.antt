@@ -1,10 +1,10 @@
 -- A refusal is answered directly behind the line that submits its request.
-use Rattle.std.proofs.Common.{◌≡◌, inl, inr, ◌⊎◌, ℕ, ◌==◌, true, false, List, [], ◌∷◌, ◌++◌, length, refl, sym, ap, ◌∙◌, subst, arith}
+use Rattle.std.proofs.Common.{◌≡◌, inl, inr, ◌⊎◌, ℕ, ◌==◌, true, false, List, [], ◌∷◌, ◌++◌, refl, sym, ap, ◌∙◌, subst, rules}
 use Rattle.std.proofs.lemmas.Bool.{false≢true}
 use Rattle.hardware_table.specs.Drive.{is_positioning}
-use Rattle.trace_replay.specs.requests.Requests.{Request, Answer, OutsidePartition, Rejection, AtEnd, rejection_answer}
+use Rattle.trace_replay.specs.requests.Requests.{Request, Answer, Rejection, rejection_answer}
 use Rattle.trace_replay.specs.Script.{Input, Submit, ArriveAt, MoveAt, AttendTo, Drain, drives_of}
-use Rattle.trace_replay.specs.Moments.{Deed, End, Moment, Played, Told, Idle, Answered}
+use Rattle.trace_replay.specs.Moments.{Deed, End, Moment, Played, Told, Idle}
 use Rattle.trace_replay.specs.Adapters.{adapter_of, can_move}
 use Rattle.trace_replay.specs.Conversation.{goes_on}
 use Rattle.trace_replay.specs.Events.{Arriving, Trying, Serving, NothingToDo, Wish, Refusal, can_attend, serving}
@@ -13,22 +13,19 @@ use Rattle.trace_replay.specs.Replay.{Replay, next_wish, hand_of, LineMay, ToldM
 use Rattle.trace_replay.specs.Runs.{start_of}
 use Rattle.trace_replay.proofs.Following.{follow_on}
 use Rattle.trace_replay.proofs.Kept.{end_kept}
-use Rattle.driver_laws.specs.rules.Stands.{Setup, AreGiven, start_over, owed_by}
+use Rattle.driver_laws.specs.rules.Stands.{Setup, AreGiven, start_over}
 use Rattle.driver_laws.specs.rules.Refusals.{IsRefusedBehind, RefusalsAreMet}
 use Rattle.driver_laws.proofs.rules.MachineUnits.{Keeps}
 use Rattle.driver_laws.proofs.rules.Keeping.{IsCalm, calm_either, calm_drain}
 use Rattle.driver_laws.proofs.rules.Kept.{start_kept, all_quiet}
-use Rattle.driver_laws.proofs.rules.Lines.{state_owes, line_eases}
+use Rattle.driver_laws.proofs.rules.Lines.{line_eases}
 use Rattle.driver_laws.proofs.rules.Steps.{beginning_kept}
 use Rattle.driver_laws.proofs.rules.MachineRuns.{run_given}
 use Rattle.driver_laws.proofs.rules.KnownScript.{last_of}
 
 -- ---- what is calm owes no refusal
 nothing_owed : (s : Replay) (u i : ℕ) (why : Rejection) → IsCalm s.event.act → next_wish s ≡ Refusal u i why → ⊥
-nothing_owed s u i why calm is = none (record { line = s.event.line; id = i; answer = rejection_answer why }) (sym (state_owes s calm) ∙ ap (λ w. owed_by w s.event.line) is)
-  where
-    none : (a : Answered) → [] ≡ a ∷ [] → ⊥
-    none a e = omega (arith, ap length e)
+nothing_owed s u i why calm is = search rules
 
 -- a line of the trace leaves it so
 told_calm : (setup : Setup) (wish : Wish) (s : Replay) (line unit id : ℕ) (deed : Deed) → Keeps setup s → ToldMay wish s line unit id deed → IsCalm (told_after wish s unit deed).event.act
@@ -46,35 +43,10 @@ record ComesFrom (s : Replay) (u i : ℕ) (why : Rejection) (moment : Moment) : 
   is : moment ≡ Played line (Submit request)
   met : submission s request ≡ Refused how
 
-unit_in : Wish → ℕ
-unit_in (Refusal u i why) = u
-unit_in wish = 0
-
-id_in : Wish → ℕ
-id_in (Refusal u i why) = i
-id_in wish = 0
-
-why_in : Wish → Rejection
-why_in (Refusal u i why) = why
-why_in wish = AtEnd
-
 submitted_from : (s : Replay) (line u i : ℕ) (why : Rejection) (r : Request) (met : Submission) → submission s r ≡ met → goes_on (s.units r.unit).stage ≡ false
     → next_wish (record (submitted s r met) { event = record { line = line; drains = false; between = false; act = act_submitted r met; speaker = r.unit } }) ≡ Refusal u i why
     → ComesFrom s u i why (Played line (Submit r))
-unfolding unit_in id_in why_in
-submitted_from s line u i why r (Refused how) met quiet is = record {
-  request = r;
-  line = line;
-  how = how;
-  unit_is = ap unit_in wish;
-  id_is = ap id_in wish;
-  how_is = ap why_in wish;
-  is = refl;
-  met = met;
-}
-  where
-    wish : Refusal r.unit r.id how ≡ Refusal u i why
-    wish = rw quiet at is
+submitted_from s line u i why r (Refused how) met quiet is = search rules
 submitted_from s line u i why r Joined met quiet is =
     absurd (nothing_owed (record (submitted s r Joined) { event = record { line = line; drains = false; between = false; act = Serving (adapter_of r.unit) false []; speaker = r.unit } }) u i why tt is)
 
@@ -106,18 +78,13 @@ record IsDue (wish : Wish) (unit id : ℕ) (answer : Answer) : Type 0 where
   id_is : id ≡ i
   answer_is : answer ≡ rejection_answer why
 
-end_of : Deed → Answer
-end_of (End answer) = answer
-end_of deed = OutsidePartition
-
 line_ends : (setup : Setup) (s : Replay) (line unit id : ℕ) (answer : Answer) → Keeps setup s → LineMay s line unit id (End answer) → is_refusal answer ≡ true → ⊥
 line_ends setup s line unit id answer k may refused =
     false≢true (sym (end_kept (s.units unit).drive (hand_of (s.units unit)) (s.units unit).stage (End answer) (k.lines unit) may.talk (k.fits unit).fits) ∙ refused)
 
 is_due : (setup : Setup) (wish : Wish) (s : Replay) (line unit id : ℕ) (answer : Answer) → Keeps setup s → ToldMay wish s line unit id (End answer) → is_refusal answer ≡ true → IsDue wish unit id answer
-unfolding end_of
 is_due setup (Refusal u i why) s line unit id answer k may refused =
-    record { u = u; i = i; why = why; is = refl; unit_is = may.same_unit; id_is = may.same_id; answer_is = ap end_of may.answered }
+    record { u = u; i = i; why = why; is = refl; unit_is = may.same_unit; id_is = may.same_id; answer_is = cc may.answered }
 is_due setup other s line unit id answer k may refused = absurd (line_ends setup s line unit id answer k may refused)
 
 -- ---- the last of some moments

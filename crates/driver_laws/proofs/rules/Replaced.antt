@@ -1,6 +1,6 @@
 -- Blocks with bytes replaced.
-use Rattle.std.proofs.Common.{◌≡◌, ◌⊎◌, inl, inr, ℕ, ◌+◌, ◌-◌, ◌*◌, ◌<◌, ◌≤◌, ◌&&◌, nat_le, nat_lt, Bool, true, false, List, [], ◌++◌, length, take, drop, replicate, take-append-drop, Option, None, Some, refl, sym, ap, ◌∙◌, subst, arith}
-use Rattle.std.specs.Prelude.{is_some, IsSome, if◌then◌else◌}
+use Rattle.std.proofs.Common.{◌≡◌, ◌⊎◌, inl, inr, ℕ, ◌+◌, ◌-◌, ◌*◌, ◌<◌, ◌≤◌, nat_le, true, false, List, [], ◌++◌, length, take, drop, replicate, take-append-drop, Option, None, Some, refl, sym, ap, ◌∙◌, subst, arith, rules}
+use Rattle.std.specs.Prelude.{is_some, IsSome}
 use Rattle.std.proofs.lemmas.Option.{none-some, same_Some}
 use Rattle.std.proofs.lemmas.List.{length-take-le, take_all, take-take, take_at, drop_all, drop-take, drop-drop}
 use Rattle.std.proofs.Math.ListN.{length-drop}
@@ -8,7 +8,7 @@ use Rattle.std.proofs.lemmas.Bool.Decides.{nat_tests, leb_tells}
 use Rattle.trace_replay.specs.requests.Requests.{Request}
 use Rattle.trace_replay.specs.Packs.{size_of_block, sector_of_block, bytes_of_write}
 use Rattle.driver_laws.specs.rules.Machine.{Blocks, blocks_done}
-use Rattle.driver_laws.specs.rules.Laid.{laid, laid_at}
+use Rattle.driver_laws.specs.rules.Laid.{laid_at}
 use Rattle.driver_laws.specs.rules.Bytes.{block_with, with_bytes, with_range}
 use Rattle.driver_laws.specs.rules.BytesLaws.{WholeBlocksGoOn, EdgeGoesOn}
 use Rattle.driver_laws.proofs.rules.Ranges.{laid_long}
@@ -35,64 +35,17 @@ front_none off d from le few = drop_all off (take d from) (subst (λ k. k ≤ of
 -- a block that is covered by the first d bytes, or reached by none of the first e
 pub block_same : (k at d e : ℕ) (from bytes : List ℕ) → length bytes ≡ 512 → d ≤ e → e ≤ length from → (512 * k + 512 ≤ at + d) ⊎ (at + e ≤ 512 * k)
     → block_with k at (take d from) bytes ≡ block_with k at (take e from) bytes
-block_same k at d e from bytes long le few (inr far) =
-    ap (λ zs. laid_at (at - 512 * k) zs bytes)
-    (front_none (512 * k - at) d from (omega (arith, le, far)) (omega (arith, le, few)) ∙ sym (front_none (512 * k - at) e from (omega (arith, far)) few))
-block_same k at d e from bytes long le few (inl near) =
-    let off : ℕ = 512 * k - at in
-    let n : ℕ = length bytes - (at - 512 * k) in
-    let in_d : 512 * k - at ≤ d = omega (arith, near) in
-    let in_e : 512 * k - at ≤ e = omega (arith, near, le) in
-    let room_d : length bytes - (at - 512 * k) ≤ d - (512 * k - at) = omega (arith, near, long) in
-    let room_e : length bytes - (at - 512 * k) ≤ e - (512 * k - at) = omega (arith, near, le, long) in
-    let rest : length (drop (512 * k - at) from) ≡ length from - (512 * k - at) = length-drop (512 * k - at) from in
-    let long_d : length (take (d - (512 * k - at)) (drop (512 * k - at) from)) ≡ d - (512 * k - at) = length-take-le (d - (512 * k - at)) (drop (512 * k - at) from) (omega (arith, rest, le, few)) in
-    let long_e : length (take (e - (512 * k - at)) (drop (512 * k - at) from)) ≡ e - (512 * k - at) = length-take-le (e - (512 * k - at)) (drop (512 * k - at) from) (omega (arith, rest, few)) in
-    ap (λ zs. laid_at (at - 512 * k) zs bytes) (front_of (512 * k - at) d from in_d)
-    ∙ laid_at_same (at - 512 * k) (take (d - (512 * k - at)) (drop (512 * k - at) from)) (take (e - (512 * k - at)) (drop (512 * k - at) from)) bytes
-    (omega (arith, long_d, room_d)) (omega (arith, long_e, room_e))
-    (take-take (length bytes - (at - 512 * k)) (d - (512 * k - at)) (drop (512 * k - at) from) room_d ∙ sym (take-take (length bytes - (at - 512 * k)) (e - (512 * k - at)) (drop (512 * k - at) from) room_e))
-    ∙ ap (λ zs. laid_at (at - 512 * k) zs bytes) (sym (front_of (512 * k - at) e from in_e))
+block_same k at d e from bytes long le few h0 = search (rules, front_none, length-drop, length-take-le, front_of, laid_at_same, take-take)
 
 -- a block that is covered whole
 pub block_whole : (k at e : ℕ) (from bytes : List ℕ) → length bytes ≡ 512 → at ≤ 512 * k → 512 * k + 512 ≤ at + e → e ≤ length from
     → block_with k at (take e from) bytes ≡ take 512 (drop (512 * k - at) from)
-block_whole k at e from bytes long begins covered few =
-    let none : at - 512 * k ≡ 0 = omega (arith, begins) in
-    let in_e : 512 * k - at ≤ e = omega (arith, covered) in
-    let rest : length (drop (512 * k - at) from) ≡ length from - (512 * k - at) = length-drop (512 * k - at) from in
-    let front : length (take (e - (512 * k - at)) (drop (512 * k - at) from)) ≡ e - (512 * k - at) = length-take-le (e - (512 * k - at)) (drop (512 * k - at) from) (omega (arith, rest, few)) in
-    let room : 512 ≤ e - (512 * k - at) = omega (arith, covered, begins) in
-    ap (λ x. laid_at x (drop (512 * k - at) (take e from)) bytes) none
-    ∙ ap (λ zs. laid zs bytes) (front_of (512 * k - at) e from in_e)
-    ∙ laid_long (take (e - (512 * k - at)) (drop (512 * k - at) from)) bytes (omega (arith, front, long, room))
-    ∙ ap (λ n. take n (take (e - (512 * k - at)) (drop (512 * k - at) from))) long
-    ∙ take-take 512 (e - (512 * k - at)) (drop (512 * k - at) from) room
+block_whole k at e from bytes long begins covered few = search (rules, length-drop, length-take-le, front_of, laid_long, take-take)
 
 -- a block that is covered in part, behind the first d bytes
 pub block_edge : (b at d size skip : ℕ) (from bytes : List ℕ) → at + d ≡ 512 * b + skip → (d ≡ 0) ⊎ (skip ≡ 0) → d + size ≤ length from
     → block_with b at (take (d + size) from) bytes ≡ laid_at skip (take size (drop d from)) (block_with b at (take d from) bytes)
-block_edge b at d size skip from bytes is (inl first) few =
-    let x : at - 512 * b ≡ skip = omega (arith, is, first) in
-    let off : 512 * b - at ≡ 0 = omega (arith, is, first) in
-    let none : 0 + size ≡ size = omega arith in
-    let before : block_with b at (take d from) bytes ≡ bytes =
-    ap (λ n. laid_at (at - 512 * b) (drop (512 * b - at) (take n from)) bytes) first ∙ ap (λ zs. laid_at (at - 512 * b) zs bytes) (drop_all (512 * b - at) [] (omega arith)) ∙ laid_at_none (at - 512 * b) bytes in
-    ap (λ n. laid_at (at - 512 * b) (drop n (take (d + size) from)) bytes) off
-    ∙ ap (λ n. laid_at n (take (d + size) from) bytes) x
-    ∙ ap (λ n. laid_at skip (take (n + size) from) bytes) first
-    ∙ ap (λ n. laid_at skip (take n from) bytes) none
-    ∙ ap (λ n. laid_at skip (take size (drop n from)) bytes) (sym first)
-    ∙ ap (λ zs. laid_at skip (take size (drop d from)) zs) (sym before)
-block_edge b at d size skip from bytes is (inr aligned) few =
-    let x : at - 512 * b ≡ skip = omega (arith, is, aligned) in
-    let off : 512 * b - at ≡ d = omega (arith, is, aligned) in
-    let before : block_with b at (take d from) bytes ≡ bytes =
-    ap (λ zs. laid_at (at - 512 * b) zs bytes) (ap (λ n. drop n (take d from)) off ∙ front_none d d from (omega arith) (omega (arith, few))) ∙ laid_at_none (at - 512 * b) bytes in
-    ap (λ n. laid_at (at - 512 * b) (drop n (take (d + size) from)) bytes) off
-    ∙ ap (λ zs. laid_at (at - 512 * b) zs bytes) (drop-take d size from)
-    ∙ ap (λ n. laid_at n (take size (drop d from)) bytes) x
-    ∙ ap (λ zs. laid_at skip (take size (drop d from)) zs) (sym before)
+block_edge b at d size skip from bytes is h0 few = search (rules, drop_all, laid_at_none, front_none, drop-take)
 
 -- ---- WHAT A WRITE gives a sector
 pub sector_whole : (r : Request) (k : ℕ) (bytes : List ℕ) → r.written ≡ Some bytes → size_of_block r k ≡ 512 → 512 * k + 512 ≤ length bytes
@@ -108,13 +61,7 @@ sector_whole r k bytes written whole few =
 
 -- ---- THE MAP behind a write of some blocks
 at_place : (blocks : Blocks) (first at k : ℕ) (from : List ℕ) → with_range blocks first at from (first + k) ≡ with_bytes k at from (blocks (first + k))
-at_place blocks first at k from = rw (inside first k) (ap (λ n. with_bytes n at from (blocks (first + k))) (back first k))
-  where
-    inside : (first k : ℕ) → nat_le first (first + k) ≡ true
-    inside first k = grind (arith, nat_tests)
-
-    back : (first k : ℕ) → first + k - first ≡ k
-    back first k = omega arith
+at_place blocks first at k from = search rules
 
 in_front : (blocks : Blocks) (first at block : ℕ) (from : List ℕ) → block < first → with_range blocks first at from block ≡ blocks block
 in_front blocks first at block from lt = rw (outside first block lt) refl
@@ -138,40 +85,13 @@ had_bytes k at from None now is = absurd (none-some now is)
 had_bytes k at from (Some bytes) now is = record { bytes = bytes; is = refl; now_is = sym (same_Some (block_with k at from bytes) now is) }
 
 outside_done : (now : Blocks) (first b n k : ℕ) (r : Request) → (k < b) ⊎ (b + n ≤ k) → blocks_done now (first + b) r n (first + k) ≡ now (first + k)
-outside_done now first b n k r where_is = rw (test where_is, and_false (is_some r.written)) refl
-  where
-    and_false : (w : Bool) → w && false ≡ false
-    and_false true = refl
-    and_false false = refl
-
-    test : (k < b) ⊎ (b + n ≤ k) → nat_le (first + b) (first + k) && nat_lt (first + k) (first + b + n) ≡ false
-    test (inl lt) = before first b n k lt
-      where
-        before : (first b n k : ℕ) → k < b → nat_le (first + b) (first + k) && nat_lt (first + k) (first + b + n) ≡ false
-        before first b n k lt = grind (arith, nat_tests)
-    test (inr le) = behind first b n k le
-      where
-        behind : (first b n k : ℕ) → b + n ≤ k → nat_le (first + b) (first + k) && nat_lt (first + k) (first + b + n) ≡ false
-        behind first b n k le = grind (arith, nat_tests)
+outside_done now first b n k r where_is = search rules
 
 front_done : (now : Blocks) (first b n block : ℕ) (r : Request) → block < first → blocks_done now (first + b) r n block ≡ now block
-front_done now first b n block r lt = rw (before first b n block lt, and_false (is_some r.written)) refl
-  where
-    and_false : (w : Bool) → w && false ≡ false
-    and_false true = refl
-    and_false false = refl
-
-    before : (first b n block : ℕ) → block < first → nat_le (first + b) block && nat_lt block (first + b + n) ≡ false
-    before first b n block lt = grind (arith, nat_tests)
+front_done now first b n block r lt = search rules
 
 inside_done : (now : Blocks) (first b n k : ℕ) (r : Request) → is_some r.written ≡ true → b ≤ k → k < b + n → blocks_done now (first + b) r n (first + k) ≡ Some (sector_of_block r (k - b))
-inside_done now first b n k r writes le lt = rw (writes, test first b n k le lt) (ap (λ j. Some (sector_of_block r j)) (back first b k le))
-  where
-    test : (first b n k : ℕ) → b ≤ k → k < b + n → nat_le (first + b) (first + k) && nat_lt (first + k) (first + b + n) ≡ true
-    test first b n k le lt = grind (arith, nat_tests)
-
-    back : (first b k : ℕ) → b ≤ k → first + k - (first + b) ≡ k - b
-    back first b k le = omega (arith, le)
+inside_done now first b n k r writes le lt = search rules
 
 -- where a block of the partition lies
 data Where (b n k : ℕ) : Type 0 where
@@ -179,13 +99,7 @@ data Where (b n k : ℕ) : Type 0 where
   Inside : b ≤ k → k < b + n → Where b n k
 
 where_lies : (b n k : ℕ) → Where b n k
-where_lies b n k = elim (leb_tells b k) [
-  | inl above ↦ elim (leb_tells (b + n) k) [
-    | inl beyond ↦ Outside (inr beyond.1)
-    | inr less ↦ Inside above.1 less.1
-  ]
-  | inr below ↦ Outside (inl below.1)
-]
+where_lies b n k = search rules
 
 module _ (blocks now : Blocks) (first at d e b n : ℕ) (from bytes : List ℕ) (r : Request)
     (long : (block : ℕ) (bytes : List ℕ) → blocks block ≡ Some bytes → length bytes ≡ 512)
@@ -275,34 +189,10 @@ edge_written blocks now first at d b skip size from content buffer r long so_far
 
 -- ---- no bytes replaced, and what can be used stays so
 pub none_replaced : (blocks : Blocks) (first at block : ℕ) → with_range blocks first at [] block ≡ blocks block
-none_replaced blocks first at block = by (nat_le first block) refl
-  where
-    within : (content : Option (List ℕ)) → with_bytes (block - first) at [] content ≡ content
-    within None = refl
-    within (Some bytes) = ap Some (ap (λ zs. laid_at (at - 512 * (block - first)) zs bytes) (drop_all (512 * (block - first) - at) [] (omega arith)) ∙ laid_at_none (at - 512 * (block - first)) bytes)
-
-    by : (b : Bool) → nat_le first block ≡ b → (if b then with_bytes (block - first) at [] (blocks block) else blocks block) ≡ blocks block
-    by true is = within (blocks block)
-    by false is = refl
-
-some_before : (k at : ℕ) (from : List ℕ) (content : Option (List ℕ)) → IsSome (with_bytes k at from content) → IsSome content
-some_before k at from None some = some
-some_before k at from (Some bytes) some = some
-
-none_before : (k at : ℕ) (from : List ℕ) (content : Option (List ℕ)) → with_bytes k at from content ≡ None → content ≡ None
-none_before k at from None none = refl
-none_before k at from (Some bytes) none = absurd (none-some (block_with k at from bytes) (sym none))
+none_replaced blocks first at block = search (rules, nat_le, drop_all, laid_at_none)
 
 pub had_some : (blocks : Blocks) (first at block : ℕ) (from : List ℕ) → IsSome (with_range blocks first at from block) → IsSome (blocks block)
-had_some blocks first at block from = by (nat_le first block)
-  where
-    by : (b : Bool) → IsSome (if b then with_bytes (block - first) at from (blocks block) else blocks block) → IsSome (blocks block)
-    by true some = some_before (block - first) at from (blocks block) some
-    by false some = some
+had_some blocks first at block from h0 = search rules
 
 pub had_none : (blocks : Blocks) (first at block : ℕ) (from : List ℕ) → with_range blocks first at from block ≡ None → blocks block ≡ None
-had_none blocks first at block from = by (nat_le first block)
-  where
-    by : (b : Bool) → (if b then with_bytes (block - first) at from (blocks block) else blocks block) ≡ None → blocks block ≡ None
-    by true none = none_before (block - first) at from (blocks block) none
-    by false none = none
+had_none blocks first at block from h0 = search rules

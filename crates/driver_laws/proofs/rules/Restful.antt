@@ -1,5 +1,5 @@
 -- A replay at rest keeps what every state keeps that a legal beginning reaches, and stands for what its packs hold.
-use Rattle.std.proofs.Common.{◌≡◌, ℕ, false, List, [], Option, None, Some, refl, sym, ap, ◌∙◌, subst}
+use Rattle.std.proofs.Common.{◌≡◌, ℕ, false, List, [], Option, None, Some, refl, sym, ap, ◌∙◌, subst, rules}
 use Rattle.std.specs.Prelude.{All, length}
 use Rattle.std.proofs.lemmas.List.Elements.{All-nil}
 use Rattle.pack_geometry.specs.declared.DriveKind.{DriveKind}
@@ -10,18 +10,14 @@ use Rattle.pack_geometry.specs.Homes.{home_of, content_at, contents_of}
 use Rattle.pack_geometry.proofs.PackLaws.{length-block_at}
 use Rattle.hardware_table.specs.Noise.{LiveNoise}
 use Rattle.trace_replay.specs.requests.ServiceOrder.{Waiting as Waiter}
-use Rattle.trace_replay.specs.requests.Requests.{Request, first_block}
-use Rattle.trace_replay.specs.Service.{no_request}
-use Rattle.trace_replay.specs.Packs.{surface_of}
+use Rattle.trace_replay.specs.requests.Requests.{Request}
 use Rattle.trace_replay.specs.Conversation.{Waiting, not_begun, goes_on}
 use Rattle.trace_replay.specs.Events.{Act, Refusing}
 use Rattle.trace_replay.specs.Replay.{Replay}
-use Rattle.driver_laws.proofs.rules.Idle.{unit_is, idle_fits, starts_idle}
+use Rattle.driver_laws.proofs.rules.Idle.{unit_is, idle_fits}
 use Rattle.driver_laws.specs.rules.Machine.{Blocks, idle}
 use Rattle.driver_laws.specs.rules.Stands.{Setup, home_at, home_in, held_at, IsLive, is_sure_among, UnitStands, QueueStands, StandsFor}
-use Rattle.driver_laws.proofs.rules.Hands.{begins}
 use Rattle.driver_laws.proofs.rules.MachineUnits.{Keeps, IsFirst}
-use Rattle.driver_laws.proofs.rules.Kept.{start_kept}
 use Rattle.driver_laws.specs.rules.Rest.{IsAtRest, StartRests}
 
 first_by : (act : Act) (goes : _) → goes ≡ false → IsFirst act goes
@@ -53,10 +49,7 @@ held_there (Some kind) table pack sectors b same = held_is pack sectors (home_of
 -- ---- a unit at rest stands for what its pack holds
 stands_rest : (sure : ℕ → Type 0) (homes : ℕ → Option ℕ) (d : _) (joined : ℕ) (table : Option Table) (sectors : ℕ → List ℕ) (blocks : Blocks) → ((b : ℕ) → held_at sectors (homes b) ≡ blocks b)
     → UnitStands sure homes (record { drive = d; service = record { waiting = []; joined = joined }; stage = Waiting; progress = not_begun; table = table }) sectors blocks
-stands_rest sure homes d joined table sectors blocks holds = record {
-  hand = begins sure homes (first_block d.kind no_request) no_request sectors blocks holds;
-  stage = tt;
-}
+stands_rest sure homes d joined table sectors blocks holds = search rules
 
 none_waits : (drives : ℕ → Option DriveKind) (unit : ℕ) (outstanding : List Request) (waiting : List (Waiter Request)) → waiting ≡ [] → QueueStands drives unit outstanding waiting
 none_waits drives unit outstanding waiting none = subst (QueueStands drives unit outstanding) (sym none) (record { each = tt; distinct = tt })
@@ -77,14 +70,4 @@ rest_stands setup s rest = record {
 
 -- ---- the start rests
 pub start_rests : StartRests
-start_rests setup = record {
-  kinds = (start_kept setup).kinds;
-  tables = λ unit. refl;
-  idle = starts_idle setup.drives setup.tables (surface_of setup.packs);
-  sectors = λ unit block. refl;
-  marks = λ unit block. refl;
-  frames = refl;
-  outstanding = refl;
-  over = refl;
-  calm = record { drives = λ unit. (refl, refl, refl); stages = λ unit. refl; live = refl };
-}
+start_rests setup = search rules

@@ -1,12 +1,12 @@
 -- The last entry of a full cache is written back and dropped.
-use Rattle.std.proofs.Common.{◌≡◌, ◌≢◌, inl, inr, ℕ, zero, suc, ◌+◌, ◌-◌, ◌≤◌, ◌==◌, Bool, true, false, List, [], ◌∷◌, ◌++◌, length, take, drop, Option, None, Some, refl, sym, ap, ◌∙◌, subst, arith, length-append}
+use Rattle.std.proofs.Common.{◌≡◌, ◌≢◌, inl, inr, ℕ, zero, suc, ◌+◌, ◌-◌, ◌≤◌, ◌==◌, Bool, true, false, List, [], ◌∷◌, ◌++◌, length, take, drop, Option, None, Some, refl, sym, ap, ◌∙◌, subst, arith, length-append, rules}
 use Rattle.std.specs.Prelude.{map, if◌then◌else◌, slice_get, IsSome}
 use Rattle.std.specs.List.{AllByRecursion}
 use Rattle.std.proofs.lemmas.Bool.Decides.{eqb_tells}
 use Rattle.driver_laws.specs.rules.Requests.{Map, writes, written_over, behind_one, behind}
 use Rattle.driver_laws.specs.declared.rules.cached.Entry.{Entry}
 use Rattle.driver_laws.specs.rules.Entries.{State, is_of, entry_of, AreApart, IsCache, if_changed, to_write_back, unchanged, last_unchanged, written_last, write_backs}
-use Rattle.driver_laws.specs.rules.Contents.{bytes_or, cached, Fits, AllFit}
+use Rattle.driver_laws.specs.rules.Contents.{cached, Fits, AllFit}
 use Rattle.driver_laws.proofs.rules.Lookups.{IsKey, tells, own_key, at_own, at_other, look_front, look_behind, none_misses, misses_none, all_parts, all_join, last_apart}
 
 abbrev map_unchanged : List Entry → List Entry
@@ -52,11 +52,7 @@ take_all (suc n) (x ∷ xs) few = ap (λ zs. x ∷ zs) (take_all n xs (omega (ar
 
 -- ---- what a write leaves in a map
 pub write_own : (map : Map) (e : Entry) (u b : ℕ) → is_of u b e ≡ true → IsSome (map u b) → behind_one map (writes e.unit e.block e.bytes) u b ≡ Some e.bytes
-write_own map e u b key some = ap (λ t. if t then written_over (Some e.bytes) (map u b) else map u b) key ∙ over (map u b) some
-  where
-    over : (held : Option (List ℕ)) → IsSome held → written_over (Some e.bytes) held ≡ Some e.bytes
-    over None none = absurd (search arith)
-    over (Some old) is = refl
+write_own map e u b key some = search rules
 
 pub write_other : (map : Map) (e : Entry) (u b : ℕ) → is_of u b e ≡ false → behind_one map (writes e.unit e.block e.bytes) u b ≡ map u b
 write_other map e u b not = ap (λ t. if t then written_over (Some e.bytes) (map u b) else map u b) not
@@ -76,15 +72,7 @@ pub at_key : (map : Map) (u b : ℕ) (e : Entry) → IsKey u b e → map u b ≡
 at_key map u b e key = ap (λ n. map n b) key.unit_is ∙ ap (λ n. map e.unit n) key.block_is
 
 drop_last : (map : Map) (front : List Entry) (last : Entry) → map last.unit last.block ≡ Some last.bytes → (u b : ℕ) → cached front map u b ≡ cached (front ++ last ∷ []) map u b
-drop_last map front last same u b = by (entry_of u b front) refl
-  where
-    by : (o : Option Entry) → entry_of u b front ≡ o → cached front map u b ≡ cached (front ++ last ∷ []) map u b
-    by (Some e) is = ap (λ z. bytes_or z (map u b)) (is ∙ sym (look_front u b front (last ∷ []) e is))
-    by None none = elim (tells u b last) [
-      | inl key ↦ ap (λ z. bytes_or z (map u b)) none ∙ at_key map u b last key ∙ same
-          ∙ sym (ap (λ z. bytes_or z (map u b)) (look_behind u b front (last ∷ []) none ∙ at_own u b last [] key.is))
-      | inr not ↦ ap (λ z. bytes_or z (map u b)) none ∙ sym (ap (λ z. bytes_or z (map u b)) (look_behind u b front (last ∷ []) none ∙ at_other u b last [] not))
-    ]
+drop_last map front last same u b = search (rules, look_front, tells, at_key, look_behind, at_own, at_other)
 
 -- ---- it is written back
 module _ (map : Map) (front : List Entry) (last : Entry) (apart : AreApart (front ++ last ∷ [])) (fit : AllFit map (front ++ last ∷ [])) where
@@ -92,16 +80,7 @@ module _ (map : Map) (front : List Entry) (last : Entry) (apart : AreApart (fron
   Behind = behind_one map (writes last.unit last.block last.bytes)
 
   back_contents : (u b : ℕ) → cached (front ++ unchanged last ∷ []) Behind u b ≡ cached (front ++ last ∷ []) map u b
-  back_contents u b = by (entry_of u b front) refl
-    where
-      by : (o : Option Entry) → entry_of u b front ≡ o → cached (front ++ unchanged last ∷ []) Behind u b ≡ cached (front ++ last ∷ []) map u b
-      by (Some e) is = ap (λ z. bytes_or z (Behind u b)) (look_front u b front (unchanged last ∷ []) e is) ∙ sym (ap (λ z. bytes_or z (map u b)) (look_front u b front (last ∷ []) e is))
-      by None none = elim (tells u b last) [
-        | inl key ↦ ap (λ z. bytes_or z (Behind u b)) (look_behind u b front (unchanged last ∷ []) none ∙ at_own u b (unchanged last) [] key.is)
-            ∙ sym (ap (λ z. bytes_or z (map u b)) (look_behind u b front (last ∷ []) none ∙ at_own u b last [] key.is))
-        | inr not ↦ ap (λ z. bytes_or z (Behind u b)) (look_behind u b front (unchanged last ∷ []) none ∙ at_other u b (unchanged last) [] not)
-            ∙ write_other map last u b not ∙ sym (ap (λ z. bytes_or z (map u b)) (look_behind u b front (last ∷ []) none ∙ at_other u b last [] not))
-      ]
+  back_contents u b = search (rules, look_front, tells, look_behind, at_own, at_other, write_other)
 
   last_fits : Fits map last
   last_fits = (all_parts (Fits map) front (last ∷ []) fit).1.0
@@ -138,17 +117,7 @@ pub record Room (map next : Map) (capacity : ℕ) (entries left : List Entry) : 
 
 -- where some are free
 free_room : (map : Map) (capacity : ℕ) (entries : List Entry) → length entries ≤ capacity - 1 → AllFit map entries → Room map map capacity entries entries
-free_room map capacity entries few fit =
-    let all : take (capacity - 1) entries ≡ entries = take_all (capacity - 1) entries few in
-    record {
-      kept = λ u b. refl;
-      kept_fit = fit;
-      dropped = λ u b. ap (λ z. cached z map u b) all;
-      dropped_fit = subst (AllFit map) (sym all) fit;
-      none = λ u b is. is;
-      none_dropped = λ u b is. ap (entry_of u b) all ∙ is;
-      same = λ u b is. refl;
-    }
+free_room map capacity entries few fit = search (rules, take_all)
 
 -- where the last entry is not changed, or was written back
 module _ (map : Map) (capacity : ℕ) (front : List Entry) (last : Entry) (full : length (front ++ last ∷ []) ≡ capacity) (apart : AreApart (front ++ last ∷ [])) (fit : AllFit map (front ++ last ∷ [])) where

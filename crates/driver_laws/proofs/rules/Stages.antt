@@ -1,19 +1,14 @@
 -- Which lines may come where a unit stands, and where they lead.
-use Rattle.std.proofs.Common.{◌≡◌, ℕ, ◌&&◌, ◌==◌, Bool, true, false, not, List, [], ◌∷◌, ◌++◌, Option, None, Some, is_some, refl, sym, ap, subst, nat_lt}
+use Rattle.std.proofs.Common.{◌≡◌, ℕ, ◌&&◌, ◌==◌, Bool, true, false, not, List, [], ◌∷◌, ◌++◌, Option, None, Some, is_some, refl, sym, ap, subst, nat_lt, rules}
 use Rattle.std.specs.Prelude.{if◌then◌else◌}
 use Rattle.std.proofs.lemmas.Option.{same_Some, none-some}
 use Rattle.std.proofs.lemmas.Bool.{false≢true, true≢false, and_from, not-true}
 use Rattle.hardware_table.specs.declared.Moved.{Moved}
 use Rattle.hardware_table.specs.declared.Moved.TheVariants as verdict
 use Rattle.hardware_table.specs.Drive.{DriveState}
-use Rattle.drive_registers.specs.Codes.{offset_field}
-use Rattle.trace_replay.specs.declared.retry_offsets.Step.{Step}
-use Rattle.trace_replay.specs.declared.retry_offsets.Step.TheVariants as retry
-use Rattle.trace_replay.specs.Schedule.{step_after}
-use Rattle.pack_geometry.specs.Geometry.{place_at}
 use Rattle.trace_replay.specs.requests.Requests.{Request}
 use Rattle.trace_replay.specs.Moments.{Deed, Search, Seek, Recal, Offset, Centre, Clear, Pack, Transfer, Arrive, Sector, Intr, Try, Attn, End}
-use Rattle.trace_replay.specs.Conversation.{Hand, Stage, Waiting, Steps, UnderWay, AtOnce, Moving, Saying, Ending, Segment, OwnBlocks, Replacement, due, guarded, transfer_of, command_of, needs_unlocked, is_write, is_waiting, waits, goes_on, is_under_way, step_taken, step_ended, said, saying, begun, interrupted_by, outcome, continued, ok_answer, failed, retried, marked, forwarded, entry_of, start_of, clear_lines, centre_lines, try_lines, is_clean, last_of, left_of, sector_may, intr_may, Positioning, SearchFor}
+use Rattle.trace_replay.specs.Conversation.{Hand, Stage, Waiting, Steps, UnderWay, AtOnce, Moving, Saying, Ending, Segment, OwnBlocks, due, guarded, transfer_of, command_of, needs_unlocked, is_write, is_waiting, waits, goes_on, is_under_way, step_taken, step_ended, said, saying, begun, interrupted_by, outcome, start_of, clear_lines, try_lines, is_clean, last_of, left_of, sector_may, intr_may, Positioning, SearchFor}
 use Rattle.trace_replay.proofs.Histories.{guard_holds}
 use Rattle.driver_laws.specs.rules.Consistent.{is_moving, may_have_errors, is_behind_interrupt, are_behind_interrupt, follows_lines, is_well_said, is_cleared_next}
 
@@ -70,10 +65,7 @@ positions (SearchFor c y) = refl
 positions other = refl
 
 says : (line : Deed) → is_behind_interrupt line ≡ true → sort_of line ≡ Says
-says Centre is = refl
-says Clear is = refl
-says (Try b f) is = refl
-says other is = absurd (false≢true is)
+says line is = search rules
 
 pub due_allowed : (d : DriveState) (h : Hand) (stage : Stage) (deed : Deed) → is_well_said stage ≡ true → due d h stage ≡ Some deed
     → allowed stage (sort_of deed) ≡ true
@@ -103,11 +95,7 @@ pub record Quiet (stage : Stage) : Type 0 where
   pub said : is_well_said stage ≡ true
 
 pub quiet_before : (stage : Stage) (sort : Sort) → is_well_said stage ≡ true → allowed stage sort ≡ true → Quiet stage
-quiet_before (Steps left segment) sort ok is = record { waiting = refl; under = refl; moving = refl; said = refl }
-quiet_before (AtOnce segment) sort ok is = record { waiting = refl; under = refl; moving = refl; said = refl }
-quiet_before (Saying lines next) sort ok is = record { waiting = refl; under = refl; moving = refl; said = ok }
-quiet_before (Ending answer) sort ok is = record { waiting = refl; under = refl; moving = refl; said = refl }
-quiet_before other sort ok is = absurd (false≢true is)
+quiet_before stage sort ok is = search rules
 
 -- where the commands of steps lead
 pub record Stepping (old new : Stage) : Type 0 where
@@ -121,15 +109,7 @@ pub record Stepping (old new : Stage) : Type 0 where
   pub clear : may_have_errors old ≡ false
 
 pub step_begins : (stage : Stage) → allowed stage Positions ≡ true → Stepping stage (step_taken stage)
-step_begins Waiting is = absurd (false≢true is)
-step_begins (Steps [] segment) is = absurd (false≢true is)
-step_begins (Steps (step ∷ left) segment) is = record { waiting = refl; under = refl; moving = refl; said = refl; queued = refl; silent = refl; free = refl; clear = refl }
-step_begins (UnderWay left segment) is = absurd (false≢true is)
-step_begins (AtOnce segment) is = absurd (false≢true is)
-step_begins (Moving segment left last) is = absurd (false≢true is)
-step_begins (Saying [] next) is = absurd (false≢true is)
-step_begins (Saying (line ∷ rest) next) is = absurd (false≢true is)
-step_begins (Ending answer) is = absurd (false≢true is)
+step_begins stage is = search rules
 
 -- where a line leads behind which nothing is under way
 pub record Quieted (old new : Stage) : Type 0 where
@@ -137,10 +117,7 @@ pub record Quieted (old new : Stage) : Type 0 where
   pub free : waits old ≡ false
 
 pub follows_quiet : (next : Stage) → follows_lines next ≡ true → Quiet next
-follows_quiet (Steps left segment) is = record { waiting = refl; under = refl; moving = refl; said = refl }
-follows_quiet (AtOnce segment) is = record { waiting = refl; under = refl; moving = refl; said = refl }
-follows_quiet (Ending answer) is = record { waiting = refl; under = refl; moving = refl; said = refl }
-follows_quiet other is = absurd (false≢true is)
+follows_quiet next is = search rules
 
 pub saying_quiet : (lines : List Deed) (next : Stage) → are_behind_interrupt lines ≡ true → follows_lines next ≡ true → Quiet (saying lines next)
 saying_quiet [] next are is = follows_quiet next is
@@ -171,35 +148,8 @@ step_over (UnderWay left segment) is = record { quiet = record { waiting = refl;
 step_over other is = absurd (false≢true is)
 
 -- ---- the interrupt
-either : (b : Bool) (x y : Stage) → follows_lines x ≡ true → follows_lines y ≡ true → follows_lines (if b then x else y) ≡ true
-either true x y p q = p
-either false x y p q = q
-
-continued_follows : (h : Hand) → follows_lines (continued h) ≡ true
-continued_follows h = either (h.progress.done == h.request.count) (Ending (ok_answer h)) (AtOnce OwnBlocks) refl refl
-
-retried_follows : (step : Step) (cylinder : ℕ) (segment : Segment) (done : ℕ) → follows_lines (retried step cylinder segment done) ≡ true
-retried_follows retry.Again c g n = refl
-retried_follows other c g n = refl
-
-forwarded_follows : (h : Hand) (i : Option ℕ) → follows_lines (forwarded h i) ≡ true
-forwarded_follows h None = refl
-forwarded_follows h (Some i) = refl
-
-marked_follows : (h : Hand) (segment : Segment) → follows_lines (marked h segment) ≡ true
-marked_follows h OwnBlocks = forwarded_follows h (entry_of h (start_of OwnBlocks h))
-marked_follows h (Replacement block) = refl
-
-failed_follows : (h : Hand) (segment : Segment) → follows_lines (failed h segment) ≡ true
-failed_follows h segment =
-    retried_follows (step_after h.progress.failures (not (is_write h))) (place_at h.kind (start_of segment h)).cylinder segment h.progress.done
-
 outcome_follows : (v : Moved) (h : Hand) (segment : Segment) → follows_lines (outcome v h segment) ≡ true
-outcome_follows verdict.Hard h segment = failed_follows h segment
-outcome_follows (verdict.Faulted f) h segment = failed_follows h segment
-outcome_follows verdict.Marked h segment = marked_follows h segment
-outcome_follows verdict.Offline h segment = refl
-outcome_follows other h segment = continued_follows h
+outcome_follows v h segment = search rules
 
 tries_behind : (v : Moved) (block failures : ℕ) → are_behind_interrupt (try_lines v block failures) ≡ true
 tries_behind verdict.Clean b f = refl
@@ -220,12 +170,7 @@ all_behind (x ∷ xs) ys one other =
     (all_behind xs ys (second_of (is_behind_interrupt x) (are_behind_interrupt xs) one) other)
 
 pub interrupted_quiet : (v : Moved) (d : DriveState) (h : Hand) (segment : Segment) → Quiet (interrupted_by v d h segment)
-interrupted_quiet v d h segment =
-    saying_quiet (clear_lines v ++ centre_lines d ++ try_lines v (start_of segment h) h.progress.failures) (outcome v h segment)
-    (all_behind (clear_lines v ++ centre_lines d) (try_lines v (start_of segment h) h.progress.failures)
-    (all_behind (clear_lines v) (centre_lines d) (clears_behind v) (centres_behind (offset_field d.offset == 0)))
-    (tries_behind v (start_of segment h) h.progress.failures))
-    (outcome_follows v h segment)
+interrupted_quiet v d h segment = search (rules, saying_quiet, all_behind, clears_behind, centres_behind, tries_behind, outcome_follows)
 
 -- what is not clean is cleared first
 pub cleared_first : (v : Moved) (d : DriveState) (h : Hand) (segment : Segment) → is_clean v ≡ false → may_have_errors (interrupted_by v d h segment) ≡ true
@@ -244,35 +189,13 @@ begun_still d (Some r) = (refl, refl, refl)
 -- ---- errors
 pub first_said : (d : DriveState) (h : Hand) (stage : Stage) (deed : Deed) → due d h stage ≡ Some deed → allowed stage Says ≡ true
     → ((rest : List Deed) → is_cleared_next (deed ∷ rest) ≡ false) → may_have_errors stage ≡ false
-first_said d h Waiting deed is ok other = absurd (false≢true ok)
-first_said d h (Steps [] segment) deed is ok other = absurd (false≢true ok)
-first_said d h (Steps (step ∷ left) segment) deed is ok other = absurd (false≢true ok)
-first_said d h (UnderWay left segment) deed is ok other = absurd (false≢true ok)
-first_said d h (AtOnce segment) deed is ok other = absurd (false≢true ok)
-first_said d h (Moving segment left last) deed is ok other = absurd (false≢true ok)
-first_said d h (Saying [] next) deed is ok other = absurd (false≢true ok)
-first_said d h (Saying (line ∷ rest) next) deed is ok other = subst (λ z. is_cleared_next (z ∷ rest) ≡ false) (sym (same_Some line deed is)) (other rest)
-first_said d h (Ending answer) deed is ok other = absurd (false≢true ok)
+first_said d h stage deed is ok other = search rules
 
 pub transfers_clear : (stage : Stage) → allowed stage Transfers ≡ true → may_have_errors stage ≡ false
-transfers_clear Waiting ok = refl
-transfers_clear (Steps left segment) ok = refl
-transfers_clear (UnderWay left segment) ok = refl
-transfers_clear (AtOnce segment) ok = refl
-transfers_clear (Moving segment left last) ok = absurd (false≢true ok)
-transfers_clear (Saying [] next) ok = refl
-transfers_clear (Saying (line ∷ rest) next) ok = absurd (false≢true ok)
-transfers_clear (Ending answer) ok = refl
+transfers_clear stage ok = search rules
 
 pub ends_clear : (stage : Stage) → allowed stage Ends ≡ true → may_have_errors stage ≡ false
-ends_clear Waiting ok = refl
-ends_clear (Steps left segment) ok = refl
-ends_clear (UnderWay left segment) ok = refl
-ends_clear (AtOnce segment) ok = refl
-ends_clear (Moving segment left last) ok = absurd (false≢true ok)
-ends_clear (Saying [] next) ok = refl
-ends_clear (Saying (line ∷ rest) next) ok = absurd (false≢true ok)
-ends_clear (Ending answer) ok = refl
+ends_clear stage ok = search rules
 
 -- a step is under way
 pub under_way : (stage : Stage) → is_under_way stage ≡ true → Stepping (UnderWay [] OwnBlocks) stage

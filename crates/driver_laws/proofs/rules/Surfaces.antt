@@ -1,9 +1,7 @@
 -- What a line of a unit leaves of the sectors and of the noise.
-use Rattle.std.proofs.Common.{◌≡◌, ◌≢◌, inl, inr, ℕ, ◌==◌, ◌&&◌, Bool, true, false, List, length, refl, ap, ◌∙◌, All}
-use Rattle.std.proofs.lemmas.Bool.Decides.{eqb_tells}
-use Rattle.std.proofs.lemmas.Bool.{false≢true}
+use Rattle.std.proofs.Common.{◌≡◌, ◌≢◌, ℕ, ◌==◌, ◌&&◌, Bool, true, false, List, length, refl, All, rules}
 use Rattle.hardware_table.specs.declared.Moved.{Moved}
-use Rattle.hardware_table.specs.Drive.{DriveState, is_writing}
+use Rattle.hardware_table.specs.Drive.{DriveState}
 use Rattle.hardware_table.specs.Moves.{has_bytes, was_read, was_written}
 use Rattle.hardware_table.specs.Noise.{LiveNoise}
 use Rattle.trace_replay.specs.requests.Requests.{Request}
@@ -14,30 +12,9 @@ use Rattle.trace_replay.specs.Replay.{Replay, surface_after}
 use Rattle.driver_laws.specs.rules.Stands.{IsLive}
 use Rattle.driver_laws.proofs.rules.Blocks.{sector_full}
 use Rattle.driver_laws.proofs.rules.Noises.{struck_live}
-use Rattle.trace_replay.proofs.Unchanged.{read_same}
-
--- a sector that was not written is as before
-not_this : (bytes : List ℕ) (sectors : ℕ → ℕ → List ℕ) (unit block u x : ℕ) → (u ≡ unit → x ≡ block → ⊥) → this_sector_or ((u == unit) && (x == block)) bytes sectors u x ≡ sectors u x
-not_this bytes sectors unit block u x apart = elim (eqb_tells u unit) [
-  | inl same ↦ elim (eqb_tells x block) [
-    | inl here ↦ absurd (apart same.1 here.1)
-    | inr other ↦ rw (same.0, other.0) refl
-  ]
-  | inr other ↦ rw other.0 refl
-]
-
-written_not : (w : Bool) (s : Surface) (unit block : ℕ) (r : Request) (k u x : ℕ) → (w ≡ true → u ≡ unit → x ≡ block → ⊥) → (surface_written w s unit block r k).sector u x ≡ s.sector u x
-written_not true s unit block r k u x apart = not_this (sector_of_block r k) s.sector unit block u x (apart refl)
-written_not false s unit block r k u x apart = refl
 
 tried_not : (s : Surface) (unit : ℕ) (d : DriveState) (block : ℕ) (v : Moved) (r : Request) (k u x : ℕ) → (has_bytes v ≡ true → u ≡ unit → x ≡ block → ⊥) → (surface_tried s unit d block v r k).sector u x ≡ s.sector u x
-tried_not s unit d block v r k u x apart =
-    written_not (was_written d v) (surface_read (was_read d v) s unit d block) unit block r k u x (λ written. apart (front (has_bytes v) (is_writing d.work) written))
-    ∙ ap (λ f. f u x) (read_same (was_read d v) s unit d block)
-  where
-    front : (a b : Bool) → a && b ≡ true → a ≡ true
-    front true b is = refl
-    front false b is = absurd (false≢true is)
+tried_not s unit d block v r k u x apart = search rules
 
 -- what a deed may write: the sector that was tried
 abbrev pub IsUntouched : ℕ → Deed → ℕ → ℕ → Type 0

@@ -1,15 +1,15 @@
 -- Each event of a drain tells at least one event line.
-use Rattle.std.proofs.Common.{◌≡◌, inl, inr, ℕ, ◌+◌, ◌≤◌, ◌==◌, ◌&&◌, ◌||◌, nat_lt, Bool, true, false, List, [], ◌∷◌, find, Option, None, Some, refl, sym, ap, ◌∙◌, subst, arith}
+use Rattle.std.proofs.Common.{◌≡◌, inl, inr, ℕ, ◌+◌, ◌≤◌, ◌==◌, ◌&&◌, nat_lt, Bool, true, false, List, [], ◌∷◌, find, Option, None, Some, refl, sym, ap, ◌∙◌, subst, rules}
 use Rattle.std.specs.Prelude.{if◌then◌else◌}
-use Rattle.std.proofs.lemmas.Bool.Decides.{eqb_tells, nat_tests}
+use Rattle.std.proofs.lemmas.Bool.Decides.{eqb_tells}
 use Rattle.std.proofs.lemmas.Bool.{false_from_ne_true}
 use Rattle.hardware_table.specs.Drive.{is_positioning}
 use Rattle.trace_replay.specs.requests.Requests.{Request}
 use Rattle.trace_replay.specs.Script.{Input, Submit, Drain}
-use Rattle.trace_replay.specs.Moments.{Deed, Arrive, Sector, Intr, Attn, Moment, Played, Told, Idle}
-use Rattle.trace_replay.specs.Adapters.{AdapterSeen, can_move, attentive}
+use Rattle.trace_replay.specs.Moments.{Deed, Moment, Played, Told, Idle}
+use Rattle.trace_replay.specs.Adapters.{AdapterSeen, can_move}
 use Rattle.trace_replay.specs.Conversation.{goes_on}
-use Rattle.trace_replay.specs.Events.{Event, Wish, NoLine, DueLine, Arrival, SectorLine, Interrupt, Attention, Refusal, wish_of, wish_in, wish_in_serving, wanted, is_no_line, can_attend, is_some_drive, adapters_there, act_of_attend, act_of_move, act_of_arrival}
+use Rattle.trace_replay.specs.Events.{Event, Wish, NoLine, DueLine, Arrival, SectorLine, Interrupt, Attention, Refusal, wish_of, wish_in, wanted, is_no_line, can_attend, adapters_there, act_of_attend, act_of_move, act_of_arrival}
 use Rattle.trace_replay.specs.Replay.{Replay, with_state, next_wish, act_drained, drained, LineMay, ToldMay, MayCome, Follows, after_moment, after_moments, unit_after, told_after, replay_told, Submission, Refused, Joined, submission, submitted, replay_played, speaker_of}
 use Rattle.trace_replay.proofs.Kept.{no}
 use Rattle.driver_laws.specs.rules.Drains.{event_by, events_in, EventsTell, DrainsTell}
@@ -25,16 +25,9 @@ BringsEvent (Interrupt u) = Unit {0}
 BringsEvent (Attention u) = Unit {0}
 BringsEvent wish = ⊥
 
-serving_brings : (adapter : ℕ) (a : AdapterSeen) (interrupt : Bool) (drives : List ℕ) → interrupt || is_some_drive drives ≡ true → BringsEvent (wish_in_serving adapter a interrupt drives)
-serving_brings adapter a true drives is = tt
-serving_brings adapter a false [] is = absurd (no is)
-serving_brings adapter a false (drive ∷ drives) is = tt
-
 attend_brings : (adapters : ℕ → AdapterSeen) (found : Option ℕ) → ((adapter : ℕ) → found ≡ Some adapter → can_attend (adapters adapter).state ≡ true)
     → BringsEvent (wish_in adapters (act_of_attend (λ adapter. (adapters adapter).state) found))
-attend_brings adapters None holds = tt
-attend_brings adapters (Some adapter) holds =
-    serving_brings adapter (adapters adapter) ((adapters adapter).state.busy && (adapters adapter).state.completion) (attentive (adapters adapter).state) (holds adapter refl)
+attend_brings adapters found holds = search rules
 
 move_brings : (adapters : ℕ → AdapterSeen) (found : Option ℕ) → BringsEvent (wish_in adapters (act_of_move (λ adapter. (adapters adapter).state) found))
 move_brings adapters None =
@@ -59,11 +52,7 @@ begun_brings : (s : Replay) → HasBegun s → BringsEvent (next_wish s)
 begun_brings s h = subst (λ z. BringsEvent (wanted s.adapters s.event z)) (sym h.quiet) (subst (λ z. BringsEvent (wish_in s.adapters z)) (sym h.act) (drain_brings s))
 
 event_told : (unit : ℕ) (deed : Deed) → BringsEvent (wish_of unit deed) → event_by deed + 0 ≡ 1
-event_told unit Arrive b = refl
-event_told unit (Sector k v) b = refl
-event_told unit Intr b = refl
-event_told unit Attn b = refl
-event_told unit deed b = absurd b
+event_told unit deed b = search rules
 
 told_tells : (wish : Wish) (s : Replay) (line unit id : ℕ) (deed : Deed) → ToldMay wish s line unit id deed → next_wish s ≡ wish → BringsEvent (next_wish s) → event_by deed + 0 ≡ 1
 told_tells (Refusal u i why) s line unit id deed may is b = absurd (subst BringsEvent is b)
@@ -80,10 +69,7 @@ quiet_then adapters e true is = absurd (no is)
 quiet_then adapters e false is = refl
 
 parts_of : (a b c : Bool) → a && (b && c) ≡ true → (a && c ≡ true) × (b ≡ true)
-parts_of true true true is = (refl, refl)
-parts_of true true false is = absurd (no is)
-parts_of true false c is = absurd (no is)
-parts_of false b c is = absurd (no is)
+parts_of a b c is = search rules
 
 drained_begun : (t : Replay) → t.event.between ≡ false → (drained t).event.between ≡ true → HasBegun (drained t)
 drained_begun t off on = at (t.event.drains && (is_no_line (next_wish t) && nat_lt 0 t.outstanding)) refl on
@@ -147,11 +133,7 @@ told_going (Refusal u i why) s line unit id deed may g = g
 told_going other s line unit id deed may g = drained_going (replay_told s unit deed (unit_after s unit deed)) (line_going s line unit id deed may g)
 
 none_goes_on : (s : Replay) → next_wish s ≡ NoLine → GoesOn s → (x : ℕ) → goes_on (s.units x).stage ≡ true → ⊥
-none_goes_on s over g x is = subst IsDue (sym (speaker_wish s x g is) ∙ over) tt
-  where
-    IsDue : Wish → Type 0
-    IsDue (DueLine u) = Unit {0}
-    IsDue wish = ⊥
+none_goes_on s over g x is = search rules
 
 submitted_going : (s : Replay) (r : Request) (met : Submission) → ((x : ℕ) → goes_on (s.units x).stage ≡ true → ⊥) → (x : ℕ) → goes_on ((submitted s r met).units x).stage ≡ true → x ≡ r.unit
 submitted_going s r (Refused why) none x is = absurd (none x is)
@@ -173,10 +155,7 @@ moments_going s (Told line unit id deed ∷ ms) follows g =
 moments_going s (Idle line ∷ ms) follows g = moments_going (after_moment s (Idle line)) ms follows.1 g
 
 pub some_counted : (n : ℕ) → 1 ≤ n → (n == 0 ≡ false) × (nat_lt 0 n ≡ true)
-some_counted n some = (false_from_ne_true (n == 0) (λ is. none n some is), grind (arith, some, nat_tests))
-  where
-    none : (k : ℕ) → 1 ≤ k → k == 0 ≡ true → ⊥
-    none k some is = grind (arith, nat_tests)
+some_counted n some = search rules
 
 pub drains_tell : DrainsTell
 drains_tell start ms number m idle follows may some = begun_tells (after_moment s (Played number Drain)) m begun

@@ -1,8 +1,7 @@
 -- A sector that is tried keeps the request in hand standing for blocks of the map.
-use Rattle.std.proofs.Common.{◌≡◌, ℕ, ◌<◌, ◌≤◌, ◌+◌, ◌==◌, ◌&&◌, Bool, true, false, not, List, [], ◌++◌, length, take, Option, None, Some, refl, sym, ap, ◌∙◌, arith}
+use Rattle.std.proofs.Common.{◌≡◌, ℕ, ◌<◌, ◌≤◌, ◌+◌, ◌==◌, ◌&&◌, Bool, true, false, not, List, [], ◌++◌, length, take, Option, Some, refl, sym, ap, ◌∙◌, arith, rules}
 use Rattle.std.specs.Prelude.{if◌then◌else◌, is_some, option_map}
-use Rattle.std.proofs.lemmas.Option.{same_Some, none-some}
-use Rattle.std.proofs.lemmas.Bool.{eq-eqb, ne_eqb, false≢true}
+use Rattle.std.proofs.lemmas.Bool.{eq-eqb, ne_eqb}
 use Rattle.hardware_table.specs.declared.FaultKind.{FaultKind}
 use Rattle.hardware_table.specs.declared.Moved.{Moved}
 use Rattle.hardware_table.specs.declared.Moved.TheVariants as verdict
@@ -24,23 +23,14 @@ MovedBy false places v = IsReadVerdict places v
 
 pub has_moved : (stop : Option Moved) (marked write : Bool) (places : Option (List ℕ)) (v : Moved) → ((x : Moved) → stop ≡ Some x → has_bytes x ≡ false)
     → IsVerdictBy stop marked write places v → has_bytes v ≡ true → (marked ≡ false) × MovedBy write places v
-has_moved (Some x) marked write places v none is bytes = absurd (false≢true (sym (none x refl) ∙ ap has_bytes (sym is) ∙ bytes))
-has_moved None true write places v none is bytes = absurd (false≢true (sym (ap has_bytes is) ∙ bytes))
-has_moved None false true places v none is bytes = (refl, is)
-has_moved None false false places v none is bytes = (refl, is)
+has_moved stop marked write places v none is bytes = search rules
 
 stopped : (online : Bool) (armed : Option FaultKind) (x : Moved) → (if online then option_map verdict.Faulted armed else Some verdict.Offline) ≡ Some x → has_bytes x ≡ false
-stopped true None x is = absurd (none-some x is)
-stopped true (Some k) x is = ap has_bytes (sym (same_Some (verdict.Faulted k) x is))
-stopped false armed x is = ap has_bytes (sym (same_Some verdict.Offline x is))
+stopped online armed x is = search rules
 
 pub verdict_moved : (d : DriveState) (marked : Bool) (places : Option (List ℕ)) (v : Moved) → IsVerdict d marked places v → has_bytes v ≡ true
     → (marked ≡ false) × MovedBy (is_writing d.work) places v
 verdict_moved d marked places v is bytes = has_moved (stop_of d) marked (is_writing d.work) places v (λ x stop. stopped d.online (first_armed d.armed) x stop) is bytes
-
-sort : Moved → ℕ
-sort verdict.Clean = 0
-sort v = 1
 
 -- ---- what is known of a try
 pub record TryOf (sure : ℕ → Type 0) (homes : ℕ → Option ℕ) (first : ℕ) (r : Request) (p : Progress) (s : Surface) (unit : ℕ) (d : DriveState) (block : ℕ) (v : Moved) : Type 0 where
@@ -83,8 +73,7 @@ burst_by : (sure : ℕ → Type 0) (homes : ℕ → Option ℕ) (first : ℕ) (r
     → w ≡ is_some r.written → MovedBy w (flips_at s unit d block) (verdict.Burst at q) → TryOf sure homes first r p s unit d block (verdict.Burst at q) → HandStands sure homes first r p (s.sector unit) blocks
     → HandStands sure homes first r (progress_tried (verdict.Burst at q) (bytes_read (not w) s unit d block r p.done) p) ((surface_written w (surface_read (not w) s unit d block) unit block r p.done).sector unit) blocks
     × BurstStands sure homes first r (progress_tried (verdict.Burst at q) (bytes_read (not w) s unit d block r p.done) p) blocks at q
-unfolding sort
-burst_by sure homes first r p s unit d block blocks at q true way moved t h = absurd (omega (arith, ap sort moved))
+burst_by sure homes first r p s unit d block blocks at q true way moved t h = cc
 burst_by sure homes first r p s unit d block blocks at q false way moved t h = (
   same_hand sure homes first r p (record p { struck = take (size_of_block r p.done) (read_as (flips_at s unit d block) (s.sector unit block)) }) (s.sector unit) blocks refl refl h,
   record {
@@ -104,8 +93,7 @@ burst_by sure homes first r p s unit d block blocks at q false way moved t h = (
 hard_by : (sure : ℕ → Type 0) (homes : ℕ → Option ℕ) (first : ℕ) (r : Request) (p : Progress) (s : Surface) (unit : ℕ) (d : DriveState) (block : ℕ) (blocks : Blocks) (w : Bool)
     → MovedBy w (flips_at s unit d block) verdict.Hard → HandStands sure homes first r p (s.sector unit) blocks
     → HandStands sure homes first r p ((surface_written w (surface_read (not w) s unit d block) unit block r p.done).sector unit) blocks
-unfolding sort
-hard_by sure homes first r p s unit d block blocks true moved h = absurd (omega (arith, ap sort moved))
+hard_by sure homes first r p s unit d block blocks true moved h = cc
 hard_by sure homes first r p s unit d block blocks false moved h = h
 
 -- A SECTOR IS TRIED.

@@ -1,5 +1,5 @@
 -- What a line of a unit leaves of its requests: its events fall, and what its request in hand takes stays within bounds.
-use Rattle.std.proofs.Common.{◌≡◌, ◌⊎◌, inl, inr, ℕ, ◌+◌, ◌*◌, ◌≤◌, Bool, true, false, List, [], ◌∷◌, drop, length, Option, Some, refl, sym, subst, arith}
+use Rattle.std.proofs.Common.{◌≡◌, ◌⊎◌, inl, inr, ℕ, ◌+◌, ◌*◌, ◌≤◌, Bool, true, false, List, [], ◌∷◌, drop, length, Option, Some, refl, sym, subst, arith, rules}
 use Rattle.std.specs.Prelude.{if◌then◌else◌}
 use Rattle.pack_geometry.specs.declared.Place.{Place}
 use Rattle.pack_geometry.specs.Geometry.{sectors_of}
@@ -39,11 +39,7 @@ begun_events b d (w ∷ rest) some = omega (arith, some.0, first_few d (target_o
 
 begun_within : (d : DriveState) (waiting : List (Waiter Request)) → AskSomeBlocks waiting
     → Within (request_or_none (first_waiting waiting)).count not_begun (begun d (first_waiting waiting)) []
-begun_within d [] some = record { events = omega arith; commands = omega arith }
-begun_within d (w ∷ rest) some = record {
-  events = omega (arith, some.0, first_few d (target_of d.kind w.request));
-  commands = omega (arith, some.0, first_few d (target_of d.kind w.request));
-}
+begun_within d waiting some = search rules
 
 -- ---- a line of a unit
 -- an arrival comes where the drive positions, which it no longer does after it
@@ -52,9 +48,7 @@ Passes b Arrive b' = (b ≡ true) × (b' ≡ false)
 Passes b deed b' = Unit {0}
 
 arrive_falls : (b b' : Bool) (count : ℕ) (p : Progress) (stage : Stage) → (b ≡ true) × (b' ≡ false) → Arrives count p stage → events_at b' count p stage + 1 ≤ events_at b count p stage
-arrive_falls true false count p stage passes a = a.events
-arrive_falls false b' count p stage passes a = absurd (no passes.0)
-arrive_falls true true count p stage passes a = absurd (no (sym passes.1))
+arrive_falls b b' count p stage passes a = search rules
 
 -- ITS EVENTS FALL with each event
 pub unit_falls : (u : UnitSeen) (deed : Deed) (d : DriveState) (bytes : List ℕ) (lines : List Deed) → UnitFits u lines → TalkMay u.drive (hand_of u) u.stage deed
@@ -149,12 +143,7 @@ none_waits b count p other is = absurd (no is)
 queue_few : (b : Bool) (p : Progress) (stage : Stage) (lines : List Deed) (waiting : List (Waiter Request)) → AskSomeBlocks waiting
     → (is_waiting stage ≡ false → IsHeld waiting) → Within (request_or_none (first_waiting waiting)).count p stage lines
     → events_at b (request_or_none (first_waiting waiting)).count p stage + events_behind (drop 1 waiting) ≤ 200 * blocks_waiting waiting
-queue_few b p stage lines [] some held w = at (is_waiting stage) refl
-  where
-    at : (c : Bool) → is_waiting stage ≡ c → events_at b 0 p stage + 0 ≤ 200 * 0
-    at true is = omega (arith, none_waits b 0 p stage is)
-    at false is = absurd (held is)
-queue_few b p stage lines (x ∷ rest) some held w = omega (arith, some.0, behind_few rest some.1, positions_least b x.request.count p stage, w.events)
+queue_few b p stage lines waiting some held w = search (rules, none_waits, behind_few, positions_least)
 
 pub unit_few : (u : UnitSeen) (lines : List Deed) → UnitFits u lines → UnitWithin u lines → events_of_unit u ≤ 200 * blocks_waiting u.service.waiting
 unit_few u lines f w = queue_few (is_positioning u.drive.work) u.progress u.stage lines u.service.waiting f.some f.held w

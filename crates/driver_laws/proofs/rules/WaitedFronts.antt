@@ -1,11 +1,10 @@
 -- A block that is an entry comes to the front.
-use Rattle.std.proofs.Common.{◌≡◌, inl, inr, ℕ, ◌==◌, ◌&&◌, true, List, Option, None, Some, refl, sym, ap, ◌∙◌, subst}
-use Rattle.std.specs.Prelude.{if◌then◌else◌}
+use Rattle.std.proofs.Common.{◌≡◌, ℕ, ◌==◌, ◌&&◌, true, List, Option, None, Some, refl, sym, ap, ◌∙◌, subst, rules}
 use Rattle.std.proofs.lemmas.Bool.{true≢false}
 use Rattle.driver_laws.specs.rules.Requests.{Map}
 use Rattle.driver_laws.specs.declared.rules.cached.Entry.{Entry}
-use Rattle.driver_laws.specs.rules.Entries.{is_of, entry_of, others, in_front, rewritten}
-use Rattle.driver_laws.specs.rules.Contents.{bytes_or, cached, Fits, AllFit, replaced}
+use Rattle.driver_laws.specs.rules.Entries.{is_of, entry_of, in_front, rewritten}
+use Rattle.driver_laws.specs.rules.Contents.{cached, Fits, AllFit, replaced}
 use Rattle.driver_laws.proofs.rules.Lookups.{IsKey, tells, is_key, at_own, at_other, found_key, found_all, others_all, front_look}
 
 -- ---- the entry that was found is found by the block itself
@@ -15,14 +14,7 @@ there unit block u b entries e is key =
     subst (λ z. entry_of z b entries ≡ Some e) (mine.unit_is ∙ sym key.unit_is) (subst (λ z. entry_of unit z entries ≡ Some e) (mine.block_is ∙ sym key.block_is) is)
 
 pub front_contents : (map : Map) (unit block : ℕ) (entries : List Entry) (u b : ℕ) → cached (in_front (entry_of unit block entries) entries) map u b ≡ cached entries map u b
-front_contents map unit block entries u b = by (entry_of unit block entries) refl
-  where
-    by : (o : Option Entry) → entry_of unit block entries ≡ o → cached (in_front o entries) map u b ≡ cached entries map u b
-    by None is = refl
-    by (Some e) is = elim (tells u b e) [
-      | inl key ↦ ap (λ z. bytes_or z (map u b)) (at_own u b e (others e.unit e.block entries) key.is ∙ sym (there unit block u b entries e is key))
-      | inr not ↦ ap (λ z. bytes_or z (map u b)) (at_other u b e (others e.unit e.block entries) not ∙ front_look u b e entries not)
-    ]
+front_contents map unit block entries u b = search (rules, tells, at_own, there, at_other, front_look)
 
 pub front_fit : (map : Map) (unit block : ℕ) (entries : List Entry) → AllFit map entries → AllFit map (in_front (entry_of unit block entries) entries)
 front_fit map unit block entries all = by (entry_of unit block entries) refl
@@ -37,15 +29,7 @@ same_test unit block u b e key = ap (λ n. (u == n) && (b == block)) key.unit_is
 
 pub change_contents : (map : Map) (unit block : ℕ) (from : List ℕ) (entries : List Entry) (e : Entry) → entry_of unit block entries ≡ Some e → (u b : ℕ)
     → cached (in_front (rewritten from (Some e)) entries) map u b ≡ replaced true unit block from (cached entries map) u b
-change_contents map unit block from entries e is u b = elim (tells u b e) [
-  | inl key ↦ ap (λ z. bytes_or z (map u b)) (at_own u b (record e { bytes = from; changed = true }) (others e.unit e.block entries) key.is)
-      ∙ sym (ap (λ t. if t then Some from else cached entries map u b) (same_test unit block u b e mine ∙ key.is))
-  | inr not ↦ ap (λ z. bytes_or z (map u b)) (at_other u b (record e { bytes = from; changed = true }) (others e.unit e.block entries) not ∙ front_look u b e entries not)
-      ∙ sym (ap (λ t. if t then Some from else cached entries map u b) (same_test unit block u b e mine ∙ not))
-]
-  where
-    mine : IsKey unit block e
-    mine = is_key unit block e (found_key unit block entries e is)
+change_contents map unit block from entries e is u b = search (rules, tells, at_own, same_test, at_other, front_look, is_key, found_key)
 
 pub change_fit : (map : Map) (unit block : ℕ) (from : List ℕ) (entries : List Entry) (e : Entry) → entry_of unit block entries ≡ Some e → AllFit map entries
     → AllFit map (in_front (rewritten from (Some e)) entries)

@@ -1,7 +1,7 @@
 -- How far pieces of a range come, one behind the other.
-use Rattle.std.proofs.Common.{◌≡◌, ◌≢◌, ◌⊎◌, inl, inr, ℕ, ◌+◌, ◌-◌, ◌*◌, ◌/◌, ◌%◌, ◌<◌, ◌≤◌, ◌==◌, false, refl, sym, ap, ◌∙◌, subst, arith}
+use Rattle.std.proofs.Common.{◌≡◌, ◌≢◌, ◌⊎◌, inl, inr, ℕ, ◌+◌, ◌-◌, ◌*◌, ◌/◌, ◌%◌, ◌<◌, ◌≤◌, sym, ap, ◌∙◌, subst, arith, rules}
 use Rattle.std.specs.Prelude.{min, IsSome}
-use Rattle.std.proofs.lemmas.Bool.Decides.{nat_tests, eqb_tells, leb_tells}
+use Rattle.std.proofs.lemmas.Bool.Decides.{eqb_tells}
 use Rattle.driver_laws.specs.rules.Machine.{Blocks}
 use Rattle.driver_laws.specs.rules.Bytes.{Touches, ComesTo}
 use Rattle.driver_laws.specs.rules.Pieces.{EndsBlock, Reaches, bytes_among}
@@ -9,57 +9,23 @@ use Rattle.driver_laws.specs.rules.Pieces.{EndsBlock, Reaches, bytes_among}
 -- ---- the bytes in the first blocks of a piece
 
 pub some_among : (n skip size : ℕ) → 0 < n → bytes_among n skip size ≡ min (512 * n - skip) size
-some_among n skip size some = rw (other n some) refl
-  where
-    other : (n : ℕ) → 0 < n → n == 0 ≡ false
-    other n some = grind (arith, nat_tests)
+some_among n skip size some = search rules
 
 -- all of them, or fewer
 pub all_among : (n skip size : ℕ) → 0 < size → skip + size ≤ 512 * n → bytes_among n skip size ≡ size
-all_among n skip size some fits = some_among n skip size (omega (arith, some, fits)) ∙ least n skip size fits
-  where
-    least : (n skip size : ℕ) → skip + size ≤ 512 * n → min (512 * n - skip) size ≡ size
-    least n skip size fits = grind arith
+all_among n skip size some fits = search rules
 
 pub fewer_among : (n c skip size : ℕ) → 0 < n → n < c → 512 * c < skip + size + 512 → bytes_among n skip size ≡ 512 * n - skip
-fewer_among n c skip size some less ends = some_among n skip size some ∙ least n c skip size less ends
-  where
-    least : (n c skip size : ℕ) → n < c → 512 * c < skip + size + 512 → min (512 * n - skip) size ≡ 512 * n - skip
-    least n c skip size less ends = grind arith
+fewer_among n c skip size some less ends = search rules
 
 pub among_less : (n c skip size : ℕ) → 0 < size → skip < 512 → n < c → 512 * c < skip + size + 512 → bytes_among n skip size < size
-among_less n c skip size some in_block less ends = elim (eqb_tells n 0) [
-  | inl none ↦ subst (λ z. bytes_among z skip size < size) (sym none.1) some
-  | inr other ↦
-      let at : 0 < n = above n other.1 in
-      let is : bytes_among n skip size ≡ 512 * n - skip = fewer_among n c skip size at less ends in
-      omega (arith, is, at, less, ends, in_block)
-]
-  where
-    above : (n : ℕ) → n ≢ 0 → 0 < n
-    above n ne = grind (arith, ne)
+among_less n c skip size some in_block less ends = search rules
 
 pub among_fits : (n skip size : ℕ) → skip < 512 → 0 < n → skip + bytes_among n skip size ≤ 512 * n
-among_fits n skip size in_block some =
-    let is : bytes_among n skip size ≡ min (512 * n - skip) size = some_among n skip size some in
-    fits n skip size (bytes_among n skip size) in_block some is
-  where
-    fits : (n skip size x : ℕ) → skip < 512 → 0 < n → x ≡ min (512 * n - skip) size → skip + x ≤ 512 * n
-    fits n skip size x in_block some is = grind arith
+among_fits n skip size in_block some = search rules
 
 pub among_few : (n skip size : ℕ) → bytes_among n skip size ≤ size
-among_few n skip size = elim (eqb_tells n 0) [
-  | inl none ↦ subst (λ z. bytes_among z skip size ≤ size) (sym none.1) (omega arith)
-  | inr other ↦
-      let is : bytes_among n skip size ≡ min (512 * n - skip) size = some_among n skip size (above n other.1) in
-      least (512 * n - skip) size (bytes_among n skip size) is
-]
-  where
-    above : (n : ℕ) → n ≢ 0 → 0 < n
-    above n ne = grind (arith, ne)
-
-    least : (a b x : ℕ) → x ≡ min a b → x ≤ b
-    least a b x is = grind arith
+among_few n skip size = search rules
 
 -- ---- SO FAR all blocks that were touched can be used, and the last one is whole
 pub record SoFar (blocks : Blocks) (first at size done : ℕ) : Type 0 where
@@ -67,10 +33,7 @@ pub record SoFar (blocks : Blocks) (first at size done : ℕ) : Type 0 where
   pub whole : EndsBlock at size done
 
 pub starts_so : (blocks : Blocks) (first at size : ℕ) → SoFar blocks first at size 0
-starts_so blocks first at size = record { usable = λ k touched. absurd (never touched.some); whole = inl refl }
-  where
-    never : 0 < 0 → ⊥
-    never lt = omega (arith, lt)
+starts_so blocks first at size = search rules
 
 pub comes_whole : (blocks : Blocks) (first at size : ℕ) → SoFar blocks first at size size → ComesTo blocks first at size size
 comes_whole blocks first at size so = record { few = omega arith; usable = so.usable; ends = λ lt. absurd (omega (arith, lt)); whole = λ lt. absurd (omega (arith, lt)) }
@@ -86,12 +49,7 @@ pub record IsNext (at size d b c skip piece : ℕ) : Type 0 where
   pub whole : (d + piece ≡ size) ⊎ (skip + piece ≡ 512 * c)
 
 pub front_or_aligned : (blocks : Blocks) (first at size d b c skip piece : ℕ) → SoFar blocks first at size d → IsNext at size d b c skip piece → (d ≡ 0) ⊎ (skip ≡ 0)
-front_or_aligned blocks first at size d b c skip piece so next = by so.whole
-  where
-    by : EndsBlock at size d → (d ≡ 0) ⊎ (skip ≡ 0)
-    by (inl none) = inl none
-    by (inr (inl all)) = let some = next.some in let inside = next.inside in absurd (omega (arith, all, some, inside))
-    by (inr (inr aligned)) = let begins = next.begins in let less = next.skip_less in inr (omega (arith, aligned, begins, less))
+front_or_aligned blocks first at size d b c skip piece so next = search rules
 
 module _ (blocks : Blocks) (first at size d b c skip piece n : ℕ) (so : SoFar blocks first at size d) (next : IsNext at size d b c skip piece) (r : Reaches blocks (first + b) c n) (few : n ≤ c) where
   at_front : (d ≡ 0) ⊎ (skip ≡ 0)
@@ -104,40 +62,10 @@ module _ (blocks : Blocks) (first at size d b c skip piece n : ℕ) (so : SoFar 
 
   -- a block that more bytes touch was touched before, or is one of the piece
   pub touched_in : (e : ℕ) → d ≤ e → at + e ≤ 512 * (b + n) → (k : ℕ) → Touches at e k → Touches at d k ⊎ ((b ≤ k) × (k < b + n))
-  touched_in e le ends k touched = elim (leb_tells b k) [
-    | inl from ↦
-        let begins = touched.begins in
-        inr (from.1, omega (arith, begins, ends))
-    | inr below ↦ inl (before below.1 at_front)
-  ]
-    where
-      before : k < b → (d ≡ 0) ⊎ (skip ≡ 0) → Touches at d k
-      before below (inl none) =
-          let begins = next.begins in
-          let ends_at = touched.ends in
-          absurd (omega (arith, below, none, begins, ends_at))
-      before below (inr aligned) =
-          let begins = next.begins in
-          let ends_at = touched.ends in
-          record { some = omega (arith, below, aligned, begins, ends_at); begins = omega (arith, below, aligned, begins); ends = ends_at }
+  touched_in e le ends k touched = search rules
 
   pub touched_among : (k : ℕ) → Touches at (d + bytes_among n skip piece) k → Touches at d k ⊎ ((b ≤ k) × (k < b + n))
-  touched_among k touched = elim (eqb_tells n 0) [
-    | inl none ↦ inl (subst (λ z. Touches at z k) (nothing d) (subst (λ z. Touches at (d + bytes_among z skip piece) k) none.1 touched))
-    | inr other ↦ touched_in (d + bytes_among n skip piece) (omega arith) (room (above n other.1)) k touched
-  ]
-    where
-      nothing : (x : ℕ) → x + 0 ≡ x
-      nothing x = omega arith
-
-      above : (n : ℕ) → n ≢ 0 → 0 < n
-      above n ne = grind (arith, ne)
-
-      room : 0 < n → at + (d + bytes_among n skip piece) ≤ 512 * (b + n)
-      room some =
-          let fits : skip + bytes_among n skip piece ≤ 512 * n = among_fits n skip piece next.skip_less some in
-          let begins = next.begins in
-          omega (arith, fits, begins)
+  touched_among k touched = search rules
 
   more : (e : ℕ) → d ≤ e → at + e ≤ 512 * (b + n) → (k : ℕ) → Touches at e k → IsSome (blocks (first + k))
   more e le ends k touched = by (touched_in e le ends k touched)

@@ -2,17 +2,17 @@
 use Rattle.std.proofs.lemmas.Bool.{or_parts, false≢true, true≢false, eqb-true}
 use Rattle.std.proofs.lemmas.Option.{same_Some, none-some}
 use Rattle.trace_replay.specs.Script.{AreApart}
-use Rattle.std.proofs.Common.{◌≡◌, inl, inr, ℕ, ◌==◌, ◌&&◌, ◌||◌, Bool, true, false, not, List, [], ◌∷◌, refl, sym, ap, ◌∙◌, subst, arith}
+use Rattle.std.proofs.Common.{◌≡◌, inl, ℕ, ◌==◌, ◌&&◌, ◌||◌, Bool, true, false, List, [], ◌∷◌, refl, sym, ap, ◌∙◌, subst, arith, rules}
 use Rattle.std.specs.Prelude.{if◌then◌else◌, filter, find, Option, None, Some}
 use Rattle.std.specs.Int.{bit_at}
 use Rattle.std.specs.List.{list_all}
 use Rattle.hardware_table.specs.Drive.{is_positioning}
 use Rattle.hardware_table.specs.Adapter.{AdapterState}
-use Rattle.trace_replay.specs.Adapters.{AdapterSeen, adapter_of, drive_of, is_busy_for, attentive, drives_of_adapter, can_move}
-use Rattle.trace_replay.specs.Conversation.{Stage, Waiting, Steps, UnderWay, AtOnce, Moving, Saying, Ending, is_waiting, waits, goes_on, is_under_way}
-use Rattle.trace_replay.specs.Events.{Act, Done, Refusing, Arriving, Trying, Serving, NothingToDo, Wish, NoLine, DueLine, wish_in, wish_at_start, first_ready, is_no_line, can_attend, serving, act_of_attend, act_of_move, act_of_arrival, adapters_there}
-use Rattle.trace_replay.specs.Replay.{Replay, at_unit, next_wish, is_at_work, are_at_work, act_drained, attend_act, UnitSeen}
-use Rattle.driver_laws.specs.rules.Consistent.{is_moving, is_listed, Agrees, serves, AreDrives, IsAct, IsConsistent, AreUp, IsDue}
+use Rattle.trace_replay.specs.Adapters.{AdapterSeen, attentive, drives_of_adapter, can_move}
+use Rattle.trace_replay.specs.Conversation.{goes_on}
+use Rattle.trace_replay.specs.Events.{Act, NothingToDo, Wish, DueLine, wish_in, is_no_line, can_attend, serving, act_of_attend, act_of_move, act_of_arrival, adapters_there}
+use Rattle.trace_replay.specs.Replay.{Replay, next_wish, is_at_work, are_at_work, act_drained, attend_act, UnitSeen}
+use Rattle.driver_laws.specs.rules.Consistent.{is_listed, AreDrives, IsAct, IsConsistent, AreUp, IsDue}
 
 no_due : (b : Bool) (w : Wish) (u : ℕ) → is_no_line (if b then DueLine u else w) ≡ true → (b ≡ false) × (is_no_line w ≡ true)
 no_due true w u e = absurd (false≢true e)
@@ -23,36 +23,10 @@ pub silent : (s : Replay) → is_no_line (next_wish s) ≡ true → (goes_on (s.
 silent s e = no_due (goes_on (s.units s.event.speaker).stage) (wish_in s.adapters s.event.act) s.event.speaker e
 
 pub nobody : (s : Replay) → IsConsistent s → is_no_line (next_wish s) ≡ true → (unit : ℕ) → goes_on (s.units unit).stage ≡ false
-nobody s c e unit = at (goes_on (s.units unit).stage) refl
-  where
-    at : (b : Bool) → goes_on (s.units unit).stage ≡ b → b ≡ false
-    at false is = refl
-    at true is = absurd (true≢false (sym is ∙ ap (λ z. goes_on (s.units z).stage) (c.event.speaker unit is) ∙ (silent s e).0))
-
--- an adapter at its start
-started_by : (a : AdapterSeen) → a.state.busy ≡ false → is_no_line (wish_at_start a) ≡ true → a.ready ≡ []
-started_by a free e = none a.ready (subst (λ b. is_no_line (if b then NoLine else first_ready a.ready) ≡ true) free e)
-  where
-    none : (xs : List ℕ) → is_no_line (first_ready xs) ≡ true → xs ≡ []
-    none [] e = refl
-    none (x ∷ xs) e = absurd (false≢true e)
-
-served_over : (adapters : ℕ → AdapterSeen) (k : ℕ) (act : Act) → is_no_line (wish_in adapters act) ≡ true → serves act k ≡ true → (adapters k).state.busy ≡ false
-    → (adapters k).ready ≡ []
-served_over adapters k Done e is free = absurd (false≢true is)
-served_over adapters k (Refusing u i why) e is free = absurd (false≢true is)
-served_over adapters k (Arriving u) e is free = absurd (false≢true is)
-served_over adapters k (Trying a) e is free = absurd (false≢true is)
-served_over adapters k (Serving a true drives) e is free = absurd (false≢true e)
-served_over adapters k (Serving a false (drive ∷ drives)) e is free = absurd (false≢true e)
-served_over adapters k (Serving a false []) e is free = started_by (adapters k) free (subst (λ z. is_no_line (wish_at_start (adapters z)) ≡ true) (eqb-true a k is) e)
-served_over adapters k NothingToDo e is free = absurd (false≢true is)
+nobody s c e unit = search rules
 
 pub all_started : (s : Replay) → IsConsistent s → is_no_line (next_wish s) ≡ true → (k : ℕ) → (s.adapters k).state.busy ≡ false → (s.adapters k).ready ≡ []
-all_started s c e k free = elim (c.event.started k free) [
-  | inl none ↦ none
-  | inr is ↦ served_over s.adapters k s.event.act (silent s e).1 is free
-]
+all_started s c e k free = search rules
 
 -- ---- at work
 pub yes_second : (x y : Bool) → y ≡ true → x || y ≡ true
@@ -60,55 +34,7 @@ yes_second true y e = refl
 yes_second false y e = e
 
 pub one_at_work : (s : Replay) → IsConsistent s → is_no_line (next_wish s) ≡ true → (unit : ℕ) → is_at_work s unit ≡ true
-one_at_work s c e unit = by (s.units unit).stage refl
-  where
-    g : Agrees (s.units unit) (at_unit s unit) unit
-    g = c.units unit
-
-    quiet : (stage : Stage) → (s.units unit).stage ≡ stage → goes_on stage ≡ true → is_at_work s unit ≡ true
-    quiet stage is on = absurd (true≢false (sym on ∙ ap goes_on (sym is) ∙ nobody s c e unit))
-
-    busy_now : (b : Bool) → (at_unit s unit).state.busy ≡ b → waits (s.units unit).stage ≡ true → b ≡ true
-    busy_now true is w = refl
-    busy_now false is w = absurd (true≢false (sym (g.queued ∙ w) ∙ ap (is_listed unit) (all_started s c e (adapter_of unit) is)))
-
-    other : is_moving (s.units unit).stage ≡ false → (at_unit s unit).state.busy ≡ true → not ((at_unit s unit).state.drive == drive_of unit) ≡ true
-    other still busy = ap not (ap (λ z. z && ((at_unit s unit).state.drive == drive_of unit)) (sym busy) ∙ g.busy ∙ still)
-
-    by : (stage : Stage) → (s.units unit).stage ≡ stage → is_at_work s unit ≡ true
-    by Waiting is = ap (λ z. z || rest) (ap is_waiting is)
-      where
-        rest : Bool
-        rest =
-            is_positioning (s.units unit).drive.work || ((s.units unit).drive.attention
-            || (is_busy_for (at_unit s unit).state unit
-            || (waits (s.units unit).stage && ((at_unit s unit).state.busy && not ((at_unit s unit).state.drive == drive_of unit)))))
-    by (Steps (step ∷ left) segment) is = quiet (Steps (step ∷ left) segment) is refl
-    by (Steps [] segment) is =
-        yes_second (is_waiting (s.units unit).stage) _ (yes_second (is_positioning (s.units unit).drive.work) _ (yes_second (s.units unit).drive.attention _ (yes_second (is_busy_for (at_unit s unit).state unit) _ ready)))
-      where
-        now : (at_unit s unit).state.busy ≡ true
-        now = busy_now (at_unit s unit).state.busy refl (ap waits is)
-
-        ready : (waits (s.units unit).stage && ((at_unit s unit).state.busy && not ((at_unit s unit).state.drive == drive_of unit))) ≡ true
-        ready = ap (λ z. z && ((at_unit s unit).state.busy && not ((at_unit s unit).state.drive == drive_of unit))) (ap waits is)
-            ∙ ap (λ z. z && not ((at_unit s unit).state.drive == drive_of unit)) now ∙ other (ap is_moving is) now
-    by (UnderWay left segment) is = yes_second (is_waiting (s.units unit).stage) _ (one_of (is_positioning (s.units unit).drive.work) (s.units unit).drive.attention _ (sym g.positions ∙ ap is_under_way is))
-      where
-        one_of : (x y z : Bool) → x || y ≡ true → x || (y || z) ≡ true
-        one_of true y z e = refl
-        one_of false true z e = refl
-        one_of false false z e = absurd (false≢true e)
-    by (AtOnce segment) is = quiet (AtOnce segment) is refl
-    by (Moving segment left last) is =
-        yes_second (is_waiting (s.units unit).stage) _ (yes_second (is_positioning (s.units unit).drive.work) _ (yes_second (s.units unit).drive.attention _
-        (first_yes (is_busy_for (at_unit s unit).state unit) _ (g.busy ∙ ap is_moving is))))
-      where
-        first_yes : (x y : Bool) → x ≡ true → x || y ≡ true
-        first_yes true y e = refl
-        first_yes false y e = absurd (false≢true e)
-    by (Saying lines next) is = quiet (Saying lines next) is refl
-    by (Ending answer) is = quiet (Ending answer) is refl
+one_at_work s c e unit = search (rules, true≢false, nobody, all_started, yes_second, false≢true)
 
 pub all_pass : (p : ℕ → Bool) (xs : List ℕ) → ((x : ℕ) → p x ≡ true) → list_all p xs ≡ true
 all_pass p [] all = refl

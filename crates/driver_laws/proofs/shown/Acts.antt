@@ -1,10 +1,10 @@
 -- A sector that an act writes lies inside the pack of a unit that is set up.
-use Rattle.std.proofs.Common.{◌≡◌, ◌≢◌, ◌⊎◌, inl, inr, ℕ, ◌+◌, ◌*◌, ◌==◌, ◌<◌, ◌≤◌, Bool, true, false, List, drop, length, refl, sym, ap, subst, arith, ◌∙◌}
+use Rattle.std.proofs.Common.{◌≡◌, ◌≢◌, ℕ, ◌+◌, ◌*◌, ◌<◌, ◌≤◌, Bool, true, false, List, drop, length, refl, sym, ap, subst, arith, ◌∙◌, rules}
 use Rattle.std.specs.Prelude.{if◌then◌else◌}
 use Rattle.std.proofs.lemmas.Bool.{false≢true}
 use Rattle.std.proofs.lemmas.Bool.Decides.{eqb_tells}
 use Rattle.pack_geometry.specs.Geometry.{block_count}
-use Rattle.pack_geometry.specs.Pack.{Pack, with_written, written}
+use Rattle.pack_geometry.specs.Pack.{Pack, with_written}
 use Rattle.main_memory.specs.Bytes.{filled}
 use Rattle.main_memory.specs.Blocks.{Loan}
 use Rattle.main_memory.proofs.ByteLaws.{length-filled}
@@ -24,7 +24,6 @@ use Rattle.driver_laws.proofs.shown.Starting.{set_up}
 use Rattle.driver_laws.specs.shown.RunsActs.{BeyondStays, OthersStay}
 use Rattle.driver_laws.proofs.shown.Images.{block_beyond}
 use Rattle.main_memory.proofs.BlockLaws.{size_few}
-use Rattle.driver_laws.proofs.shown.QuietEachDeed.{other_by}
 
 -- HOW MANY BYTES IT GETS
 window_inside : (skip count blocks moved size : ℕ) → skip + count ≤ blocks → moved < count → blocks ≡ size → skip + moved < size
@@ -66,14 +65,7 @@ is_inside w line u id block t sound allowed given = record {
 -- BEHIND A PACK nothing is written.
 pub written_beyond : (held : ℕ → Pack) (u block : ℕ) (bytes : List ℕ) (unit count : ℕ) → length bytes ≡ 512 → (unit ≡ u → block < count)
     → drop (512 * count) (with_written held u block bytes unit).image ≡ drop (512 * count) (held unit).image
-written_beyond held u block bytes unit count long below = by_unit (eqb_tells unit u)
-  where
-    by_unit : ((unit == u ≡ true) × (unit ≡ u)) ⊎ ((unit == u ≡ false) × (unit ≢ u))
-        → drop (512 * count) (with_written held u block bytes unit).image ≡ drop (512 * count) (held unit).image
-    by_unit (inl here) =
-        ap (λ (t : Bool). drop (512 * count) (if t then written (held u) block bytes else held unit).image) here.0
-        ∙ block_beyond (held u).image bytes block count long (below here.1) ∙ ap (λ (k : ℕ). drop (512 * count) (held k).image) (sym here.1)
-    by_unit (inr other) = ap (λ (t : Bool). drop (512 * count) (if t then written (held u) block bytes else held unit).image) other.0
+written_beyond held u block bytes unit count long below = search (rules, eqb_tells, block_beyond)
 
 pub beyond_by : (b : Bool) (held : ℕ → Pack) (u block : ℕ) (bytes : List ℕ) (unit count : ℕ)
     → (b ≡ true → (length bytes ≡ 512) × (unit ≡ u → block < count))
@@ -102,9 +94,7 @@ is_other w u id unit sound hand off here =
     false≢true (sym off ∙ ap (λ (k : ℕ). (unit_at w k).declared) here ∙ (set_up w u sound hand.unit hand.some).declared)
 
 deed_others : (line u id : ℕ) (d : Deed) (w : World) (held : ℕ → Pack) (unit : ℕ) → unit ≢ u → packs_after w held (Of line u id d) unit ≡ held unit
-deed_others line u id (deed.Sector block t) w held unit other =
-    other_by (was_written (unit_at w u).drive t.verdict) held u block (filled 512 t.bytes) unit other
-deed_others line u id d w held unit other = refl
+deed_others line u id d w held unit other = search rules
 
 pub others_stay : OthersStay
 others_stay w (Of line u id d) held unit sound allowed off = deed_others line u id d w held unit (is_other w u id unit sound allowed.0 off)

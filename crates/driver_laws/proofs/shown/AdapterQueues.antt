@@ -1,6 +1,5 @@
 -- The units that wait for an adapter, as the replay and the machine keep them.
-use Rattle.std.proofs.Common.{◌≡◌, ◌≢◌, inl, inr, ℕ, List, [], ◌∷◌, ◌++◌, ◌==◌, Bool, true, false, refl, sym, ap, arith, ◌∙◌}
-use Rattle.std.proofs.lemmas.Bool.Decides.{eqb_tells}
+use Rattle.std.proofs.Common.{◌≡◌, ◌≢◌, inl, inr, ℕ, List, [], ◌∷◌, ◌++◌, ◌==◌, Bool, true, false, refl, sym, ap, arith, ◌∙◌, rules}
 use Rattle.std.specs.List.{list_any}
 use Rattle.trace_replay.specs.Conversation.{Stage, waits}
 use Rattle.trace_replay.specs.Adapters as told
@@ -10,11 +9,8 @@ use Rattle.driver_machine.specs.Acts.{kept_by, without}
 use Rattle.driver_machine.specs.Sound.{Among}
 use Rattle.driver_laws.specs.shown.Shows.{is_coming, with_coming}
 
-either : {P : Type 0} (m n : ℕ) → ((m == n) ≡ true → m ≡ n → P) → ((m == n) ≡ false → m ≢ n → P) → P
-either m n same other = elim (eqb_tells m n) [
-  | inl is ↦ same is.0 is.1
-  | inr is ↦ other is.0 is.1
-]
+pub either : {P : Type 0} (m n : ℕ) → ((m == n) ≡ true → m ≡ n → P) → ((m == n) ≡ false → m ≢ n → P) → P
+either m n same other = search rules
 
 not_in : (u : ℕ) (queue : List ℕ) → (Among u queue → ⊥) → list_any (λ other. other == u) queue ≡ false
 not_in u [] none = refl
@@ -62,9 +58,7 @@ without_coming true u queue = without_last u queue ∙ without_same u queue
 without_coming false u queue = without_same u queue
 
 not_without_by : (u x : ℕ) (same : Bool) (rest : List ℕ) → same ≡ (x == u) → (Among u rest → ⊥) → Among u (kept_by same x rest) → ⊥
-not_without_by u x true rest is none among = none among
-not_without_by u x false rest is none (inl here) = grind (arith, is, here)
-not_without_by u x false rest is none (inr later) = none later
+not_without_by u x same rest is none among = search rules
 
 pub not_without : (u : ℕ) (queue : List ℕ) → Among u (without u queue) → ⊥
 not_without u [] among = among

@@ -1,6 +1,5 @@
 -- A POSITIONING ENDS: its line may be said, and what it leaves is shown.
-use Rattle.std.proofs.Common.{◌≡◌, ℕ, [], Bool, true, false, refl, if◌then◌else◌, sym, ap, subst, arith}
-use Rattle.std.specs.Prelude.{bit_or, ◌^◌}
+use Rattle.std.proofs.Common.{◌≡◌, ℕ, [], Bool, true, false, refl, if◌then◌else◌, sym, ap, subst, arith, rules}
 use Rattle.hardware_table.specs.declared.Work.TheVariants as work
 use Rattle.hardware_table.specs.declared.Work.{Work}
 use Rattle.hardware_table.specs.Adapter.{AdapterState, attention_raised}
@@ -31,31 +30,14 @@ use Rattle.driver_laws.proofs.shown.DeedFacts.{no, said_by}
 arrive_core : (h : Held) (v : UnitView) (a c : AdapterState) (seen : UnitSeen) (b : AdapterState) (taken : ℕ)
     → Core h v a seen → v.phase ≡ Positioning taken
     → Core h (with_drive arrived v) c (seen_told seen b moment.Arrive [])
-arrive_core h v a c seen b taken is phase = record {
-  drive = rw is.drive refl;
-  table = is.table;
-  stage = rw (is.stage, phase) refl;
-  progress = rw phase (rw phase at is.progress);
-}
+arrive_core h v a c seen b taken is phase = search rules
 
 pub arrive_talk : (h : Held) (v : UnitView) (a : AdapterState) (seen : UnitSeen) (taken : ℕ)
     → Core h v a seen → v.phase ≡ Positioning taken → told.is_under_way seen.stage ≡ true
 arrive_talk h v a seen taken is phase = rw (is.stage, phase) refl
 
 arrive_adapter : (drive : ℕ) (a seen : AdapterState) → IsAdapterSeen a seen → IsAdapterSeen (attention_raised drive a) (attention_raised drive seen)
-arrive_adapter drive a seen is = record {
-  busy = is.busy;
-  completion = is.completion;
-  drive = is.drive;
-  block = is.block;
-  count = is.count;
-  write = is.write;
-  moved = is.moved;
-  verdict = is.verdict;
-  late = is.late;
-  attentions = ap (λ n. bit_or n (2 ^ drive)) is.attentions;
-  counted = is.counted;
-}
+arrive_adapter drive a seen is = search rules
 
 -- A POSITIONING DRIVE is that of a unit that positions.
 pub record IsPositioning (v : UnitView) : Type 0 where

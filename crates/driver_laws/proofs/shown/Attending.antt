@@ -1,22 +1,19 @@
 -- An attend: the data interrupt, each attention in ascending order, and the adapter's start.
-use Rattle.std.proofs.Common.{◌≡◌, ◌≢◌, ◌⊎◌, inl, inr, ℕ, ◌+◌, ◌*◌, ◌<◌, Bool, true, false, List, [], ◌∷◌, length, refl, sym, ap, subst, arith, ◌∙◌}
+use Rattle.std.proofs.Common.{◌≡◌, ◌≢◌, inl, inr, ℕ, ◌+◌, ◌*◌, ◌<◌, Bool, true, false, List, [], ◌∷◌, length, refl, sym, ap, subst, arith, ◌∙◌, rules}
 use Rattle.std.specs.Prelude.{if◌then◌else◌}
 use Rattle.std.specs.Int.{bit_at}
 use Rattle.trace_replay.specs.Moments as moment
 use Rattle.trace_replay.specs.Events.{Interrupt, Serving}
 use Rattle.trace_replay.specs.Replay.{Replay}
 use Rattle.driver_machine.specs.declared.Phase.{Phase}
-use Rattle.driver_machine.specs.declared.Phase.TheVariants.{Waiting, Transferring, Due}
-use Rattle.driver_machine.specs.declared.Task.{Task}
-use Rattle.driver_machine.specs.declared.Task.TheVariants.{Clear}
+use Rattle.driver_machine.specs.declared.Phase.TheVariants.{Transferring}
 use Rattle.driver_machine.specs.World.{World, UnitView, AdapterView, Held, adapter_of, unit_on, unit_of, unit_at, adapter_at, held_in, slot_in_hand}
 use Rattle.driver_machine.specs.Acts as deed
 use Rattle.driver_machine.specs.Acts.{Deed, effect, scene_of, after, after_all}
 use Rattle.driver_machine.proofs.Measure.{is_resting}
 use Rattle.driver_machine.specs.Events.{and_then, when_by, each, begun, data_interrupt, attention, steps_taken, drives, attended, adapter_start}
 use Rattle.driver_machine.specs.Guards.{IsSetUp}
-use Rattle.driver_machine.specs.Sound.{Sound, Among, Once, IsPhase, IsTask, is_waiting}
-use Rattle.driver_machine.proofs.DueFacts.{false_true}
+use Rattle.driver_machine.specs.Sound.{Sound, Among, Once, IsPhase, is_waiting}
 use Rattle.driver_machine.specs.Runs.{Run}
 use Rattle.driver_laws.proofs.invariant.Leads.{run_split}
 use Rattle.driver_laws.proofs.invariant.Deeds.{deed_at, own_adapter}
@@ -63,10 +60,7 @@ apart a j k other same = other (numbers a j k same)
 
 -- in a sound world they are the bits of the adapter
 one_bit : (b c : Bool) (n m : ℕ) → n ≡ (if b then 1 else 0) → m ≡ (if c then 1 else 0) → n ≡ m → b ≡ c
-one_bit true true n m e f same = refl
-one_bit true false n m e f same = absurd (grind (arith, e, f, same))
-one_bit false true n m e f same = absurd (grind (arith, e, f, same))
-one_bit false false n m e f same = refl
+one_bit b c n m e f same = search rules
 
 same_bits : (w x : World) (a k : ℕ) → Sound w → Sound x → a < 4 → k < 8
     → (adapter_at x a).state.attentions ≡ (adapter_at w a).state.attentions → SameRaised w x a k
@@ -134,17 +128,10 @@ interrupt_told line a drains true ks w s four is rests run =
         }) run)
         (λ at. interrupted line drains a (unit_of w a) ks rests.sound four serves.its at)
 
--- AN ATTENTION. It is up where a step is under way.
-task_down : (task : Task) (v : UnitView) (h : Held) → IsTask v h task → v.drive.attention ≡ false
-task_down (Clear moved last) v h is = is.1.attention
-task_down other v h is = is.1.attention
-
 -- the phase of a unit whose attention is up
 up_phase : (u : ℕ) (phase : Phase) (v : UnitView) (a : AdapterView) (h : Held) → IsPhase u v a h phase → v.drive.attention ≡ true
     → (is_waiting phase ≡ false) × (is_resting phase ≡ true)
-up_phase u Waiting v a h is up = absurd (false_true (sym is.0.attention ∙ up))
-up_phase u (Due task) v a h is up = absurd (false_true (sym (task_down task v h is) ∙ up))
-up_phase u other v a h is up = (refl, refl)
+up_phase u phase v a h is up = search rules
 
 -- the others that are up stay so
 attended_one : (line : ℕ) (drains : Bool) (a k : ℕ) (ks : List ℕ) (w : World) {x : World} {s : Replay} {raised : ℕ} → (Among k ks → ⊥)
@@ -215,10 +202,7 @@ each_told line a drains (k ∷ ks) w s four eight once rests run =
     (run_split w (attention line a k w) _ run).1)
 
 pub are_drives : (k : ℕ) → Among k drives → k < 8
-are_drives k among = omega (arith, one_of k among)
-  where
-    one_of : (k : ℕ) → Among k drives → (k ≡ 0) ⊎ (k ≡ 1) ⊎ (k ≡ 2) ⊎ (k ≡ 3) ⊎ (k ≡ 4) ⊎ (k ≡ 5) ⊎ (k ≡ 6) ⊎ (k ≡ 7) ⊎ ⊥
-    one_of k among = among
+are_drives k among = search rules
 
 drives_once : Once drives
 drives_once =

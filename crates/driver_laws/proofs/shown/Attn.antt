@@ -1,6 +1,6 @@
 -- AN ATTENTION is taken: its line may be said, and what it leaves is shown.
-use Rattle.std.proofs.Common.{◌≡◌, ℕ, [], ◌-◌, true, false, refl, ap, arith, ◌∙◌}
-use Rattle.std.specs.Prelude.{if◌then◌else◌, bit_and, ◌^◌}
+use Rattle.std.proofs.Common.{◌≡◌, ℕ, [], ◌-◌, true, false, refl, ap, arith, ◌∙◌, rules}
+use Rattle.std.specs.Prelude.{if◌then◌else◌}
 use Rattle.std.specs.Int.{bit_at}
 use Rattle.hardware_table.specs.Adapter.{AdapterState, attention_lowered}
 use Rattle.hardware_table.specs.Events.{attention_cleared}
@@ -28,27 +28,10 @@ use Rattle.driver_laws.proofs.invariant.Frame.{unit_on-own}
 attn_core : (h : Held) (v : UnitView) (a c : AdapterState) (seen : UnitSeen) (b : AdapterState) (taken : ℕ)
     → Core h v a seen → v.phase ≡ Positioning taken
     → Core h (going_to (Due (Steps taken)) attention_cleared v) c (seen_told seen b moment.Attn [])
-attn_core h v a c seen b taken is phase = record {
-  drive = rw is.drive refl;
-  table = is.table;
-  stage = rw (is.stage, phase) refl;
-  progress = rw phase at is.progress;
-}
+attn_core h v a c seen b taken is phase = search rules
 
 attn_adapter : (drive : ℕ) (a seen : AdapterState) → IsAdapterSeen a seen → IsAdapterSeen (attention_lowered drive a) (attention_lowered drive seen)
-attn_adapter drive a seen is = record {
-  busy = is.busy;
-  completion = is.completion;
-  drive = is.drive;
-  block = is.block;
-  count = is.count;
-  write = is.write;
-  moved = is.moved;
-  verdict = is.verdict;
-  late = is.late;
-  attentions = ap (λ n. bit_and n (255 - 2 ^ drive)) is.attentions;
-  counted = is.counted;
-}
+attn_adapter drive a seen is = search rules
 
 pub attn_line : (line u id : ℕ) (w : World) (s : Replay) (taken : ℕ) → Sound w → Shows u w s → InHand w u id → At u id w s
     → (unit_at w u).phase ≡ phases.Positioning taken → (unit_at w u).drive.attention ≡ true → IsSaid line u id w s (deed.Attn taken) moment.Attn

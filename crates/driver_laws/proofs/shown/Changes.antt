@@ -1,70 +1,26 @@
 -- Conditions that change, noise that is armed, refusals, and answers that are taken.
-use Rattle.std.proofs.Common.{◌≡◌, ◌≢◌, inl, inr, ℕ, ◌==◌, ◌<◌, Bool, true, false, List, [], ◌∷◌, length, Option, None, refl, sym, ap, subst, arith, ◌∙◌, get_or-set_other}
+use Rattle.std.proofs.Common.{◌≡◌, ◌≢◌, ℕ, ◌==◌, ◌<◌, Bool, length, refl, sym, ap, subst, ◌∙◌, get_or-set_other, rules}
 use Rattle.std.proofs.lemmas.List.{get_or-set_same}
-use Rattle.std.proofs.lemmas.Bool.Decides.{eqb_tells}
 use Rattle.std.specs.Prelude.{if◌then◌else◌}
-use Rattle.pack_geometry.specs.declared.DriveKind.{DriveKind}
 use Rattle.hardware_table.specs.declared.FaultKind.{FaultKind}
 use Rattle.hardware_table.specs.Drive.{DriveState}
-use Rattle.hardware_table.specs.Noise.{LiveNoise, with_noise}
+use Rattle.hardware_table.specs.Noise.{LiveNoise}
 use Rattle.hardware_table.specs.Events.{turned, fault_armed, online_set, locked_set}
 use Rattle.hardware_table.specs.Adapter.{AdapterState}
-use Rattle.disksort.specs.declared.Waiter.{Waiter}
-use Rattle.trace_replay.specs.requests.ServiceOrder.{Waiting}
-use Rattle.trace_replay.specs.requests.Requests.{Request}
-use Rattle.trace_replay.specs.Service.{head_of, first_waiting}
 use Rattle.trace_replay.specs.Script as script
 use Rattle.trace_replay.specs.Adapters.{AdapterSeen}
-use Rattle.trace_replay.specs.Conversation as told
-use Rattle.trace_replay.specs.Replay.{UnitSeen, Replay, hand_of, replay_played}
-use Rattle.driver_machine.specs.declared.Phase.{Phase}
-use Rattle.driver_machine.specs.declared.Phase.TheVariants as phases
-use Rattle.driver_machine.specs.World.{World, UnitView, Held, adapter_of, no_unit, unit_at, adapter_at, held_in, slot_in_hand}
+use Rattle.trace_replay.specs.Replay.{UnitSeen, Replay, replay_played}
+use Rattle.driver_machine.specs.World.{World, UnitView, Held, adapter_of, no_unit, unit_at, adapter_at, held_in}
 use Rattle.driver_machine.specs.Acts.{with_drive, with_unit_drive, changed}
 use Rattle.driver_machine.specs.Guards.{IsSetUp}
 use Rattle.driver_machine.specs.Sound.{Sound, WorkOf}
-use Rattle.driver_laws.specs.shown.Stages.{stage_by, IsProgress}
-use Rattle.driver_laws.specs.shown.Shows.{Match, IsUnitSeen, IsAdapterSeen, Shows, is_coming, with_coming}
+use Rattle.driver_laws.specs.shown.Shows.{IsUnitSeen, IsAdapterSeen, Shows, is_coming, with_coming}
 use Rattle.trace_replay.proofs.Kept.{online_kind}
-
--- no request is in hand where none waits
-empty_head : (held : ℕ → Held) (kind : DriveKind) (queue : List Waiter) (waiting : List (Waiting Request)) → queue ≡ [] → Match held kind queue waiting
-    → first_waiting waiting ≡ None
-empty_head held kind [] [] none match = refl
-empty_head held kind [] (y ∷ ys) none match = absurd match
-empty_head held kind (x ∷ xs) waiting none match = absurd (grind (arith, none))
-
--- at work a unit's stage does not depend on its drive
-work_stage : (phase : Phase) (v : UnitView) (d : DriveState) (a : AdapterState) (hand : told.Hand) (head : Option Request)
-    → WorkOf phase v.queue → (v.queue ≡ [] → head ≡ None) → stage_by phase v a hand head ≡ stage_by phase (record v { drive = d }) a hand head
-work_stage phases.Waiting v d a hand head at none = rw (none at) refl
-work_stage (phases.Due task) v d a hand head at none = absurd at
-work_stage other v d a hand head at none = refl
-
-work_progress : (phase : Phase) (v : UnitView) (d : DriveState) (a : AdapterState) (h : Held) (p : told.Progress) → WorkOf phase v.queue
-    → IsProgress phase v a h p → IsProgress phase (record v { drive = d }) a h p
-work_progress (phases.Due task) v d a h p at is = absurd at
-work_progress other v d a h p at is = is
+use Rattle.driver_laws.proofs.shown.AdapterQueues.{either}
 
 drive_changed : (held : ℕ → Held) (v : UnitView) (a : AdapterState) (seen : UnitSeen) (d : DriveState) → d.kind ≡ v.drive.kind → WorkOf v.phase v.queue
     → IsUnitSeen held v a seen → IsUnitSeen held (record v { drive = d }) a (record seen { drive = d })
-drive_changed held v a seen d kind at is = record {
-  drive = refl;
-  table = is.table;
-  queue = subst (λ k. Match held k v.queue seen.service.waiting) (sym kind) is.queue;
-  stage =
-      is.stage
-      ∙ work_stage v.phase v d a (hand_of seen) (head_of seen.service) at (λ none. empty_head held v.drive.kind v.queue seen.service.waiting none is.queue)
-      ∙ ap (λ k. stage_by v.phase (record v { drive = d }) a (record (hand_of seen) { kind = k }) (head_of seen.service))
-      (ap (λ (e : DriveState). e.kind) is.drive ∙ sym kind);
-  progress = work_progress v.phase v d a (held (slot_in_hand v)) seen.progress at is.progress;
-}
-
-either : {P : Type 0} (m n : ℕ) → ((m == n) ≡ true → m ≡ n → P) → ((m == n) ≡ false → m ≢ n → P) → P
-either m n same other = elim (eqb_tells m n) [
-  | inl is ↦ same is.0 is.1
-  | inr is ↦ other is.0 is.1
-]
+drive_changed held v a seen d kind at is = search rules
 
 -- THE DRIVE of a unit that is at work changes.
 module _ (u x : ℕ) (f : DriveState → DriveState) (w : World) (s r : Replay) (kind : (d : DriveState) → (f d).kind ≡ d.kind) (small : x < 32)
@@ -84,9 +40,7 @@ module _ (u x : ℕ) (f : DriveState → DriveState) (w : World) (s r : Replay) 
       (λ e other. ap (λ (v : UnitView). v.phase) (other_unit y other))
 
   stage_same : (y : ℕ) → (r.units y).stage ≡ (s.units y).stage
-  stage_same y =
-      either y x (λ e same. subst (λ z. (r.units z).stage ≡ (s.units z).stage) (sym same) (ap (λ (n : UnitSeen). n.stage) own))
-      (λ e other. ap (λ (n : UnitSeen). n.stage) (others y other))
+  stage_same y = search rules
 
   own_seen : IsSetUp w x → IsUnitSeen (held_in w) (unit_at (with_unit_drive x f w) x) (adapter_at w (adapter_of x)).state (r.units x)
   own_seen set =
@@ -162,12 +116,4 @@ locked_shows u x on w s sound set work shows =
 -- a unit as it is, in a world with the same units, adapters and slots
 pub noise_shows : (u : ℕ) (noise : LiveNoise) (w : World) (s : Replay) → Shows u w s
     → Shows u (changed (script.Noise noise) w) (replay_played s (script.Noise noise))
-noise_shows u noise w s shows = record {
-  units = λ x set. shows.units x (record { unit = set.unit; declared = set.declared });
-  adapters = shows.adapters;
-  own_ready = shows.own_ready;
-  other_ready = shows.other_ready;
-  noise = ap (with_noise noise) shows.noise;
-  frames = shows.frames;
-  outstanding = shows.outstanding;
-}
+noise_shows u noise w s shows = search rules

@@ -1,11 +1,10 @@
 -- THE BLOCKS BEHIND A REPLACEMENT come next: no line is told, and the same replay shows the world behind it.
-use Rattle.std.proofs.Common.{◌≡◌, ℕ, ◌≤◌, [], ◌+◌, Some, ◌==◌, false, refl, sym, ap, subst, ◌∙◌}
+use Rattle.std.proofs.Common.{◌≡◌, ℕ, ◌≤◌, ◌+◌, Some, ◌==◌, false, refl, subst, rules}
 use Rattle.hardware_table.specs.declared.Moved.TheVariants.{Clean}
 use Rattle.hardware_table.specs.declared.Moved.TheVariants as verdict
 use Rattle.hardware_table.specs.Adapter.{AdapterState}
 use Rattle.transfer_engine.specs.State.{moved_on}
-use Rattle.trace_replay.specs.Replay.{UnitSeen, Replay, hand_of}
-use Rattle.trace_replay.specs.Conversation as told
+use Rattle.trace_replay.specs.Replay.{UnitSeen, Replay}
 use Rattle.driver_machine.specs.declared.Task.TheVariants.{Judge, Command}
 use Rattle.driver_machine.specs.declared.Phase.TheVariants.{Due}
 use Rattle.driver_machine.specs.World.{World, UnitView, AdapterView, Held, slot_in_hand, transfer_of, adapter_of, unit_at, adapter_at, held_in}
@@ -15,30 +14,15 @@ use Rattle.driver_machine.specs.Acts.{with_transfer, Of, after}
 use Rattle.driver_machine.specs.Acts as deed
 use Rattle.driver_machine.specs.Sound.{Sound, IsPhase}
 use Rattle.driver_machine.specs.DueFacts.{IsJudged}
-use Rattle.driver_laws.specs.shown.Stages.{progress_judged, front_of}
 use Rattle.driver_laws.specs.shown.Shows.{Shows}
 use Rattle.driver_laws.proofs.shown.Core.{Core, IsHead}
 use Rattle.driver_laws.proofs.shown.Facts.{At}
-use Rattle.driver_laws.proofs.shown.DeedFacts.{judged_progress}
-use Rattle.driver_laws.proofs.shown.Silent.{plus_none, not_first, silent_shows, due_ready}
+use Rattle.driver_laws.proofs.shown.Silent.{silent_shows, due_ready}
 
 continue_core : (h : Held) (v : UnitView) (a : AdapterState) (seen : UnitSeen) (moved : ℕ)
     → Core h v a seen → IsHead h v.drive.kind seen → IsJudged v moved Clean → done_with moved v == h.loan.count ≡ false → 1 ≤ moved
     → Core h (with_transfer (Some (moved_on ((transfer_of v).done + moved) (transfer_of v))) Command v) a seen
-continue_core h v a seen moved is head due more some =
-    let progress : seen.progress ≡ progress_judged Clean moved (transfer_of v) h = judged_progress Clean h v a seen moved is due in
-    let done : seen.progress.done ≡ (transfer_of v).done + moved = ap (λ (p : told.Progress). p.done) progress in
-    let going : seen.stage ≡ told.continued (hand_of seen) = is.stage ∙ rw (due.phase, due.centred) refl in
-    record {
-      drive = is.drive;
-      table = is.table;
-      stage = going ∙ rw (done, head.head, sym head.is.count, more) refl;
-      progress =
-          progress
-          ∙ ap (λ n. record { done = (transfer_of v).done + moved; failures = n; bytes = front_of h ((transfer_of v).done + moved); struck = [] })
-          (not_first moved (transfer_of v).failures some)
-          ∙ ap (λ n. record { done = n; failures = 0; bytes = front_of h n; struck = [] }) (plus_none ((transfer_of v).done + moved));
-    }
+continue_core h v a seen moved is head due more some = search rules
 
 pub continue_shows : (line u id moved : ℕ) (w : World) (s : Replay) → Sound w → Shows u w s → InHand w u id → At u id w s
     → IsJudged (unit_at w u) moved verdict.Clean → done_with moved (unit_at w u) == (held_in w (slot_in_hand (unit_at w u))).loan.count ≡ false

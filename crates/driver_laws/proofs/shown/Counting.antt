@@ -1,6 +1,6 @@
 -- OVER ANY PACKS a drain comes to its end. Whatever an event's sector was found to be, some packs hold it so; over these the replay goes on, and
 -- how many event lines are left does not depend on what packs hold.
-use Rattle.std.proofs.Common.{◌≡◌, ℕ, ◌+◌, ◌≤◌, ◌<◌, Bool, true, List, [], ◌∷◌, length, Some, refl, sym, subst, arith, ◌∙◌}
+use Rattle.std.proofs.Common.{◌≡◌, ℕ, ◌+◌, ◌≤◌, ◌<◌, Bool, true, List, [], ◌∷◌, length, Some, refl, sym, subst, arith, ◌∙◌, rules}
 use Rattle.pack_geometry.specs.Pack.{Pack}
 use Rattle.trace_replay.specs.Moments.{Moment, Deed, Played, Told, Idle, played}
 use Rattle.trace_replay.specs.Script as script
@@ -71,15 +71,7 @@ pub record Drains (line left : ℕ) (w : World) : Type 0 where
 
 -- ---- over other packs
 over_facts : (held : ℕ → Pack) (left : ℕ) (w : World) (s : Replay) → Facts left w s → Facts left w (over held s)
-over_facts held left w s facts = record {
-  lines = facts.lines;
-  there = facts.there;
-  consistent = over_consistent held s facts.consistent;
-  calm = over_calm held s facts.calm;
-  fit = facts.fit;
-  at = over_at s.there held s facts.at;
-  few = facts.few;
-}
+over_facts held left w s facts = search (rules, over_consistent, over_calm, over_at)
 
 -- ---- lines of a trace play nothing
 pub lines_ask : (ms : List Moment) → played ms ≡ [] → AskSome ms
@@ -213,23 +205,10 @@ later_fewer line left input tried w is may drains =
 
 -- ---- AN ANSWER IS TAKEN
 taken_facts : (left : ℕ) (w : World) (s : Replay) → Facts left w s → Facts left (after w Taken) s
-taken_facts left w s facts = record {
-  lines = facts.lines;
-  there = facts.there;
-  consistent = facts.consistent;
-  calm = facts.calm;
-  fit = facts.fit;
-  at = facts.at;
-  few = facts.few;
-}
+taken_facts left w s facts = search rules
 
 pub waits_taken : (left u : ℕ) (w : World) → IsSetUp w u → 0 < length w.answers → Waits left w → Waits left (after w Taken)
-waits_taken left u w unit some waits = record {
-  held = waits.held;
-  replay = waits.replay;
-  opened = takings_open u waits.held w waits.replay unit some waits.opened;
-  facts = taken_facts left w waits.replay waits.facts;
-}
+waits_taken left u w unit some waits = search (rules, takings_open, taken_facts)
 
 pub drains_taken : (line left u : ℕ) (w : World) → IsSetUp w u → 0 < length w.answers → Drains line left w → Drains line left (after w Taken)
 drains_taken line left u w unit some drains =

@@ -1,5 +1,5 @@
 -- DCLR: its line may be said, and what it leaves is shown.
-use Rattle.std.proofs.Common.{◌≡◌, ℕ, [], Some, false, refl, arith}
+use Rattle.std.proofs.Common.{◌≡◌, ℕ, [], Some, false, refl, arith, rules}
 use Rattle.drive_registers.specs.declared.Function.TheVariants as function
 use Rattle.hardware_table.specs.declared.Moved.{Moved}
 use Rattle.hardware_table.specs.Adapter.{AdapterState}
@@ -25,12 +25,7 @@ use Rattle.driver_laws.proofs.shown.DeedFacts.{no, said_by}
 clear_core : (h : Held) (v : UnitView) (a : AdapterState) (seen : UnitSeen) (b : AdapterState) (moved : ℕ) (last : Moved)
     → Core h v a seen → v.phase ≡ Due (Clear moved last)
     → Core h (going_to (Due (Judge moved last)) (performed function.Clear) v) a (seen_told seen b moment.Clear [])
-clear_core h v a seen b moved last is phase = record {
-  drive = rw is.drive refl;
-  table = is.table;
-  stage = rw is.stage (rw phase (rw is.drive refl));
-  progress = rw phase at is.progress;
-}
+clear_core h v a seen b moved last is phase = search rules
 
 clear_talk : (h : Held) (v : UnitView) (a : AdapterState) (seen : UnitSeen) (moved : ℕ) (last : Moved)
     → Core h v a seen → v.phase ≡ Due (Clear moved last) → told.due seen.drive (hand_of seen) seen.stage ≡ Some moment.Clear

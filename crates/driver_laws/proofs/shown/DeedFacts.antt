@@ -1,6 +1,6 @@
 -- What the lines of several deeds share.
-use Rattle.std.proofs.Common.{◌≡◌, inl, inr, ℕ, List, ◌+◌, Some, Bool, true, false, refl, sym, ap, subst, arith, ◌∙◌}
-use Rattle.std.specs.Prelude.{is_some, slice_set}
+use Rattle.std.proofs.Common.{◌≡◌, inl, inr, ℕ, List, ◌+◌, Some, Bool, true, false, refl, subst, arith, rules}
+use Rattle.std.specs.Prelude.{slice_set}
 use Rattle.pack_geometry.specs.declared.DriveKind.{DriveKind}
 use Rattle.hardware_table.specs.declared.Moved.{Moved}
 use Rattle.hardware_table.specs.Adapter.{AdapterState}
@@ -57,16 +57,7 @@ command_begun u v a h is (inr phase) = let task : IsPhase u v a h phases.Queued 
 -- the same request, whatever its read has got
 kept_block_by : (write : Bool) (kind : DriveKind) (q : Request) (h : Held) (blocks : List (List ℕ)) → h.write ≡ write → (write ≡ true → blocks ≡ h.blocks)
     → IsHeldFor kind q h → IsHeldFor kind q (record h { blocks = blocks })
-kept_block_by write kind q h blocks writes same is = record {
-  id = is.id;
-  unit = is.unit;
-  first = is.first;
-  count = is.count;
-  last = is.last;
-  offset = is.offset;
-  write = is.write;
-  content = λ bytes written. same (sym writes ∙ is.write ∙ ap is_some written) ∙ is.content bytes written;
-}
+kept_block_by write kind q h blocks writes same is = search rules
 
 pub kept_block : (kind : DriveKind) (q : Request) (h : Held) (k : ℕ) (bytes : List ℕ) → h.write ≡ false
     → IsHeldFor kind q h → IsHeldFor kind q (with_block_in k bytes h)

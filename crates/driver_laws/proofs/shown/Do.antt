@@ -1,21 +1,13 @@
 -- A STEP OF A RETRY: the drive takes it, its line may be said, and what it leaves is shown.
-use Rattle.std.proofs.Common.{◌≡◌, ◌<◌, ℕ, zero, suc, List, [], ◌∷◌, drop, ◌+◌, Option, Some, None, ◌==◌, ◌&&◌, ◌||◌, Bool, true, false, refl, sym, ap, not, subst, arith, ◌∙◌}
-use Rattle.std.specs.Prelude.{if◌then◌else◌, nat_lt}
+use Rattle.std.proofs.Common.{◌≡◌, ◌<◌, ℕ, zero, suc, List, [], ◌∷◌, drop, ◌+◌, Some, true, false, refl, sym, ap, not, subst, arith, ◌∙◌, rules}
 use Rattle.std.proofs.lemmas.List.{drop-drop}
-use Rattle.std.proofs.lemmas.Bool.{and_parts}
 use Rattle.pack_geometry.specs.declared.Place.{Place}
-use Rattle.pack_geometry.specs.Geometry.{cylinders_of, tracks_of, sectors_of, place_at, block_count}
-use Rattle.drive_registers.specs.declared.Function.TheVariants as function
-use Rattle.drive_registers.specs.declared.OffsetCode.{OffsetCode}
-use Rattle.drive_registers.specs.declared.Function.{Function}
-use Rattle.drive_registers.specs.Codes.{offset_code}
-use Rattle.hardware_table.specs.declared.Register.TheVariants as register
+use Rattle.pack_geometry.specs.Geometry.{cylinders_of, place_at, block_count}
 use Rattle.hardware_table.specs.declared.Work.TheVariants as work
 use Rattle.hardware_table.specs.Adapter.{AdapterState}
-use Rattle.hardware_table.specs.Drive.{DriveState, with_register, track_in, sector_in}
-use Rattle.hardware_table.specs.Functions.{is_addressed, refusals, needs_online}
+use Rattle.hardware_table.specs.Drive.{DriveState}
+use Rattle.hardware_table.specs.Functions.{is_addressed}
 use Rattle.trace_replay.specs.declared.retry_offsets.Step.{Step}
-use Rattle.trace_replay.specs.declared.retry_offsets.Step.TheVariants as retry
 use Rattle.trace_replay.specs.Schedule.{step_after}
 use Rattle.transfer_engine.specs.declared.job.Job.{Job}
 use Rattle.transfer_engine.specs.State as engine
@@ -23,27 +15,26 @@ use Rattle.trace_replay.specs.Service as asked
 use Rattle.trace_replay.specs.Replay.{UnitSeen, Replay, hand_of, at_unit, unit_after}
 use Rattle.trace_replay.specs.Conversation as told
 use Rattle.trace_replay.specs.Packs.{VerdictMay}
-use Rattle.trace_replay.specs.Drives.{DriveMay, takes, offset_written}
+use Rattle.trace_replay.specs.Drives.{DriveMay}
 use Rattle.trace_replay.specs.Adapters as rule
 use Rattle.driver_machine.specs.declared.RetryStep.{RetryStep}
-use Rattle.driver_machine.specs.declared.RetryStep.TheVariants.{Recalibrate, Seek, Offset}
+use Rattle.driver_machine.specs.declared.RetryStep.TheVariants.{Recalibrate, Seek}
 use Rattle.driver_machine.specs.declared.Task.TheVariants.{Steps}
 use Rattle.driver_machine.specs.declared.Phase.TheVariants.{Positioning}
 use Rattle.driver_machine.specs.declared.Phase.TheVariants as phases
 use Rattle.driver_machine.specs.World.{World, UnitView, Held, slot_in_hand, transfer_of, adapter_of, unit_at, adapter_at, held_in}
 use Rattle.driver_machine.specs.Guards.{InHand}
-use Rattle.driver_machine.specs.Due.{steps_of, steps_for, offset_steps}
+use Rattle.driver_machine.specs.Due.{steps_for}
 use Rattle.driver_machine.specs.Acts.{going_to, stepping}
 use Rattle.driver_machine.specs.Acts as deed
 use Rattle.driver_machine.specs.Lines.{step_told}
 use Rattle.driver_machine.specs.Sound.{Sound, IsTask}
 use Rattle.driver_machine.specs.DueFacts.{IsStep, MayGo}
-use Rattle.driver_laws.specs.shown.Stages.{step_seen}
 use Rattle.driver_laws.specs.shown.Shows.{Shows}
 use Rattle.driver_laws.proofs.shown.Told.{seen_told}
 use Rattle.driver_laws.specs.shown.Laws.{IsSaid}
 use Rattle.driver_laws.proofs.shown.Core.{Core}
-use Rattle.driver_laws.proofs.shown.Talk.{guarded_command, step_stage}
+use Rattle.driver_laws.proofs.shown.Talk.{step_stage}
 use Rattle.driver_laws.proofs.shown.Facts.{At}
 use Rattle.driver_laws.proofs.shown.Plain.{IsPlain, plain_says, ready_plain}
 use Rattle.driver_laws.proofs.shown.DeedFacts.{no, said_by}
@@ -56,46 +47,12 @@ behind_more n xs x left is = sym (drop-drop 1 n xs) ∙ ap (drop 1) is
 do_core : (h : Held) (v : UnitView) (a : AdapterState) (seen : UnitSeen) (b : AdapterState) (step : RetryStep) (taken : ℕ)
     → Core h v a seen → IsStep v step taken
     → Core h (going_to (Positioning taken) (stepping step) v) a (seen_told seen b (step_told step) [])
-do_core h v a seen b Recalibrate taken is due = record {
-  drive = rw is.drive refl;
-  table = is.table;
-  stage = rw (is.stage, due.phase, due.next, due.is, behind_more due.before (steps_of (transfer_of v)) Recalibrate due.left due.is) refl;
-  progress = rw due.phase at is.progress;
-}
-do_core h v a seen b other taken is due = record {
-  drive = rw is.drive refl;
-  table = is.table;
-  stage = rw (is.stage, due.phase, due.next, due.is, behind_more due.before (steps_of (transfer_of v)) other due.left due.is) refl;
-  progress = rw due.phase at is.progress;
-}
-
-step_command : (step : RetryStep) → told.command_of (step_seen step) ≡ step_told step
-step_command Recalibrate = refl
-step_command other = refl
-
-step_unlocked : (step : RetryStep) (locked : Bool) → told.needs_unlocked (step_told step) && locked ≡ false
-step_unlocked Recalibrate locked = refl
-step_unlocked other locked = refl
+do_core h v a seen b step taken is due = search (rules, behind_more)
 
 step_talk : (h : Held) (v : UnitView) (a : AdapterState) (seen : UnitSeen) (step : RetryStep) (taken : ℕ)
     → Core h v a seen → IsStep v step taken → MayGo false v.drive
     → told.due seen.drive (hand_of seen) seen.stage ≡ Some (step_told step)
-step_talk h v a seen step taken is due go =
-    rw (step_stage h v a seen due.before step due.left is due.phase due.is, is.drive)
-    (ap Some (ap (told.guarded v.drive (record (hand_of seen) { kind = v.drive.kind })) (step_command step)
-    ∙ guarded_command v.drive (record (hand_of seen) { kind = v.drive.kind }) (step_told step)
-    (record { online = go.online; unlocked = step_unlocked step v.drive.locked; valid = go.valid })))
-
-seek_taken : (d : DriveState) (cylinder : ℕ) → d.work ≡ work.Ready → d.online ≡ true → is_addressed (with_register register.Dc cylinder d) ≡ true
-    → takes function.Seek (with_register register.Dc cylinder d) ≡ true
-seek_taken d cylinder still online at = rw (still, online, at) refl
-
-either_true : (b : Bool) → (b || true) && (0 == 0) ≡ true
-either_true true = refl
-either_true false = refl
-
-still_taken : (f : Function) (d : DriveState) → d.work ≡ work.Ready → d.online ≡ true → refusals f d ≡ 0 → takes f d ≡ true
-still_taken f d still online none = rw (none, still, online) (either_true (not (needs_online f)))
+step_talk h v a seen step taken is due go = search rules
 
 -- THE STEPS of a retry seek the cylinder of the sector that failed alone.
 abbrev pub SeeksAt : ℕ → RetryStep → Type 0
@@ -106,18 +63,8 @@ abbrev pub AllSeekAt : ℕ → List RetryStep → Type 0
 AllSeekAt c [] = Unit {0}
 AllSeekAt c (step ∷ steps) = SeeksAt c step × AllSeekAt c steps
 
-offsets_seek : (c : ℕ) (code : Option OffsetCode) → AllSeekAt c (offset_steps code)
-offsets_seek c None = tt
-offsets_seek c (Some code) = (tt, tt)
-
-seeks_seek : (b : Bool) (c : ℕ) (steps : List RetryStep) → AllSeekAt c steps → AllSeekAt c (if b then steps else Seek c ∷ steps)
-seeks_seek true c steps all = all
-seeks_seek false c steps all = (refl, all)
-
 steps_seek : (c : ℕ) (st : Step) → AllSeekAt c (steps_for c st)
-steps_seek c (retry.Offset code) = (tt, tt)
-steps_seek c (retry.Recalibrate code) = (tt, seeks_seek (c == 0) c (offset_steps code) (offsets_seek c code))
-steps_seek c other = tt
+steps_seek c st = search rules
 
 behind_seek : (c n : ℕ) (steps : List RetryStep) → AllSeekAt c steps → AllSeekAt c (drop n steps)
 behind_seek c zero steps all = all
@@ -127,23 +74,9 @@ behind_seek c (suc n) (step ∷ steps) all = behind_seek c n steps all.1
 next_seek : (c n : ℕ) (st : Step) (step : RetryStep) (left : List RetryStep) → drop n (steps_for c st) ≡ step ∷ left → SeeksAt c step
 next_seek c n st step left is = (subst (AllSeekAt c) is (behind_seek c n (steps_for c st) (steps_seek c st))).0
 
-seek_addressed : (d : DriveState) (cylinder : ℕ) → is_addressed d ≡ true → cylinder < cylinders_of d.kind
-    → is_addressed (with_register register.Dc cylinder d) ≡ true
-seek_addressed d cylinder at inside =
-    let rest : nat_lt (track_in d.da) (tracks_of d.kind) && nat_lt (sector_in d.da) (sectors_of d.kind) ≡ true =
-    (and_parts (nat_lt d.dc (cylinders_of d.kind)) (nat_lt (track_in d.da) (tracks_of d.kind) && nat_lt (sector_in d.da) (sectors_of d.kind)) at).1 in
-    both_true _ _ (below inside) rest
-  where
-    both_true : (x y : Bool) → x ≡ true → y ≡ true → x && y ≡ true
-    both_true x y e f = rw (e, f) refl
-
 step_taken : (d : DriveState) (target : Place) (step : RetryStep) → d.work ≡ work.Ready → d.online ≡ true → is_addressed d ≡ true
     → (c : ℕ) → SeeksAt c step → c < cylinders_of d.kind → DriveMay d target (step_told step)
-step_taken d target Recalibrate still online at c seeks inside = still_taken function.Recal d still online refl
-step_taken d target (Seek cylinder) still online at c seeks inside =
-    seek_taken d cylinder still online (seek_addressed d cylinder at (subst (λ n. n < cylinders_of d.kind) (sym seeks) inside))
-step_taken d target (Offset code) still online at c seeks inside =
-    still_taken function.Offset (offset_written (offset_code code) d) still online refl
+step_taken d target step still online at c seeks inside = search rules
 
 step_plain : (u : ℕ) (s : Replay) (step : RetryStep) → IsPlain u s (step_told step)
 step_plain u s Recalibrate = record { service = refl; adapter = refl; surface = refl; frames = refl; outstanding = refl; leaves = refl }

@@ -1,20 +1,18 @@
 -- A drain goes on with the machine's next event until no request is outstanding.
-use Rattle.std.proofs.Common.{◌≡◌, ◌≢◌, inl, inr, ℕ, zero, suc, ◌==◌, ◌<◌, Bool, true, false, not, ◌&&◌, List, [], ◌∷◌, Option, Some, None, refl, sym, ap, subst, arith, ◌∙◌}
+use Rattle.std.proofs.Common.{◌≡◌, ◌≢◌, ℕ, zero, suc, ◌==◌, ◌<◌, Bool, true, false, not, ◌&&◌, List, [], ◌∷◌, Option, Some, None, refl, sym, ap, subst, arith, ◌∙◌, rules}
 use Rattle.std.specs.Prelude.{if◌then◌else◌, nat_lt, slice_index_or}
-use Rattle.std.proofs.lemmas.Bool.Decides.{eqb_tells, leb_tells}
 use Rattle.pack_geometry.specs.Pack.{Pack}
 use Rattle.hardware_table.specs.Adapter.{next_block}
 use Rattle.trace_replay.specs.Moments.{Played}
 use Rattle.trace_replay.specs.Script as script
 use Rattle.trace_replay.specs.Script.{Input}
-use Rattle.trace_replay.specs.Events.{Trying, NothingToDo, NoLine, Event, is_no_line}
+use Rattle.trace_replay.specs.Events.{Trying, NothingToDo, NoLine, Event}
 use Rattle.trace_replay.specs.Replay.{Replay, are_at_work, next_wish, drained, act_drained, after_moment, event_of, act_of}
 use Rattle.driver_machine.specs.World.{World, Held, unit_of, adapter_at}
 use Rattle.driver_machine.specs.Acts as deed
 use Rattle.driver_machine.specs.Acts.{Tried, Nothing, scene_of}
 use Rattle.driver_machine.specs.Events.{in_hand, or_nothing, can_move, attended, move_acts, event_acts, next_event}
 use Rattle.driver_machine.specs.Sound.{Sound, AtWork}
-use Rattle.driver_machine.proofs.DueFacts.{false_true}
 use Rattle.driver_machine.specs.Runs.{Run, CanCome}
 use Rattle.driver_laws.proofs.invariant.Next.{next_none}
 use Rattle.driver_laws.specs.shown.Shows.{counted_by, outstanding_in, IsOnSurface}
@@ -38,32 +36,18 @@ all_ended : (slots : List (Option Held)) → outstanding_in slots ≡ 0 → (p :
 all_ended [] none p h is = absurd (grind (arith, is))
 all_ended (None ∷ slots) none zero h is = absurd (grind (arith, is))
 all_ended (None ∷ slots) none (suc p) h is = all_ended slots none p h is
-all_ended (Some g ∷ slots) none zero h is =
-    subst (λ (x : Held). x.ended ≡ true) (some_same is) (more_than g.ended (outstanding_in slots) none).0
-  where
-    some_same : {x y : Held} → Some x ≡ Some y → x ≡ y
-    some_same e = grind (arith, e)
+all_ended (Some g ∷ slots) none zero h is = search rules
 all_ended (Some g ∷ slots) none (suc p) h is = all_ended slots (more_than g.ended (outstanding_in slots) none).1 p h is
 
 -- while a next event is there some are
 some_outstanding : (w : World) (n : ℕ) (input : Input) → Sound w → AtWork w → next_event w ≡ Some input → n ≡ outstanding_in w.slots → n ≢ 0
-some_outstanding w n input sound work is same none =
-    none_some (sym ((next_none w sound work).1 (all_ended w.slots (sym same ∙ none))) ∙ is)
-  where
-    none_some : None ≡ Some input → ⊥
-    none_some e = grind (arith, e)
+some_outstanding w n input sound work is same none = search (rules, next_none, all_ended)
 
 pub none_outstanding : (w : World) (n : ℕ) → Sound w → AtWork w → next_event w ≡ None → n ≡ outstanding_in w.slots → n ≡ 0
 none_outstanding w n sound work idle same = same ∙ none_counted w.slots ((next_none w sound work).0 idle)
 
 some_less : (n : ℕ) → n ≢ 0 → nat_lt 0 n ≡ true
-some_less n some = elim (leb_tells 1 n) [
-  | inl less ↦ less.0
-  | inr more ↦ absurd (some (zero_is n more.1))
-]
-  where
-    zero_is : (n : ℕ) → n < 1 → n ≡ 0
-    zero_is n less = omega (arith, less)
+some_less n some = search rules
 
 -- A DRAIN GOES ON.
 pub record GoesOn (line : ℕ) (input : Input) (held : ℕ → Pack) (w : World) (s : Replay) : Type 0 where
@@ -75,16 +59,10 @@ next_of_drain s = record s { event = record s.event { between = true; act = act_
 
 drained_is : (s : Replay) → s.event.drains ≡ true → next_wish s ≡ NoLine → nat_lt 0 s.outstanding ≡ true → drained s ≡ next_of_drain s
 unfolding next_of_drain
-drained_is s drains over some =
-    ap (λ (b : Bool). if b && (is_no_line (next_wish s) && nat_lt 0 s.outstanding) then record s { event = record s.event { between = true; act = act_drained s } } else s) drains
-    ∙ ap (λ (b : Bool). if b && nat_lt 0 s.outstanding then record s { event = record s.event { between = true; act = act_drained s } } else s) (ap is_no_line over)
-    ∙ ap (λ (b : Bool). if b then record s { event = record s.event { between = true; act = act_drained s } } else s) some
+drained_is s drains over some = search rules
 
 same_named : (input : Input) (s : Replay) (e : Event) → act_named (record s { event = e }) input ≡ act_named s input
-same_named (script.ArriveAt u) s e = refl
-same_named (script.MoveAt a) s e = refl
-same_named (script.AttendTo a) s e = refl
-same_named other s e = refl
+same_named input s e = search rules
 
 next_rests : (line : ℕ) (input : Input) (held : ℕ → Pack) (w : World) (s : Replay) → IsOverWithin line true w s → IsSurfaceOf held s → AreThere w s
     → next_event w ≡ Some input → are_at_work (next_of_drain s) ≡ true → GoesOn line input held w (next_of_drain s)
@@ -135,10 +113,7 @@ drain_between line input held w s ends work is =
 
 -- A DRAIN BEGINS with one, or finds nothing.
 none_zero : (n : ℕ) → n ≢ 0 → (n == 0) ≡ false
-none_zero n some = elim (eqb_tells n 0) [
-  | inl none ↦ absurd (some none.1)
-  | inr more ↦ more.0
-]
+none_zero n some = search rules
 
 pub drain_begins : (line : ℕ) (input : Input) (held : ℕ → Pack) (w : World) (s : Replay) → Stands held w s → AreThere w s → next_event w ≡ Some input
     → GoesOn line input held w (after_moment s (Played line script.Drain))
@@ -207,14 +182,7 @@ move_played line a tried held w s four stands on run =
 
 -- WHERE NOTHING IS LEFT the replay stands for the driver between two calls.
 stands_at : (line : ℕ) (drains : Bool) (held : ℕ → Pack) (w : World) (s : Replay) → AtWork w → IsOverWithin line drains w s → IsSurfaceOf held s → Stands held w s
-stands_at line drains held w s work over packs = record {
-  sound = over.rests.sound;
-  work = work;
-  shows = over.rests.shows;
-  quiet = over.rests.quiet;
-  over = over.over;
-  packs = packs;
-}
+stands_at line drains held w s work over packs = search rules
 
 left_by : (line : ℕ) (drains : Bool) (held : ℕ → Pack) (w : World) (s last : Replay) → AtWork w → s ≡ drained last → IsOverWithin line drains w last
     → IsSurfaceOf held last → last.event.drains && nat_lt 0 last.outstanding ≡ false → IsLeft line held w s

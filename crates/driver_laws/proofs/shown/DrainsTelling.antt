@@ -1,5 +1,5 @@
 -- An event of a drain tells something.
-use Rattle.std.proofs.Common.{◌≡◌, ℕ, zero, suc, ◌==◌, ◌≤◌, Bool, true, false, ◌&&◌, [], refl, sym, ap, subst, arith, ◌∙◌}
+use Rattle.std.proofs.Common.{◌≡◌, ℕ, zero, suc, ◌==◌, ◌≤◌, Bool, true, false, ◌&&◌, [], refl, sym, ap, subst, arith, ◌∙◌, rules}
 use Rattle.std.specs.Prelude.{if◌then◌else◌, nat_lt}
 use Rattle.pack_geometry.specs.Pack.{Pack}
 use Rattle.trace_replay.specs.Script as script
@@ -43,13 +43,6 @@ line_comes input w s line drains can rests =
 alone : Replay → Replay
 alone s = record s { event = record s.event { drains = false; between = false } }
 
-alone_named : (input : Input) (s : Replay) → act_named (alone s) input ≡ act_named s input
-unfolding alone
-alone_named (script.ArriveAt u) s = refl
-alone_named (script.MoveAt a) s = refl
-alone_named (script.AttendTo a) s = refl
-alone_named other s = refl
-
 alone_tried : (input : Input) (tried : Tried) (w : World) (s : Replay) → IsTriedOn w s input tried → IsTriedOn w (alone s) input tried
 unfolding alone
 alone_tried (script.MoveAt a) tried w s on = on
@@ -62,24 +55,7 @@ alone_surface held s packs = same_surface (record s.event { drains = false; betw
 alone_rests : (input : Input) (line : ℕ) (drains : Bool) (w : World) (s : Replay) → Rests line drains (act_named s input) w s
     → Rests line false (act_named (alone s) input) w (alone s)
 unfolding alone
-alone_rests input line drains w s rests = record {
-  sound = rests.sound;
-  shows = record {
-    units = rests.shows.units;
-    adapters = rests.shows.adapters;
-    ready = rests.shows.ready;
-    noise = rests.shows.noise;
-    frames = rests.shows.frames;
-    outstanding = rests.shows.outstanding;
-  };
-  event = record {
-    line_is = rests.event.line_is;
-    drains_is = refl;
-    act_is = rests.event.act_is ∙ sym (alone_named input s);
-    work = tt;
-  };
-  quiet = rests.quiet;
-}
+alone_rests input line drains w s rests = search rules
 
 -- SOMETHING IS TOLD: else no line would come next, as the event is over behind its acts.
 pub something_told : (line : ℕ) (drains : Bool) (input : Input) (tried : Tried) (held : ℕ → Pack) (w : World) (s : Replay) → CanCome w input
@@ -103,10 +79,7 @@ is_nothing act = false
 
 named_some : (input : Input) (w : World) (s : Replay) → CanCome w input → is_nothing (act_named s input) ≡ false
 unfolding is_nothing
-named_some (script.ArriveAt u) w s can = refl
-named_some (script.MoveAt a) w s can = refl
-named_some (script.AttendTo a) w s can = refl
-named_some other w s can = absurd can
+named_some input w s can = search rules
 
 counted : (n : ℕ) (next named : Act) → (if n == 0 then NothingToDo else next) ≡ named → is_nothing named ≡ false → 1 ≤ n
 unfolding is_nothing

@@ -1,9 +1,8 @@
 -- Each act keeps what the driver stands for.
-use Rattle.std.proofs.Common.{◌≡◌, inl, inr, ℕ, ◌<◌, true, false, List, [], ◌∷◌, ◌++◌, drop, length, get_or-set_other, Option, Some, None, refl, sym, ap, ◌∙◌, subst, arith}
+use Rattle.std.proofs.Common.{◌≡◌, inl, inr, ℕ, ◌<◌, true, false, List, [], ◌∷◌, ◌++◌, drop, length, get_or-set_other, Option, Some, None, refl, sym, ap, ◌∙◌, subst, arith, rules}
 use Rattle.std.specs.Prelude.{Contains, unwrap_or, slice_index_or, slice_set}
 use Rattle.std.specs.Option.{option_map_or}
 use Rattle.std.proofs.lemmas.Bool.{cases_eq}
-use Rattle.std.proofs.lemmas.Option.{none-some}
 use Rattle.std.proofs.lemmas.List.Elements.{All-weaker}
 use Rattle.pack_geometry.specs.Pack.{Pack}
 use Rattle.hardware_table.specs.Adapter.{AdapterState}
@@ -16,10 +15,10 @@ use Rattle.driver_laws.specs.rules.Machine.{Blocks}
 use Rattle.driver_laws.specs.rules.Stands.{is_sure_among, IsLive}
 use Rattle.driver_laws.proofs.rules.Noises.{armed_live}
 use Rattle.driver_machine.specs.declared.Made.{Made}
-use Rattle.driver_machine.specs.World.{World, UnitView, AdapterView, Held, no_held, new_adapter_view, adapter_of, unit_at, adapter_at, slot_at, held_in, slot_in_hand}
+use Rattle.driver_machine.specs.World.{World, UnitView, AdapterView, Held, no_held, new_adapter_view, adapter_of, unit_at, adapter_at, held_in, slot_in_hand}
 use Rattle.driver_machine.specs.Acts.{Refuse, Submit, Of, Change, Nothing, Taken, joined, with_drive, with_unit_drive, answer_at, freed, after}
 use Rattle.driver_machine.specs.Guards.{IsSetUp, IsNew, MayChange}
-use Rattle.driver_machine.specs.Sound.{Sound, IsMade, Among, Once, slot_made, slots_made, is_waiting}
+use Rattle.driver_machine.specs.Sound.{Sound, Among, Once, slot_made, slots_made, is_waiting}
 use Rattle.driver_laws.proofs.invariant.Frame.{Changed}
 use Rattle.driver_laws.proofs.invariant.EachAct.{goes_slot, submit_changed, unit_new, same_hand, taken_changed}
 use Rattle.driver_laws.proofs.invariant.Units.{IsSameDrive, turned_same, armed_same, online_same, locked_same, drive_changed, changed_unit}
@@ -151,9 +150,7 @@ module _ (armed : List LiveNoise) (w : World) (line p : ℕ) (h : Held) (held : 
   }
 
   joined_slots : StaySlots w now w.answers
-  joined_slots made q c slot =
-      let was : IsMade w made q = s.answers made q c slot in
-      get_or-set_other w.slots p q (Some h) None (λ same. none-some was.held (sym is.slot ∙ subst (λ (r : ℕ). slot_at w r ≡ Some was.held) same was.slot))
+  joined_slots made q c slot = search rules
 
   mine : UnitBears (is_sure_among armed h.unit) (held h.unit) (b.now h.unit) (unit_at now h.unit) (adapter_at w (adapter_of h.unit)).state (held_in now (slot_in_hand (unit_at now h.unit)))
   mine =

@@ -1,5 +1,5 @@
 -- THE END of a request: it is what is due, its line may be said, and what it leaves is shown.
-use Rattle.std.proofs.Common.{◌≡◌, ℕ, zero, suc, List, [], ◌∷◌, drop, length, ◌+◌, ◌-◌, Option, Some, None, ◌==◌, ◌&&◌, Bool, true, false, refl, sym, ap, subst, arith, ◌∙◌}
+use Rattle.std.proofs.Common.{◌≡◌, ℕ, zero, suc, List, [], ◌∷◌, drop, length, ◌+◌, ◌-◌, Option, Some, None, ◌==◌, Bool, true, false, refl, sym, ap, subst, arith, ◌∙◌, rules}
 use Rattle.std.specs.Prelude.{if◌then◌else◌, slice_index_or, slice_set}
 use Rattle.pack_geometry.specs.declared.DriveKind.{DriveKind}
 use Rattle.pack_geometry.specs.declared.Place.{Place}
@@ -36,11 +36,10 @@ use Rattle.driver_machine.specs.Lines.{answer_told}
 use Rattle.driver_machine.specs.Sound.{Sound, IsPhase, IsBegun}
 use Rattle.driver_machine.specs.DueFacts.{Ends, Offline, Locked, Left, Unforwarded, Tried, Finished, Calls, AtStart, AtStep, AtTransfer, AtChoice, IsAtCommand}
 use Rattle.driver_laws.specs.shown.Stages.{segment_by, steps_left, segment_seen, progress_judged, front_of, progress_with}
-use Rattle.driver_laws.specs.shown.Shows.{Match, IsAdapterSeen, is_coming, with_coming, counted_by, outstanding_in, Shows}
+use Rattle.driver_laws.specs.shown.Shows.{Match, IsAdapterSeen, is_coming, with_coming, outstanding_in, Shows}
 use Rattle.driver_laws.proofs.shown.Told.{seen_told}
 use Rattle.driver_laws.specs.shown.Laws.{IsSaid}
 use Rattle.driver_laws.proofs.shown.Core.{Core, IsHead}
-use Rattle.driver_laws.proofs.shown.Talk.{transfer_guarded, command_progress}
 use Rattle.driver_laws.proofs.shown.Frame.{step_shows, same_transfer}
 use Rattle.driver_laws.proofs.shown.Facts.{At}
 use Rattle.driver_laws.proofs.shown.AdapterQueues.{without_coming, not_without, ready_goes}
@@ -53,12 +52,7 @@ use Rattle.trace_replay.proofs.Unchanged.{with_other}
 -- The unit waits, and the next one that waits at it is its head.
 end_core : (h g : Held) (v : UnitView) (a c : AdapterState) (seen : UnitSeen) (b : AdapterState) (answer : Answer) → Core h v a seen
     → Core g (record v { queue = drop 1 v.queue; phase = phases.Waiting; transfer = None }) c (seen_told seen b (moment.End answer) [])
-end_core h g v a c seen b answer is = record {
-  drive = is.drive;
-  table = is.table;
-  stage = rw is.drive refl;
-  progress = refl;
-}
+end_core h g v a c seen b answer is = search rules
 
 -- OFFLINE. Whichever command is due, the request ends in its place.
 pub record IsCalled (d : DriveState) (hand : told.Hand) (stage : told.Stage) : Type 0 where
@@ -118,10 +112,6 @@ guarded_offline : (d : DriveState) (hand : told.Hand) (command : moment.Deed) �
     → told.guarded d hand command ≡ moment.End (asked.Failed asked.Offline hand.progress.done)
 guarded_offline d hand command off = rw off refl
 
-guarded_locked : (d : DriveState) (hand : told.Hand) (write : Bool) (block count : ℕ) → d.online ≡ true → write && d.locked ≡ true
-    → told.guarded d hand (moment.Transfer write block count) ≡ moment.End (asked.Failed asked.Locked hand.progress.done)
-guarded_locked d hand write block count on locked = rw (on, locked) refl
-
 -- the facts that the end of a request rests on
 pub record MayEnd (v : UnitView) (h : Held) : Type 0 where
   pub start : v.phase ≡ phases.Waiting → v.transfer ≡ None
@@ -150,15 +140,8 @@ end_talk h v a seen _ is head may (Offline off calls) =
     let at : IsCalled seen.drive (hand_of seen) seen.stage = called v.phase h v a seen refl calls is head in
     at.due ∙ ap Some (guarded_offline seen.drive (hand_of seen) at.command (rw is.drive off)
     ∙ ap (λ n. moment.End (asked.Failed asked.Offline n)) (called_done v.phase h v a seen refl calls is may.start))
-end_talk h v a seen _ is head may (Locked on locked at) =
-    let progress : seen.progress ≡ progress_with 0 (transfer_of v) h = command_progress h v a seen is at in
-    transfer_guarded h v a seen is head (may.begun at) at
-    ∙ ap Some (guarded_locked seen.drive (hand_of seen) h.write _ _ (rw is.drive on) (rw is.drive locked)
-    ∙ ap (λ (p : told.Progress). moment.End (asked.Failed asked.Locked p.done)) progress)
-end_talk h v a seen _ is head may (Left moved due) =
-    let progress : seen.progress ≡ progress_judged verdict.Offline moved (transfer_of v) h = judged_progress verdict.Offline h v a seen moved is due in
-    let stage : seen.stage ≡ told.Ending (asked.Failed asked.Offline seen.progress.done) = is.stage ∙ rw (due.phase, due.centred) refl in
-    rw (stage, progress) refl
+end_talk h v a seen _ is head may (Locked on locked at) = search rules
+end_talk h v a seen _ is head may (Left moved due) = search rules
 end_talk h v a seen _ is head may (Unforwarded moved due entry) =
     let progress : seen.progress ≡ progress_judged verdict.Marked moved (transfer_of v) h = judged_progress verdict.Marked h v a seen moved is due in
     let marked : seen.stage ≡ told.marked (hand_of seen) (segment_seen (transfer_of v)) = is.stage ∙ rw (due.phase, due.centred) refl in
@@ -183,40 +166,20 @@ end_talk h v a seen _ is head may (Finished moved due over) =
     ((rw write refl) ∙ finished_end h.write h seen.progress.bytes refl (λ reads. bytes ∙ front_whole h h.loan.count reads may.size)))
 
 kept_end : (b : Bool) (kind : DriveKind) (q : Request) (h : Held) → IsHeldFor kind q h → IsHeldFor kind q (record h { ended = b })
-kept_end b kind q h is = record {
-  id = is.id;
-  unit = is.unit;
-  first = is.first;
-  count = is.count;
-  last = is.last;
-  offset = is.offset;
-  write = is.write;
-  content = is.content;
-}
+kept_end b kind q h is = search rules
 
 match_behind : (held : ℕ → Held) (kind : DriveKind) (queue : List Waiter) (waiting : List (Waiting Request)) → Match held kind queue waiting
     → Match held kind (drop 1 queue) (drop 1 waiting)
-match_behind held kind [] [] match = tt
-match_behind held kind [] (y ∷ ys) match = absurd match
-match_behind held kind (x ∷ xs) [] match = absurd match
-match_behind held kind (x ∷ xs) (y ∷ ys) match = match.1
+match_behind held kind queue waiting match = search rules
 
 -- ONE LESS is outstanding.
 outstanding_less : (slots : List (Option Held)) (p : ℕ) (g h : Held) → slice_index_or slots p None ≡ Some h → h.ended ≡ false → g.ended ≡ true
     → outstanding_in slots ≡ outstanding_in (slice_set slots p (Some g)) + 1
 outstanding_less [] p g h is going over = absurd (grind (arith, is))
 outstanding_less (None ∷ slots) zero g h is going over = absurd (grind (arith, is))
-outstanding_less (Some x ∷ slots) zero g h is going over =
-    let one : x ≡ h = grind (arith, is) in
-    let on : x.ended ≡ false = ap (λ (y : Held). y.ended) one ∙ going in
-    rw (on, over) refl
+outstanding_less (Some x ∷ slots) zero g h is going over = search rules
 outstanding_less (None ∷ slots) (suc p) g h is going over = outstanding_less slots p g h is going over
-outstanding_less (Some x ∷ slots) (suc p) g h is going over =
-    counted x.ended (outstanding_in slots) (outstanding_in (slice_set slots p (Some g))) (outstanding_less slots p g h is going over)
-  where
-    counted : (b : Bool) (m n : ℕ) → m ≡ n + 1 → counted_by b m ≡ counted_by b n + 1
-    counted true m n e = e
-    counted false m n e = ap (λ k. k + 1) e
+outstanding_less (Some x ∷ slots) (suc p) g h is going over = search (rules, outstanding_less slots p g h is going over)
 
 less_one : {m n k : ℕ} → m ≡ n → n ≡ k + 1 → m - 1 ≡ k
 less_one e f = omega (arith, e, f)

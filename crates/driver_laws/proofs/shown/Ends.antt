@@ -1,11 +1,11 @@
 -- THE END of a request is a step of the map, with as many blocks done as it has come to.
-use Rattle.std.proofs.Common.{◌≡◌, inl, inr, ℕ, ◌+◌, ◌<◌, ◌==◌, nat_lt, Bool, true, false, Option, Some, None, refl, sym, ap, ◌∙◌, subst, arith}
+use Rattle.std.proofs.Common.{◌≡◌, inl, inr, ℕ, ◌+◌, ◌<◌, ◌==◌, Bool, true, false, Option, Some, None, refl, sym, ap, ◌∙◌, subst, arith, rules}
 use Rattle.std.specs.Prelude.{if◌then◌else◌, unwrap_or}
 use Rattle.pack_geometry.specs.declared.DriveKind.{DriveKind}
-use Rattle.pack_geometry.specs.Geometry.{limit_of, place_at, replacement_at}
+use Rattle.pack_geometry.specs.Geometry.{place_at, replacement_at}
 use Rattle.pack_geometry.specs.Pack.{Pack, is_marked}
 use Rattle.pack_geometry.specs.Content.{bytes_at}
-use Rattle.pack_geometry.specs.Homes.{home_of, index_in, replacement_home}
+use Rattle.pack_geometry.specs.Homes.{home_of, index_in}
 use Rattle.pack_geometry.specs.TableSpelling.{Table}
 use Rattle.hardware_table.specs.declared.Moved.{Moved}
 use Rattle.hardware_table.specs.declared.Moved.TheVariants as verdict
@@ -35,23 +35,14 @@ use Rattle.driver_laws.proofs.shown.End.{eqb_same}
 plus_none : (n : ℕ) → n + 0 ≡ n
 plus_none n = omega arith
 
--- a block that is marked and not listed has no home
-by_either : (b : Bool) (x : Option ℕ) → x ≡ None → (if b then x else None) ≡ None
-by_either true x is = is
-by_either false x is = refl
-
 unlisted_home : (kind : DriveKind) (table : Option Table) (pack : Pack) (block : ℕ) → is_marked pack block ≡ true → index_in table (place_at kind block) ≡ None
     → home_of kind table pack block ≡ None
-unlisted_home kind table pack block marked none =
-    by_either (nat_lt block (limit_of kind)) (if is_marked pack block then replacement_home kind pack (index_in table (place_at kind block)) else Some block)
-    (rw (marked, none) refl)
+unlisted_home kind table pack block marked none = search rules
 
 -- nor has one whose replacement is marked
 replaced_home : (kind : DriveKind) (table : Option Table) (pack : Pack) (block i : ℕ) → IsForwarded kind table pack block i → is_marked pack (replacement_at kind i) ≡ true
     → home_of kind table pack block ≡ None
-replaced_home kind table pack block i is marked =
-    by_either (nat_lt block (limit_of kind)) (if is_marked pack block then replacement_home kind pack (index_in table (place_at kind block)) else Some block)
-    (rw (is.marked, is.listed) (rw marked refl))
+replaced_home kind table pack block i is marked = search rules
 
 homeless : (index : Option ℕ) (kind : DriveKind) (table : Option Table) (pack : Pack) (first done moved : ℕ)
     → ((i : ℕ) → index ≡ Some i → IsForwarded kind table pack (first + done) i) → ((i : ℕ) → index ≡ Some i → done + moved ≡ done)

@@ -1,5 +1,5 @@
 -- Each event that finds something, and one that finds nothing.
-use Rattle.std.proofs.Common.{◌≡◌, ◌≢◌, ◌⊎◌, inl, inr, ℕ, ◌==◌, ◌<◌, Bool, true, false, not, ◌&&◌, ◌||◌, filter, List, [], ◌∷◌, refl, sym, ap, subst, arith, ◌∙◌}
+use Rattle.std.proofs.Common.{◌≡◌, ◌≢◌, ◌⊎◌, inl, inr, ℕ, ◌==◌, ◌<◌, Bool, true, false, not, ◌&&◌, ◌||◌, filter, List, [], ◌∷◌, refl, sym, ap, arith, ◌∙◌, rules}
 use Rattle.std.specs.Prelude.{if◌then◌else◌, nat_lt}
 use Rattle.std.specs.Int.{bit_at}
 use Rattle.std.proofs.lemmas.Nat.Bits.{bit_at-zero, same_from_bits_below}
@@ -9,7 +9,7 @@ use Rattle.trace_replay.specs.Moments.{Moment}
 use Rattle.trace_replay.specs.Adapters as told
 use Rattle.trace_replay.specs.Events.{NoLine, wanted, is_no_line, Act, Done, Serving, NothingToDo, serving}
 use Rattle.trace_replay.specs.Events as event
-use Rattle.trace_replay.specs.Replay.{Replay, next_wish, act_done, drained, act_drained, after_moments, WorkMay}
+use Rattle.trace_replay.specs.Replay.{Replay, next_wish, act_done, drained, after_moments, WorkMay}
 use Rattle.driver_machine.specs.World.{World, unit_on, unit_at, adapter_at}
 use Rattle.driver_machine.specs.Acts as deed
 use Rattle.driver_machine.specs.Acts.{Nothing, after}
@@ -33,19 +33,10 @@ some_told [] s some over = absurd (false_true (sym some ∙ ap is_no_line over))
 some_told (m ∷ ms) s some over = refl
 
 pub drained_there : (s : Replay) → (drained s).there ≡ s.there
-drained_there s = by_test (s.event.drains && (is_no_line (next_wish s) && nat_lt 0 s.outstanding))
-  where
-    by_test : (b : Bool) → (if b then record s { event = record s.event { between = true; act = act_drained s } } else s).there ≡ s.there
-    by_test true = refl
-    by_test false = refl
+drained_there s = search rules
 
 pub same_packs : (held new : ℕ → Pack) (s r : Replay) → r.surface ≡ s.surface → new ≡ held → IsSurfaceOf held s → IsSurfaceOf new r
-same_packs held new s r surface same packs = record {
-  sectors = λ u block. ap (λ (x : Rattle.trace_replay.specs.Packs.Surface). x.sector u block) surface ∙ packs.sectors u block
-      ∙ ap (λ (h : ℕ → Pack). Rattle.pack_geometry.specs.Pack.block_at (h u).image block) (sym same);
-  marks = λ u block. ap (λ (x : Rattle.trace_replay.specs.Packs.Surface). x.is_marked u block) surface ∙ packs.marks u block
-      ∙ ap (λ (h : ℕ → Pack). Rattle.pack_geometry.specs.Pack.is_marked (h u) block) (sym same);
-}
+same_packs held new s r surface same packs = search rules
 
 pub is_told : (line : ℕ) (drains : Bool) (held : ℕ → Pack) (w : World) (s : Replay) (acts : List deed.Act) → IsSurfaceOf held s
     → is_no_line (next_wish s) ≡ false → Tells (IsOverWithin line drains) w s acts → IsTold line drains held w s acts
@@ -65,26 +56,15 @@ is_told line drains held w s acts packs some tells =
     }
 
 -- AN ATTEND: the interrupt and the attentions that the replay sees are those that the machine has.
-busy_too : (b c : Bool) → (b ≡ false → c ≡ false) → b && c ≡ c
-busy_too true c rest = refl
-busy_too false c rest = sym (rest refl)
-
 bit_tested : (b : Bool) (n : ℕ) → n ≡ (if b then 1 else 0) → (n == 1) ≡ b
 bit_tested true n is = ap (λ (k : ℕ). k == 1) is
 bit_tested false n is = ap (λ (k : ℕ). k == 1) is
-
-by_one : (b : Bool) (k : ℕ) (ks : List ℕ) → (if b then k ∷ ks else ks) ≡ raised_by b k ks
-by_one true k ks = refl
-by_one false k ks = refl
 
 filter_is : (n : ℕ) (w : World) (a : ℕ) (ks : List ℕ)
     → ((k : ℕ) → Among k ks → (bit_at n k == 1) ≡ (unit_at w (unit_on a k)).drive.attention)
     → filter (λ drive. bit_at n drive == 1) ks ≡ raised_in w a ks
 filter_is n w a [] same = refl
-filter_is n w a (k ∷ ks) same =
-    ap (λ (b : Bool). if b then k ∷ filter (λ drive. bit_at n drive == 1) ks else filter (λ drive. bit_at n drive == 1) ks) (same k (inl refl))
-    ∙ by_one (unit_at w (unit_on a k)).drive.attention k (filter (λ drive. bit_at n drive == 1) ks)
-    ∙ ap (λ (l : List ℕ). raised_by (unit_at w (unit_on a k)).drive.attention k l) (filter_is n w a ks (λ j. λ among. same j (inr among)))
+filter_is n w a (k ∷ ks) same = search (rules, (filter_is n w a ks (λ j. λ among. same j (inr among))))
 
 pub attentive_is : (w : World) (s : Replay) (a : ℕ) → Sound w → ShowsAll w s → a < 4 → told.attentive (s.adapters a).state ≡ raised_in w a drives
 attentive_is w s a sound shows four =
@@ -94,10 +74,7 @@ attentive_is w s a sound shows four =
 
 pub completion_is : (w : World) (s : Replay) (a : ℕ) → Sound w → ShowsAll w s → a < 4
     → (s.adapters a).state.busy && (s.adapters a).state.completion ≡ (adapter_at w a).state.completion
-completion_is w s a sound shows four =
-    ap (λ (b : Bool). b && (s.adapters a).state.completion) (shows.adapters a four).busy
-    ∙ ap (λ (c : Bool). (adapter_at w a).state.busy && c) (shows.adapters a four).completion
-    ∙ busy_too (adapter_at w a).state.busy (adapter_at w a).state.completion (sound.each_adapter a four).rest
+completion_is w s a sound shows four = search rules
 
 pub serving_is : (w : World) (s : Replay) (a : ℕ) → Sound w → ShowsAll w s → a < 4
     → serving a (s.adapters a).state ≡ Serving a (adapter_at w a).state.completion (raised_in w a drives)
@@ -113,9 +90,7 @@ all_down w a (j ∷ js) none k among = by_test (unit_at w (unit_on a j)).drive.a
     by_test : (b : Bool) → (unit_at w (unit_on a j)).drive.attention ≡ b → raised_by b j (raised_in w a js) ≡ [] → Among k (j ∷ js)
         → (raised_in w a js ≡ [] → Among k js → (unit_at w (unit_on a k)).drive.attention ≡ false)
         → (unit_at w (unit_on a k)).drive.attention ≡ false
-    by_test true is none among rest = absurd (grind (arith, none))
-    by_test false is none (inl here) rest = subst (λ (n : ℕ). (unit_at w (unit_on a n)).drive.attention ≡ false) (sym here) is
-    by_test false is none (inr later) rest = rest none later
+    by_test b is none among rest = search rules
 
 none_up : (w : World) (a : ℕ) (ks : List ℕ) → ((k : ℕ) → Among k ks → (unit_at w (unit_on a k)).drive.attention ≡ false) → raised_in w a ks ≡ []
 none_up w a [] down = refl
@@ -174,9 +149,7 @@ can_attend_is w s a sound shows four =
 -- so a line comes next in it
 pub serving_line : (s : Replay) (a : ℕ) (c : Bool) (ks : List ℕ) → c || event.is_some_drive ks ≡ true
     → is_no_line (event.wish_in_serving a (s.adapters a) c ks) ≡ false
-serving_line s a true ks some = refl
-serving_line s a false [] some = absurd (false_true some)
-serving_line s a false (k ∷ ks) some = refl
+serving_line s a c ks some = search rules
 
 pub attend_told : (line a : ℕ) (drains : Bool) (held : ℕ → Pack) (w : World) (s : Replay) → a < 4
     → Rests line drains (serving a (s.adapters a).state) w s → IsSurfaceOf held s → can_attend (adapter_at w a) ≡ true → Run w (attended line a w)
@@ -192,17 +165,7 @@ attend_told line a drains held w s four rests packs can run =
 
 -- NOTHING TO DO
 pub not_drained : (s : Replay) → s.event.drains && nat_lt 0 s.outstanding ≡ false → drained s ≡ s
-not_drained s none = by_both s.event.drains (nat_lt 0 s.outstanding) none
-  where
-    by_both : (d o : Bool) → d && o ≡ false
-        → (if d && (is_no_line (next_wish s) && o) then record s { event = record s.event { between = true; act = act_drained s } } else s) ≡ s
-    by_both true true none = absurd (false_true (sym none))
-    by_both true false none = by_wish (is_no_line (next_wish s))
-      where
-        by_wish : (b : Bool) → (if true && (b && false) then record s { event = record s.event { between = true; act = act_drained s } } else s) ≡ s
-        by_wish true = refl
-        by_wish false = refl
-    by_both false o none = refl
+not_drained s none = search rules
 
 pub idle_told : (line : ℕ) (drains : Bool) (held : ℕ → Pack) (w : World) (s : Replay) → Rests line drains NothingToDo w s → IsSurfaceOf held s
     → s.event.drains && nat_lt 0 s.outstanding ≡ false → IsTold line drains held w s (Nothing line ∷ [])

@@ -1,5 +1,5 @@
 -- What is known of a unit that speaks, of its request in hand, and of its adapter.
-use Rattle.std.proofs.Common.{◌≡◌, ℕ, ◌+◌, ◌<◌, ◌≤◌, Bool, true, false, List, [], length, Some, refl, sym, ap, subst, arith, ◌∙◌}
+use Rattle.std.proofs.Common.{◌≡◌, ℕ, ◌+◌, ◌<◌, ◌≤◌, Bool, true, false, List, [], length, Some, sym, ap, subst, arith, ◌∙◌, rules}
 use Rattle.std.proofs.lemmas.List.Elements.{Contains-get_or}
 use Rattle.std.specs.Prelude.{slice_index_or}
 use Rattle.pack_geometry.specs.Geometry.{limit_of}
@@ -31,11 +31,7 @@ pub some_one : {g h : Held} → Some g ≡ Some h → g ≡ h
 some_one e = grind (arith, e)
 
 pub set_up : (b : Bool) (queue : List Waiter) → (b ≡ false → queue ≡ []) → 0 < length queue → b ≡ true
-set_up true queue none some = refl
-set_up false queue none some = absurd (no_less (subst (λ (q : List Waiter). 0 < length q) (none refl) some))
-  where
-    no_less : 0 < 0 → ⊥
-    no_less e = omega (arith, e)
+set_up b queue none some = search rules
 
 pub at_facts : (u id : ℕ) (w : World) (s : Replay) → Sound w → Shows u w s → InHand w u id → At u id w s
 at_facts u id w s sound shows hand =

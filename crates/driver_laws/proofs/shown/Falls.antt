@@ -1,13 +1,13 @@
 -- How many event lines are left falls with each event of a drain.
-use Rattle.std.proofs.Common.{◌≡◌, ℕ, ◌+◌, ◌*◌, ◌≤◌, ◌<◌, Bool, true, List, [], ◌∷◌, ◌++◌, Some, refl, sym, ap, subst, arith, append_assoc}
+use Rattle.std.proofs.Common.{◌≡◌, ℕ, ◌+◌, ◌≤◌, ◌<◌, Bool, true, List, [], ◌∷◌, ◌++◌, Some, refl, sym, ap, subst, arith, append_assoc, rules}
 use Rattle.pack_geometry.specs.Pack.{Pack}
-use Rattle.trace_replay.specs.Moments.{Moment, Played, Told, Idle}
+use Rattle.trace_replay.specs.Moments.{Moment, Played}
 use Rattle.trace_replay.specs.Script as script
 use Rattle.trace_replay.specs.Script.{Input}
 use Rattle.trace_replay.specs.Replay.{Replay, MayCome, Follows, WorkMay, new_replay, after_moment, after_moments}
 use Rattle.trace_replay.proofs.Following.{follow_on, joined}
 use Rattle.driver_laws.specs.rules.Measure.{events_left, blocks_outstanding}
-use Rattle.driver_laws.specs.rules.Drains.{event_by, events_in, IsIdle}
+use Rattle.driver_laws.specs.rules.Drains.{events_in, IsIdle}
 use Rattle.driver_laws.proofs.rules.Idle.{starts_idle}
 use Rattle.driver_laws.proofs.rules.Drain.{events_are_few, drains_are_bounded}
 use Rattle.driver_laws.proofs.rules.Tells.{events_tell, drains_tell}
@@ -36,12 +36,7 @@ use Rattle.driver_laws.proofs.rules.Quiet.{after_parts}
 
 -- THE FIRST LINE is an event line.
 one_counted : (m : Moment) (ms : List Moment) → events_in (m ∷ []) ≡ 1 → 1 ≤ events_in (m ∷ ms)
-one_counted (Told line unit id deed) ms is = more (event_by deed) (events_in ms) is
-  where
-    more : (n k : ℕ) → n + 0 ≡ 1 → 1 ≤ n + k
-    more n k is = omega (arith, is)
-one_counted (Played line input) ms is = absurd (grind (arith, is))
-one_counted (Idle line) ms is = absurd (grind (arith, is))
+one_counted m ms is = search rules
 
 pub some_told : (s : Replay) (ms : List Moment) → (ms ≡ [] → ⊥) → Follows s ms → ((m : Moment) → MayCome s m → events_in (m ∷ []) ≡ 1) → 1 ≤ events_in ms
 some_told s [] some follows tells = absurd (some refl)
@@ -114,10 +109,7 @@ drains_keep start moments next = (
 -- before the line that drains as many are left as behind it
 before_line : (before behind after : Replay) → events_left behind ≡ events_left before → blocks_outstanding behind ≡ blocks_outstanding before
     → Falls behind after → Falls before after
-before_line before behind after same blocks falls = record {
-  fewer = subst (λ (n : ℕ). events_left after < n) same falls.fewer;
-  few = subst (λ (n : ℕ). events_left before ≤ 200 * n) blocks (subst (λ (n : ℕ). n ≤ 200 * blocks_outstanding behind) same falls.few);
-}
+before_line before behind after same blocks falls = search rules
 
 pub first_events_fall : FirstEventsFall
 first_events_fall drives tables surface line next input tried moments held w asked far less is may on =

@@ -1,5 +1,5 @@
 -- Whatever a sector that an event tries was found to be, some packs hold it so; and a replay stands for the driver over any packs.
-use Rattle.std.proofs.Common.{◌≡◌, ℕ, ◌+◌, ◌≤◌, ◌==◌, ◌&&◌, not, nat_lt, Bool, true, false, List, [], ◌∷◌, ◌++◌, length, Option, Some, None, refl, sym, ap, subst, arith, ◌∙◌, replicate}
+use Rattle.std.proofs.Common.{◌≡◌, ℕ, ◌+◌, ◌≤◌, ◌==◌, not, Bool, true, false, List, [], ◌∷◌, ◌++◌, length, Option, Some, None, refl, sym, ap, subst, arith, ◌∙◌, replicate, rules}
 use Rattle.std.specs.Prelude.{if◌then◌else◌, slice_index, unwrap_or}
 use Rattle.std.proofs.lemmas.List.{length-replicate}
 use Rattle.std.proofs.lemmas.Option.{none-some}
@@ -14,8 +14,7 @@ use Rattle.hardware_table.specs.Noise.{LiveNoise, strikes}
 use Rattle.request_slots.specs.Move.{IsFrontRead, struck_at}
 use Rattle.trace_replay.specs.Script as script
 use Rattle.trace_replay.specs.Script.{Input}
-use Rattle.trace_replay.specs.Events.{is_no_line}
-use Rattle.trace_replay.specs.Replay.{Replay, WorkMay, next_wish, act_drained, drained}
+use Rattle.trace_replay.specs.Replay.{Replay, WorkMay, drained}
 use Rattle.driver_laws.specs.rules.Consistent.{IsConsistent}
 use Rattle.driver_laws.specs.rules.Calm.{IsCalm}
 use Rattle.driver_laws.proofs.rules.Drain.{IsAt}
@@ -57,11 +56,7 @@ last_few w p sound = by (slot_at w p) refl
         subst (λ (o : Option Held). (unwrap_or o no_held).loan.last ≤ 512) (sym is) (sound.each_slot p h is).loan.shape.last_few
 
 size_few : (loan : Loan) (k : ℕ) → loan.last ≤ 512 → size_at loan k ≤ 512
-size_few loan k few = by (k + 1 == loan.count)
-  where
-    by : (b : Bool) → (if b then loan.last else 512) ≤ 512
-    by true = few
-    by false = omega arith
+size_few loan k few = search rules
 
 read_so : (places : Option (List ℕ)) (block size : ℕ) (tried : Tried) → places ≡ None → length tried.bytes ≡ size → size ≤ 512
     → IsFrontRead places (block_at (holding block tried).image block) size tried.bytes
@@ -98,32 +93,13 @@ over held s = record s {
 }
 
 over_shows : (held : ℕ → Pack) (w : World) (s : Replay) → ShowsAll w s → ShowsAll w (over held s)
-over_shows held w s shows = record {
-  units = shows.units;
-  adapters = shows.adapters;
-  ready = shows.ready;
-  noise = shows.noise;
-  frames = shows.frames;
-  outstanding = shows.outstanding;
-}
+over_shows held w s shows = search rules
 
 pub over_stands : (held old : ℕ → Pack) (w : World) (s : Replay) → Stands old w s → Stands held w (over held s)
-over_stands held old w s stands = record {
-  sound = stands.sound;
-  work = stands.work;
-  shows = over_shows held w s stands.shows;
-  quiet = stands.quiet;
-  over = stands.over;
-  packs = record { sectors = λ unit block. refl; marks = λ unit block. refl };
-}
+over_stands held old w s stands = search rules
 
 over_drained : (held : ℕ → Pack) (s : Replay) → over held (drained s) ≡ drained (over held s)
-over_drained held s = by (s.event.drains && (is_no_line (next_wish s) && nat_lt 0 s.outstanding))
-  where
-    by : (b : Bool) → over held (if b then record s { event = record s.event { between = true; act = act_drained s } } else s)
-        ≡ (if b then record (over held s) { event = record s.event { between = true; act = act_drained s } } else over held s)
-    by true = refl
-    by false = refl
+over_drained held s = search rules
 
 work_over : (b : Bool) (held : ℕ → Pack) (s : Replay) → WorkMay b s → WorkMay b (over held s)
 work_over true held s work = work
@@ -152,19 +128,7 @@ over_ends line held old w s ends = record {
 }
 
 pub over_consistent : (held : ℕ → Pack) (s : Replay) → IsConsistent s → IsConsistent (over held s)
-over_consistent held s c = record {
-  units = c.units;
-  adapters = c.adapters;
-  event = record {
-    speaker = c.event.speaker;
-    served = c.event.served;
-    started = c.event.started;
-    act = c.event.act;
-    due = c.event.due;
-    first = c.event.first;
-    at_work = work_over s.event.between held s c.event.at_work;
-  };
-}
+over_consistent held s c = search (rules, work_over)
 
 pub over_calm : (held : ℕ → Pack) (s : Replay) → IsCalm s → IsCalm (over held s)
 over_calm held s calm = record { drives = calm.drives; stages = calm.stages; live = calm.live }

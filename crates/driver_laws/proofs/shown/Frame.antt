@@ -1,17 +1,15 @@
 -- What a deed at one unit leaves of the others, as the replay sees them.
-use Rattle.std.proofs.Common.{◌≡◌, ◌≢◌, inl, inr, ℕ, ◌<◌, false, List, [], ◌∷◌, length, Option, Some, None, refl, sym, ap, subst, ◌∙◌, get_or-set_other}
+use Rattle.std.proofs.Common.{◌≡◌, ◌≢◌, ℕ, ◌<◌, false, List, [], ◌∷◌, length, Option, Some, None, refl, sym, ap, subst, ◌∙◌, get_or-set_other, rules}
 use Rattle.std.proofs.lemmas.List.{get_or-set_same}
-use Rattle.std.proofs.lemmas.Bool.Decides.{eqb_tells}
 use Rattle.std.specs.Prelude.{slice_set, unwrap_or}
 use Rattle.pack_geometry.specs.declared.DriveKind.{DriveKind}
 use Rattle.hardware_table.specs.Adapter.{AdapterState}
 use Rattle.disksort.specs.declared.Waiter.{Waiter}
 use Rattle.trace_replay.specs.requests.ServiceOrder.{Waiting}
 use Rattle.trace_replay.specs.requests.Requests.{Request}
-use Rattle.trace_replay.specs.Service.{head_of}
 use Rattle.trace_replay.specs.Adapters.{AdapterSeen}
 use Rattle.trace_replay.specs.Conversation as told
-use Rattle.trace_replay.specs.Replay.{UnitSeen, Replay, hand_of}
+use Rattle.trace_replay.specs.Replay.{UnitSeen, Replay}
 use Rattle.driver_machine.specs.declared.Phase.{Phase}
 use Rattle.driver_machine.specs.declared.Phase.TheVariants as phases
 use Rattle.driver_machine.specs.World.{World, UnitView, AdapterView, Held, adapter_of, new_adapter_view, no_held, unit_at, adapter_at, held_in, slot_in_hand}
@@ -46,32 +44,19 @@ same_transfer a = record { completion = refl; verdict = refl; count = refl; move
 
 stage_stays : (phase : Phase) (v : UnitView) (old new : AdapterState) (hand : told.Hand) (head : Option Request)
     → (phase ≡ phases.Transferring → IsSameTransfer old new) → stage_by phase v old hand head ≡ stage_by phase v new hand head
-stage_stays phases.Transferring v old new hand head same =
-    let is : IsSameTransfer old new = same refl in
-    rw (is.completion, is.verdict, is.count, is.moved) refl
-stage_stays other v old new hand head same = refl
+stage_stays phase v old new hand head same = search rules
 
 pub progress_stays : (phase : Phase) (v : UnitView) (old new : AdapterState) (g h : Held) (p : told.Progress)
     → (phase ≡ phases.Transferring → IsSameTransfer old new) → (is_waiting phase ≡ false → g ≡ h)
     → IsProgress phase v old g p → IsProgress phase v new h p
-progress_stays phases.Waiting v old new g h p same one is = is
-progress_stays phases.Transferring v old new g h p same one is =
-    let at : IsSameTransfer old new = same refl in
-    subst (λ x. IsProgress phases.Transferring v new x p) (one refl) (rw (at.completion, at.verdict, at.moved) is)
-progress_stays other v old new g h p same one is = subst (λ x. IsProgress other v new x p) (one refl) is
+progress_stays phase v old new g h p same one is = search rules
 
 -- another unit
 pub unit_stays : (held held' : ℕ → Held) (v : UnitView) (old new : AdapterState) (seen : UnitSeen)
     → ((n : ℕ) (r : Request) → IsHeldFor v.drive.kind r (held n) → IsHeldFor v.drive.kind r (held' n))
     → (v.phase ≡ phases.Transferring → IsSameTransfer old new) → (is_waiting v.phase ≡ false → held (slot_in_hand v) ≡ held' (slot_in_hand v))
     → IsUnitSeen held v old seen → IsUnitSeen held' v new seen
-unit_stays held held' v old new seen kept same one is = record {
-  drive = is.drive;
-  table = is.table;
-  queue = match_kept held held' v.drive.kind kept v.queue seen.service.waiting is.queue;
-  stage = is.stage ∙ stage_stays v.phase v old new (hand_of seen) (head_of seen.service) same;
-  progress = progress_stays v.phase v old new (held (slot_in_hand v)) (held' (slot_in_hand v)) seen.progress same one is.progress;
-}
+unit_stays held held' v old new seen kept same one is = search (rules, match_kept, stage_stays, progress_stays)
 
 -- WHAT A DEED LEAVES, given what it leaves of its own unit and adapter.
 pub record Step (u : ℕ) (w : World) (s r : Replay) (scene : Scene) : Type 0 where
@@ -89,11 +74,8 @@ pub record Step (u : ℕ) (w : World) (s r : Replay) (scene : Scene) : Type 0 wh
   pub frames : r.frames ≡ scene.frames
   pub outstanding : r.outstanding ≡ outstanding_in (slice_set w.slots (slot_in_hand (unit_at w u)) (Some scene.held))
 
-either : {P : Type 0} (m n : ℕ) → (m ≡ n → P) → (m ≢ n → P) → P
-either m n same other = elim (eqb_tells m n) [
-  | inl is ↦ same is.1
-  | inr is ↦ other is.1
-]
+pub either : {P : Type 0} (m n : ℕ) → (m ≡ n → P) → (m ≢ n → P) → P
+either m n same other = search rules
 
 -- OTHERS are as they were, whatever the deed.
 pub same_adapter : (w : World) (u p : ℕ) (scene : Scene) → adapter_of u < length w.adapters → adapter_at (with_scene w u p scene) (adapter_of u) ≡ scene.adapter
@@ -125,24 +107,11 @@ module _ (u id : ℕ) (w : World) (s r : Replay) (scene : Scene) (sound : Sound 
       (λ other. subst (IsHeldFor kind q) (sym (other_held w u (slot_in_hand (unit_at w u)) n scene other)) is)
 
   own : IsUnitSeen (held_in (with_scene w u (slot_in_hand (unit_at w u)) scene)) scene.unit scene.adapter.state (r.units u)
-  own = record {
-    drive = step.core.drive;
-    table = step.core.table;
-    queue =
-        match_kept (held_in w) (held_in (with_scene w u (slot_in_hand (unit_at w u)) scene)) scene.unit.drive.kind (kept scene.unit.drive.kind)
-        scene.unit.queue (r.units u).service.waiting step.queue;
-    stage = step.core.stage;
-    progress = step.core.progress;
-  }
+  own = search (rules, match_kept, kept)
 
   own_there : IsUnitSeen (held_in (with_scene w u (slot_in_hand (unit_at w u)) scene)) (unit_at (with_scene w u (slot_in_hand (unit_at w u)) scene) u)
       (adapter_at (with_scene w u (slot_in_hand (unit_at w u)) scene) (adapter_of u)).state (r.units u)
-  own_there =
-      subst (λ v. IsUnitSeen (held_in (with_scene w u (slot_in_hand (unit_at w u)) scene)) v
-      (adapter_at (with_scene w u (slot_in_hand (unit_at w u)) scene) (adapter_of u)).state (r.units u))
-      (sym (own_unit w u (slot_in_hand (unit_at w u)) scene u_there))
-      (subst (λ (a : AdapterView). IsUnitSeen (held_in (with_scene w u (slot_in_hand (unit_at w u)) scene)) scene.unit a.state (r.units u))
-      (sym (same_adapter w u (slot_in_hand (unit_at w u)) scene a_there)) own)
+  own_there = search (rules, own_unit, u_there, same_adapter, a_there, own)
 
   same_at : (x : ℕ) → x ≢ u → (unit_at w x).phase ≡ phases.Transferring
       → IsSameTransfer (adapter_at w (adapter_of x)).state (adapter_at (with_scene w u (slot_in_hand (unit_at w u)) scene) (adapter_of x)).state

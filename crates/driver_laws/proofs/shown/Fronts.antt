@@ -1,9 +1,8 @@
 -- The front of a buffer, as the bytes of a read so far.
-use Rattle.std.proofs.Common.{◌≡◌, ◌<◌, ℕ, suc, ◌+◌, Bool, true, false, List, [], ◌∷◌, ◌++◌, take, length, refl, sym, ap, arith, ◌∙◌, append_assoc, append-nil}
+use Rattle.std.proofs.Common.{◌≡◌, ◌<◌, ℕ, suc, ◌+◌, Bool, true, false, List, [], ◌∷◌, ◌++◌, take, length, refl, sym, ap, arith, ◌∙◌, append_assoc, append-nil, rules}
 use Rattle.std.proofs.lemmas.List.{take-set, take_more_set, get_or-set_same}
 use Rattle.std.proofs.Math.Seq.{take-length}
-use Rattle.std.specs.Prelude.{if◌then◌else◌, bit_xor, slice_set}
-use Rattle.fire_code.specs.Repair.{burst_byte}
+use Rattle.std.specs.Prelude.{if◌then◌else◌, slice_set}
 use Rattle.driver_machine.specs.Repaired as machine
 use Rattle.trace_replay.specs.Packs.{repaired_from}
 use Rattle.driver_machine.specs.World.{Held, bytes_in, with_block_in, block_in}
@@ -35,7 +34,4 @@ front_whole h count reads size = rw (reads, sym size) (ap bytes_in (take-length 
 pub repaired_same : (i at pattern : ℕ) (bytes : List ℕ) → repaired_from i at pattern bytes ≡ machine.repaired_from i at pattern bytes
 unfolding machine.repaired_from
 repaired_same i at pattern [] = refl
-repaired_same i at pattern (b ∷ bytes) =
-    let one : i + 1 ≡ suc i = omega arith in
-    ap (λ ys. bit_xor b (burst_byte at pattern i) ∷ ys)
-    (ap (λ j. repaired_from j at pattern bytes) one ∙ repaired_same (suc i) at pattern bytes)
+repaired_same i at pattern (b ∷ bytes) = search (rules, repaired_same (suc i) at pattern bytes)

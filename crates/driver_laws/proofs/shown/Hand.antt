@@ -1,9 +1,10 @@
 -- The request in hand as it goes on: block by block, and where its segment changes.
-use Rattle.std.proofs.Common.{◌≡◌, ◌≢◌, inl, inr, ℕ, ◌<◌, ◌≤◌, ◌+◌, ◌-◌, Bool, true, false, List, [], length, Option, None, Some, refl, sym, ap, ◌∙◌, subst, arith, get_or-set_same, get_or-set_other}
+use Rattle.std.proofs.Common.{◌≡◌, ◌≢◌, inl, inr, ℕ, ◌<◌, ◌≤◌, ◌+◌, ◌-◌, Bool, true, false, List, [], length, Option, None, Some, refl, sym, ap, ◌∙◌, subst, arith, get_or-set_same, get_or-set_other, rules}
 use Rattle.std.specs.Prelude.{is_some, IsSome}
 use Rattle.std.proofs.lemmas.Bool.Decides.{eqb_tells}
 use Rattle.std.proofs.lemmas.Option.{none-some}
 use Rattle.std.proofs.lemmas.Bool.{true≢false}
+use borrow.Author.Count.{below_more}
 use Rattle.pack_geometry.specs.declared.DriveKind.{DriveKind}
 use Rattle.pack_geometry.specs.Pack.{Pack, block_at, written}
 use Rattle.pack_geometry.specs.Content.{bytes_at}
@@ -12,14 +13,14 @@ use Rattle.pack_geometry.specs.PackTable.{places_of}
 use Rattle.pack_geometry.specs.Homes.{home_of, content_of}
 use Rattle.pack_geometry.proofs.HomeWriteLaws.{content_same, content_other}
 use Rattle.hardware_table.specs.declared.Moved.{Moved}
-use Rattle.hardware_table.specs.declared.Moved.TheVariants.{Clean, Burst, Marked}
+use Rattle.hardware_table.specs.declared.Moved.TheVariants.{Clean, Burst}
 use Rattle.driver_machine.specs.Repaired.{repaired}
 use Rattle.main_memory.specs.Bytes.{filled}
 use Rattle.transfer_engine.specs.State.{TransferState}
 use Rattle.driver_laws.specs.rules.Machine.{Blocks}
 use Rattle.driver_machine.specs.World.{Held, block_in, with_block_in}
 use Rattle.driver_laws.specs.shown.Bytes.{map_done, asked_of, IsSureFor, IsForwarded, sector_for, IsStopped, HandBears}
-use Rattle.driver_laws.proofs.rules.Blocks.{and_false, not_done, none_done, next_done, other_done}
+use Rattle.driver_laws.proofs.rules.Blocks.{and_false, not_done, none_done, other_done}
 use Rattle.driver_laws.proofs.rules.Cleans.{none_below}
 
 -- THE MAP with what is done
@@ -33,22 +34,13 @@ pub map_read : (blocks : Blocks) (h : Held) (n b : ℕ) → h.write ≡ false �
 map_read blocks h n b reads = rw reads refl
 
 map_more : (blocks : Blocks) (h : Held) (n : ℕ) → h.write ≡ true → map_done blocks h (n + 1) (h.first + n) ≡ Some (filled 512 (block_in h n))
-map_more blocks h n writes = rw (writes, next_done h.first n) (ap (λ k. Some (filled 512 (block_in h k))) (back h.first n))
-  where
-    back : (first n : ℕ) → first + n - first ≡ n
-    back first n = omega arith
+map_more blocks h n writes = search rules
 
 map_other : (blocks : Blocks) (h : Held) (n b : ℕ) → b ≢ h.first + n → map_done blocks h (n + 1) b ≡ map_done blocks h n b
 map_other blocks h n b ne = rw (other_done h.first n b ne) refl
 
 not_itself : (k : ℕ) → k < k → ⊥
 not_itself k lt = omega (arith, lt)
-
-one_more : (P : ℕ → Type 0) (n k : ℕ) → k < n + 1 → ((j : ℕ) → j < n → P j) → P n → P k
-one_more P n k lt below here = elim (eqb_tells k n) [
-  | inl same ↦ subst P (sym same.1) here
-  | inr other ↦ below k (omega (arith, lt, other.1))
-]
 
 module _ (sure : ℕ → Type 0) (kind : DriveKind) (table : Option Table) (pack : Pack) (blocks : Blocks) where
   -- NOTHING IS DONE of a request, over a map that the homes hold
@@ -103,12 +95,7 @@ module _ (sure : ℕ → Type 0) (kind : DriveKind) (table : Option Table) (pack
 
     -- THE BUFFER goes to the adapter and back
     pub hand_bus : (on : Bool) → HandBears sure kind table pack blocks (record h { on_bus = on }) t done last
-    hand_bus on = record { homes = b.homes; usable = b.usable; read = b.read; forwarded = b.forwarded; stopped = stopped_bus last b.stopped }
-      where
-        stopped_bus : (v : Moved)
-            → IsStopped (IsSureFor sure kind table pack h) pack (sector_for kind t.index (h.first + done)) h done (blocks (h.first + done)) v
-            → IsStopped (IsSureFor sure kind table pack (record h { on_bus = on })) pack (sector_for kind t.index (h.first + done)) (record h { on_bus = on }) done (blocks (h.first + done)) v
-        stopped_bus v is = is
+    hand_bus on = search rules
 
     -- A BLOCK MORE of a read
     block_read : (bytes : List ℕ) → done < length h.blocks → block_in (with_block_in done bytes h) done ≡ bytes
@@ -122,7 +109,7 @@ module _ (sure : ℕ → Type 0) (kind : DriveKind) (table : Option Table) (pack
         → HandBears sure kind table pack blocks (with_block_in done bytes h) t (done + 1) Clean
     hand_read bytes reads inside usable gives = record {
       homes = λ c. b.homes c ∙ map_read blocks h done c reads ∙ sym (map_read blocks (with_block_in done bytes h) (done + 1) c reads);
-      usable = λ k lt. one_more (λ j. IsSome (blocks (h.first + j))) done k lt b.usable usable;
+      usable = λ k lt. below_more (λ j. IsSome (blocks (h.first + j))) done b.usable usable k lt;
       read = λ r sures k lt. elim (eqb_tells k done) [
         | inl same ↦ subst (λ j. block_in (with_block_in done bytes h) j ≡ asked_of h j (blocks (h.first + j))) (sym same.1) (block_read bytes inside ∙ gives sures)
         | inr other ↦ block_kept bytes k other.1 ∙ b.read reads sures k (omega (arith, lt, other.1))
@@ -154,7 +141,7 @@ module _ (sure : ℕ → Type 0) (kind : DriveKind) (table : Option Table) (pack
         | inr other ↦ content_other kind table pack (h.first + done) sector c (filled 512 (block_in h done)) long room home other.1
             ∙ b.homes c ∙ sym (map_other blocks h done c other.1)
       ];
-      usable = λ k lt. one_more (λ j. IsSome (blocks (h.first + j))) done k lt b.usable (ap is_some (next_home sector home));
+      usable = λ k lt. below_more (λ j. IsSome (blocks (h.first + j))) done b.usable (ap is_some (next_home sector home)) k lt;
       read = λ reads sures k lt. absurd (true≢false (sym writes ∙ reads));
       forwarded = λ i is. let at : IsForwarded kind table pack (h.first + t.done) i = b.forwarded i is in record { marked = at.marked; listed = at.listed };
       stopped = tt;
@@ -169,9 +156,7 @@ module _ (sure : ℕ → Type 0) (kind : DriveKind) (table : Option Table) (pack
 -- FEWER SECTORS are sure
 stopped_less : (sure less : Type 0) (pack : Pack) (sector : ℕ) (h : Held) (k : ℕ) (block : Option (List ℕ)) (v : Moved) → (less → sure) → IsStopped sure pack sector h k block v
     → IsStopped less pack sector h k block v
-stopped_less sure less pack sector h k block (Burst at q) fewer is = (is.0, λ l. is.1 (fewer l))
-stopped_less sure less pack sector h k block Marked fewer is = is
-stopped_less sure less pack sector h k block other fewer is = tt
+stopped_less sure less pack sector h k block v fewer is = search rules
 
 pub hand_less : (sure less : ℕ → Type 0) (kind : DriveKind) (table : Option Table) (pack : Pack) (blocks : Blocks) (h : Held) (t : TransferState) (done : ℕ) (last : Moved)
     → ((sector : ℕ) → less sector → sure sector) → HandBears sure kind table pack blocks h t done last → HandBears less kind table pack blocks h t done last

@@ -1,10 +1,8 @@
 -- Each line of the script that is played, and the lines of its event.
-use Rattle.std.proofs.Common.{◌≡◌, inl, ℕ, ◌<◌, Bool, true, false, ◌&&◌, List, [], ◌∷◌, length, refl, sym, ap, subst, ◌∙◌}
+use Rattle.std.proofs.Common.{◌≡◌, inl, ℕ, ◌<◌, Bool, true, false, ◌&&◌, List, [], ◌∷◌, length, refl, sym, ap, subst, ◌∙◌, rules}
 use Rattle.std.specs.Prelude.{if◌then◌else◌, nat_lt}
 use Rattle.pack_geometry.specs.Pack.{Pack}
 use Rattle.hardware_table.specs.Drive.{is_positioning}
-use Rattle.hardware_table.specs.declared.Work.{Work}
-use Rattle.hardware_table.specs.declared.Work.TheVariants as doing
 use Rattle.trace_replay.specs.Moments as moment
 use Rattle.trace_replay.specs.Moments.{Played}
 use Rattle.trace_replay.specs.Script as script
@@ -13,16 +11,13 @@ use Rattle.trace_replay.specs.Events.{is_no_line, Act, Done, Arriving, NothingTo
 use Rattle.trace_replay.specs.Events as event
 use Rattle.trace_replay.specs.Replay.{Replay, after_moment, act_of, event_of, is_drain}
 use Rattle.driver_machine.specs.declared.Phase.{Phase}
-use Rattle.driver_machine.specs.declared.Phase.TheVariants.{Waiting, Due}
-use Rattle.driver_machine.specs.declared.Task.{Task}
-use Rattle.driver_machine.specs.declared.Task.TheVariants.{Clear}
 use Rattle.driver_machine.specs.World.{World, UnitView, AdapterView, Held, adapter_of, unit_at, adapter_at, held_in, slot_in_hand}
 use Rattle.driver_machine.specs.Acts as deed
 use Rattle.driver_machine.specs.Acts.{Nothing, effect, scene_of, after}
 use Rattle.driver_machine.proofs.Measure.{is_resting}
 use Rattle.driver_machine.specs.Events.{in_hand, can_arrive, can_attend, or_nothing, attended, arrive_acts, attend_acts}
 use Rattle.driver_machine.specs.Guards.{IsSetUp}
-use Rattle.driver_machine.specs.Sound.{IsPhase, IsTask, is_waiting}
+use Rattle.driver_machine.specs.Sound.{IsPhase, is_waiting}
 use Rattle.driver_machine.proofs.DueFacts.{false_true}
 use Rattle.driver_machine.proofs.Until.{own_unit, resting}
 use Rattle.driver_machine.specs.Runs.{Run}
@@ -39,18 +34,9 @@ use Rattle.driver_laws.proofs.shown.Starting.{wish_resting, set_up}
 use Rattle.driver_laws.proofs.shown.Events.{is_told, attend_told, idle_told, can_attend_is}
 
 -- A DRIVE POSITIONS only in a step that is under way.
-still : {x : Work} → x ≡ doing.Ready → is_positioning x ≡ true → ⊥
-still is moves = false_true (sym (ap is_positioning is) ∙ moves)
-
-task_still : (task : Task) (u : ℕ) (v : UnitView) (h : Held) → IsTask v h task → v.drive.work ≡ doing.Ready
-task_still (Clear moved last) u v h is = is.1.work
-task_still other u v h is = is.1.work
-
 pub going_phase : (u : ℕ) (phase : Phase) (v : UnitView) (a : AdapterView) (h : Held) → IsPhase u v a h phase → is_positioning v.drive.work ≡ true
     → (is_waiting phase ≡ false) × (is_resting phase ≡ true)
-going_phase u Waiting v a h is moves = absurd (still is.0.work moves)
-going_phase u (Due task) v a h is moves = absurd (still (task_still task u v h is) moves)
-going_phase u other v a h is moves = (refl, refl)
+going_phase u phase v a h is moves = search rules
 
 -- a deed behind which its unit rests and nothing is still to come
 pub rest_over : (line : ℕ) (drains : Bool) (others : ℕ → UnitView) (raised u : ℕ) {w : World} {s : Replay}
@@ -103,19 +89,7 @@ arrive_told line u drains held w s lt rests packs can run =
 -- A LINE IS PLAYED that leaves the replay as it is, its event apart.
 pub played_rests : (e : Event) (held : ℕ → Pack) (w : World) (s : Replay) → Stands held w s → e.between ≡ false
     → Rests e.line e.drains e.act w (record s { event = e })
-played_rests e held w s stands begun = record {
-  sound = stands.sound;
-  shows = record {
-    units = stands.shows.units;
-    adapters = stands.shows.adapters;
-    ready = stands.shows.ready;
-    noise = stands.shows.noise;
-    frames = stands.shows.frames;
-    outstanding = stands.shows.outstanding;
-  };
-  event = record { line_is = refl; drains_is = refl; act_is = refl; work = subst (λ (b : Bool). Rattle.trace_replay.specs.Replay.WorkMay b (record s { event = e })) (sym begun) tt };
-  quiet = stands.quiet;
-}
+played_rests e held w s stands begun = search rules
 
 pub same_surface : (e : Event) (held : ℕ → Pack) (s : Replay) → IsSurfaceOf held s → IsSurfaceOf held (record s { event = e })
 same_surface e held s packs = record { sectors = packs.sectors; marks = packs.marks }

@@ -2,7 +2,7 @@
 use Rattle.std.proofs.Common.{◌≡◌, ℕ, List, [], ◌∷◌, ◌++◌, refl, ap, ◌∙◌}
 use Rattle.trace_replay.specs.Script.{Numbered}
 use Rattle.trace_replay.specs.Moments as moment
-use Rattle.trace_replay.specs.Moments.{Moment, Played, Told, Answered, played, answers_in}
+use Rattle.trace_replay.specs.Moments.{Moment, Played, played}
 use Rattle.driver_machine.specs.World.{World, held_in, slot_in_hand, unit_at}
 use Rattle.driver_machine.specs.Acts.{Act, Of, after}
 use Rattle.driver_machine.specs.Lines.{deed_told, lines_with, lines_of, lines_of_all}

@@ -1,19 +1,18 @@
 -- THE DATA INTERRUPT is taken: its line may be said, and what it leaves is shown.
-use Rattle.std.proofs.Common.{◌≡◌, ℕ, [], ◌-◌, Option, None, ◌==◌, ◌&&◌, ◌||◌, Bool, true, false, refl, sym, not, arith, ◌∙◌}
+use Rattle.std.proofs.Common.{◌≡◌, ℕ, [], ◌-◌, ◌==◌, ◌&&◌, ◌||◌, Bool, true, false, refl, not, arith, ◌∙◌, rules}
 use Rattle.hardware_table.specs.declared.Moved.{Moved}
 use Rattle.hardware_table.specs.declared.Moved.TheVariants.{Clean}
 use Rattle.hardware_table.specs.Adapter.{AdapterState, completed}
-use Rattle.trace_replay.specs.requests.Requests.{Request}
-use Rattle.trace_replay.specs.Replay.{UnitSeen, Replay, hand_of, at_unit, unit_after}
+use Rattle.trace_replay.specs.Replay.{UnitSeen, Replay, at_unit, unit_after}
 use Rattle.trace_replay.specs.Conversation as told
 use Rattle.trace_replay.specs.Moments as moment
 use Rattle.driver_machine.specs.declared.Phase.TheVariants.{Transferring, Due}
-use Rattle.driver_machine.specs.World.{World, UnitView, AdapterView, Held, slot_in_hand, transfer_of, drive_of, adapter_of, unit_at, adapter_at, held_in}
+use Rattle.driver_machine.specs.World.{World, UnitView, AdapterView, Held, slot_in_hand, drive_of, adapter_of, unit_at, adapter_at, held_in}
 use Rattle.driver_machine.specs.Guards.{InHand, IsBusyFor}
 use Rattle.driver_machine.specs.Acts.{in_phase, interrupted}
 use Rattle.driver_machine.specs.Acts as deed
 use Rattle.driver_machine.specs.Sound.{Sound}
-use Rattle.driver_laws.specs.shown.Stages.{stage_by, IsProgress, segment_seen, last_verdict, sectors_left, progress_stopped, progress_judged}
+use Rattle.driver_laws.specs.shown.Stages.{last_verdict, sectors_left}
 use Rattle.driver_laws.specs.shown.Shows.{IsAdapterSeen, Shows}
 use Rattle.driver_laws.proofs.shown.Told.{seen_told}
 use Rattle.driver_laws.specs.shown.Laws.{IsSaid}
@@ -23,39 +22,10 @@ use Rattle.driver_laws.proofs.shown.Plain.{ready_plain}
 use Rattle.driver_laws.proofs.shown.DeedFacts.{said_by, no}
 use Rattle.driver_laws.proofs.shown.Busy.{only_one, Moves, moves, kept_bus}
 
--- The stage behind it is that of the task that comes
-interrupted_stage : (last : Moved) (moved : ℕ) (v : UnitView) (c : AdapterState) (hand : told.Hand) (head : Option Request)
-    → told.interrupted_by last v.drive hand (segment_seen (transfer_of v))
-    ≡ stage_by (Due (interrupted moved last)) (in_phase (Due (interrupted moved last)) v) c hand head
-interrupted_stage Clean moved v c hand head = refl
-interrupted_stage other moved v c hand head = refl
-
-interrupted_progress : (last : Moved) (moved : ℕ) (v : UnitView) (c : AdapterState) (h : Held) (p : told.Progress)
-    → p ≡ progress_judged last moved (transfer_of v) h
-    → IsProgress (Due (interrupted moved last)) (in_phase (Due (interrupted moved last)) v) c (record h { on_bus = false }) p
-interrupted_progress Clean moved v c h p is = is
-interrupted_progress other moved v c h p is = is
-
 intr_core : (h : Held) (v : UnitView) (a : AdapterState) (seen : UnitSeen) (b : AdapterState) (moved : ℕ) (last : Moved)
     → Core h v a seen → v.phase ≡ Transferring → a.completion ≡ true → moved ≡ a.moved → last ≡ a.verdict
     → Core (record h { on_bus = false }) (in_phase (Due (interrupted moved last)) v) (completed a) (seen_told seen b moment.Intr [])
-intr_core h v a seen b moved last is phase over count end =
-    let stopped : seen.progress ≡ progress_stopped (last_verdict a) a.moved (transfer_of v) h = rw phase at is.progress in
-    let verdict : last_verdict a ≡ last = (rw over refl) ∙ sym end in
-    let stage : seen.stage ≡ told.Moving (segment_seen (transfer_of v)) (sectors_left a) (last_verdict a) = is.stage ∙ rw phase refl in
-    let judged : told.progress_interrupted (told.last_of seen.stage) seen.progress ≡ progress_judged last moved (transfer_of v) h =
-    rw (stage, stopped, verdict, count) refl in
-    record {
-      drive = is.drive;
-      table = is.table;
-      stage =
-          rw (stage, verdict, is.drive)
-          (interrupted_stage last moved v (completed a)
-          (record (hand_of seen) { kind = v.drive.kind; progress = told.progress_interrupted last seen.progress }) None);
-      progress =
-          interrupted_progress last moved v (completed a) h
-          (told.progress_interrupted (told.last_of seen.stage) seen.progress) judged;
-    }
+intr_core h v a seen b moved last is phase over count end = search rules
 
 or_true : (b : Bool) → b || true ≡ true
 or_true true = refl
@@ -74,19 +44,7 @@ intr_talk h v a seen is phase over =
     rw (is.stage, phase) (intr_may_by (last_verdict a) (sectors_left a) (λ clean. rw (clean, over clean) (none a.count)))
 
 intr_adapter : (a seen : AdapterState) → IsAdapterSeen a seen → IsAdapterSeen (completed a) (completed seen)
-intr_adapter a seen is = record {
-  busy = refl;
-  completion = refl;
-  drive = is.drive;
-  block = is.block;
-  count = is.count;
-  write = is.write;
-  moved = is.moved;
-  verdict = is.verdict;
-  late = refl;
-  attentions = is.attentions;
-  counted = λ busy. absurd (grind (arith, busy));
-}
+intr_adapter a seen is = search rules
 
 same_drive : (d : ℕ) → true && (d == d) && true ≡ true
 same_drive d = grind arith

@@ -1,14 +1,12 @@
 -- One part of an event behind another; and the lines of an event follow, in a drain too.
-use Rattle.std.proofs.Common.{◌≡◌, ℕ, ◌&&◌, Bool, true, false, List, [], ◌∷◌, ◌++◌, refl, sym, ap, subst, ◌∙◌}
-use Rattle.std.specs.Prelude.{if◌then◌else◌, nat_lt}
+use Rattle.std.proofs.Common.{◌≡◌, ℕ, false, List, [], ◌∷◌, ◌++◌, refl, sym, ap, subst, ◌∙◌, rules}
 use Rattle.pack_geometry.specs.Pack as model
-use Rattle.trace_replay.specs.Moments as moment
-use Rattle.trace_replay.specs.Moments.{Deed, Moment, Told}
-use Rattle.trace_replay.specs.Events.{Wish, wish_of, is_no_line}
-use Rattle.trace_replay.specs.Replay.{Replay, LineMay, ToldMay, MayCome, next_wish, told_after, after_moment, after_moments, drained, act_drained, Follows}
+use Rattle.trace_replay.specs.Moments.{Deed, Moment}
+use Rattle.trace_replay.specs.Events.{wish_of, is_no_line}
+use Rattle.trace_replay.specs.Replay.{Replay, LineMay, ToldMay, MayCome, next_wish, told_after, after_moment, after_moments, drained, Follows}
 use Rattle.driver_machine.specs.World.{World}
 use Rattle.driver_machine.specs.Acts.{Act, after, after_all}
-use Rattle.driver_machine.specs.Lines.{lines_of, lines_of_all}
+use Rattle.driver_machine.specs.Lines.{lines_of_all}
 use Rattle.driver_machine.specs.Events.{Part, followed}
 use Rattle.driver_laws.specs.answers.Packs.{packs_after, packs_after_all}
 use Rattle.driver_laws.proofs.invariant.Leads.{after_append}
@@ -61,50 +59,21 @@ then_tells P Q w s acts part first next = tells_append P Q w s acts (part (after
 
 pub tells_too : (P Q : World → Replay → Type 0) (w : World) (s : Replay) (acts : List Act) → Tells P w s acts
     → (P (after_all w acts) (within_all s (lines_of_all w acts)) → Q (after_all w acts) (within_all s (lines_of_all w acts))) → Tells Q w s acts
-tells_too P Q w s acts tells so = record {
-  follow = tells.follow;
-  holds = so tells.holds;
-  surface = tells.surface;
-  there = tells.there;
-  packs = tells.packs;
-}
+tells_too P Q w s acts tells so = search rules
 
 -- A LINE of a unit is no refusal, and some line.
 pub line_may : (s : Replay) (line unit id : ℕ) (deed : Deed) → LineMay s line unit id deed → ToldMay (wish_of unit deed) s line unit id deed
-line_may s line unit id moment.Arrive may = may
-line_may s line unit id (moment.Sector block verdict) may = may
-line_may s line unit id moment.Intr may = may
-line_may s line unit id moment.Attn may = may
-line_may s line unit id other may = may
+line_may s line unit id deed may = search rules
 
 pub line_after : (s : Replay) (unit : ℕ) (deed : Deed) → told_after (wish_of unit deed) s unit deed ≡ drained (told_within s unit deed)
-line_after s unit moment.Arrive = refl
-line_after s unit (moment.Sector block verdict) = refl
-line_after s unit moment.Intr = refl
-line_after s unit moment.Attn = refl
-line_after s unit other = refl
-
-some_line : (unit : ℕ) (deed : Deed) → is_no_line (wish_of unit deed) ≡ false
-some_line unit moment.Arrive = refl
-some_line unit (moment.Sector block verdict) = refl
-some_line unit moment.Intr = refl
-some_line unit moment.Attn = refl
-some_line unit other = refl
+line_after s unit deed = search rules
 
 -- where a line comes next a drain does not go on
 pub not_drained : (s : Replay) → is_no_line (next_wish s) ≡ false → drained s ≡ s
-not_drained s some = by_drain s.event.drains
-  where
-    by_drain : (drains : Bool)
-        → (if drains && (is_no_line (next_wish s) && nat_lt 0 s.outstanding) then record s { event = record s.event { between = true; act = act_drained s } } else s) ≡ s
-    by_drain true =
-        ap (λ (b : Bool). if b && nat_lt 0 s.outstanding then record s { event = record s.event { between = true; act = act_drained s } } else s) some
-    by_drain false = refl
+not_drained s some = search rules
 
 drained_not : (m : Moment) (s : Replay) → LineFollows s m → drained s ≡ s
-drained_not (Told line unit id deed) s may =
-    not_drained s (ap is_no_line may.wished ∙ some_line unit deed)
-drained_not other s may = absurd may
+drained_not m s may = search rules
 
 -- THE LINES FOLLOW, and behind the last one a drain goes on.
 pub record Followed (s : Replay) (ms : List Moment) : Type 0 where
@@ -112,11 +81,7 @@ pub record Followed (s : Replay) (ms : List Moment) : Type 0 where
   pub after : after_moments s ms ≡ drained_by ms (within_all s ms)
 
 one_line : (m : Moment) (s : Replay) → LineFollows s m → MayCome s m × (after_moment s m ≡ drained (within s m))
-one_line (Told line unit id deed) s may = (
-  subst (λ (wish : Wish). ToldMay wish s line unit id deed) (sym may.wished) (line_may s line unit id deed may),
-  ap (λ (wish : Wish). told_after wish s unit deed) may.wished ∙ line_after s unit deed,
-)
-one_line other s may = absurd may
+one_line m s may = search rules
 
 pub lines_follow : (ms : List Moment) (s : Replay) → LinesFollow s ms → Followed s ms
 lines_follow [] s follow = record { follows = tt; after = refl }

@@ -1,41 +1,33 @@
 -- A request joins: what is submitted and not refused.
-use Rattle.std.proofs.Common.{◌≡◌, ◌≢◌, inl, inr, ℕ, zero, suc, ◌+◌, ◌==◌, ◌<◌, Bool, true, false, not, List, [], ◌∷◌, length, Option, Some, None, refl, sym, ap, subst, arith, ◌∙◌, get_or-set_other}
+use Rattle.std.proofs.Common.{◌≡◌, ◌≢◌, ℕ, zero, suc, ◌+◌, ◌<◌, true, false, List, [], ◌∷◌, length, Option, Some, None, refl, sym, ap, subst, arith, ◌∙◌, get_or-set_other, rules}
 use Rattle.std.proofs.lemmas.List.{get_or-set_same}
 use Rattle.std.proofs.lemmas.List.Elements.{Contains-get_or}
-use Rattle.std.proofs.lemmas.Bool.Decides.{eqb_tells}
-use Rattle.std.specs.Prelude.{if◌then◌else◌, slice_set, slice_index_or, unwrap_or}
+use Rattle.std.specs.Prelude.{slice_set, slice_index_or, unwrap_or}
 use Rattle.pack_geometry.specs.declared.DriveKind.{DriveKind}
 use Rattle.pack_geometry.specs.Geometry.{place_at}
-use Rattle.hardware_table.specs.declared.Moved.{Moved}
-use Rattle.hardware_table.specs.declared.Moved.TheVariants as verdict
 use Rattle.hardware_table.specs.Drive.{DriveState}
 use Rattle.hardware_table.specs.Adapter.{AdapterState}
-use Rattle.trace_replay.specs.Schedule.{step_after}
-use Rattle.trace_replay.specs.declared.retry_offsets.Step.{Step}
-use Rattle.trace_replay.specs.declared.retry_offsets.Step.TheVariants as retry
 use Rattle.disksort.specs.declared.Waiter.{Waiter}
 use Rattle.trace_replay.specs.requests.ServiceOrder.{Waiting, Service, after_join, queue_with, IsInOrder}
 use Rattle.trace_replay.proofs.requests.ServiceOrderRuns.{IsService, after_join-waiting}
 use Rattle.trace_replay.proofs.requests.ServiceOrderLaws.{queue_with-head}
-use Rattle.trace_replay.specs.requests.Requests.{Request, Answer}
+use Rattle.trace_replay.specs.requests.Requests.{Request}
 use Rattle.trace_replay.specs.Service.{cylinder_of, service_joined, head_of, first_waiting, frames_needed}
 use Rattle.trace_replay.specs.Adapters as rule
 use Rattle.trace_replay.specs.Adapters.{AdapterSeen}
-use Rattle.trace_replay.specs.Moments as moment
 use Rattle.trace_replay.specs.Conversation as told
 use Rattle.trace_replay.specs.Replay.{UnitSeen, Replay, hand_of, at_unit, with_state, stage_joined, unit_joined, adapter_joined, joined_by}
 use Rattle.trace_replay.proofs.Kept.{head_stays}
 use Rattle.driver_machine.specs.declared.Phase.{Phase}
 use Rattle.driver_machine.specs.declared.Phase.TheVariants as phases
-use Rattle.driver_machine.specs.declared.Task.TheVariants as tasks
-use Rattle.driver_machine.specs.World.{World, UnitView, Held, adapter_of, no_unit, no_held, unit_at, adapter_at, slot_at, held_in, slot_in_hand, transfer_of}
+use Rattle.driver_machine.specs.World.{World, UnitView, Held, adapter_of, no_unit, no_held, unit_at, adapter_at, slot_at, held_in, slot_in_hand}
 use Rattle.driver_machine.specs.Acts.{Submit, after, joined, waiter_for}
 use Rattle.driver_machine.specs.Guards.{IsHeldFor, IsSetUp, IsNew}
 use Rattle.driver_machine.specs.Sound.{Sound, UnitOk, IsOutstanding, IsPhase, Among, is_waiting}
-use Rattle.driver_laws.specs.shown.Stages.{stage_by, segment_seen, IsProgress}
-use Rattle.driver_laws.specs.shown.Shows.{Match, IsUnitSeen, IsAdapterSeen, Shows, is_coming, with_coming, counted_by, outstanding_in}
+use Rattle.driver_laws.specs.shown.Stages.{stage_by, IsProgress}
+use Rattle.driver_laws.specs.shown.Shows.{Match, IsUnitSeen, IsAdapterSeen, Shows, is_coming, with_coming, outstanding_in}
 use Rattle.std.specs.List.{AllByRecursion}
-use Rattle.driver_laws.proofs.shown.Frame.{progress_stays, same_transfer}
+use Rattle.driver_laws.proofs.shown.Frame.{either, progress_stays, same_transfer}
 use Rattle.driver_laws.proofs.shown.Plain.{with_same}
 use Rattle.driver_laws.proofs.shown.AdapterQueues.{ready_goes, ready_stays, coming_is}
 use Rattle.driver_laws.proofs.shown.End.{frames_same}
@@ -44,49 +36,8 @@ use Rattle.trace_replay.proofs.Unchanged.{with_other}
 use Rattle.driver_laws.proofs.invariant.Frame.{adapter_of-small}
 
 -- A UNIT WITH A REQUEST is not seen as one that has none.
-continued_goes : (b : Bool) (answer : Answer) → told.is_waiting (if b then told.Ending answer else told.AtOnce told.OwnBlocks) ≡ false
-continued_goes true answer = refl
-continued_goes false answer = refl
-
-retried_goes : (st : Step) (cylinder done : ℕ) (segment : told.Segment) → told.is_waiting (told.retried st cylinder segment done) ≡ false
-retried_goes retry.Again cylinder done segment = refl
-retried_goes other cylinder done segment = refl
-
-forwarded_goes : (hand : told.Hand) (found : Option ℕ) → told.is_waiting (told.forwarded hand found) ≡ false
-forwarded_goes hand None = refl
-forwarded_goes hand (Some i) = refl
-
-marked_goes : (hand : told.Hand) (segment : told.Segment) → told.is_waiting (told.marked hand segment) ≡ false
-marked_goes hand told.OwnBlocks = forwarded_goes hand (told.entry_of hand (told.start_of told.OwnBlocks hand))
-marked_goes hand (told.Replacement block) = refl
-
-failed_goes : (hand : told.Hand) (segment : told.Segment) → told.is_waiting (told.failed hand segment) ≡ false
-failed_goes hand segment =
-    retried_goes (step_after hand.progress.failures (not (told.is_write hand))) (place_at hand.kind (told.start_of segment hand)).cylinder
-    hand.progress.done segment
-
-outcome_goes : (last : Moved) (hand : told.Hand) (segment : told.Segment) → told.is_waiting (told.outcome last hand segment) ≡ false
-outcome_goes verdict.Hard hand segment = failed_goes hand segment
-outcome_goes (verdict.Faulted kind) hand segment = failed_goes hand segment
-outcome_goes verdict.Marked hand segment = marked_goes hand segment
-outcome_goes verdict.Offline hand segment = refl
-outcome_goes other hand segment = continued_goes (hand.progress.done == hand.request.count) (told.ok_answer hand)
-
-saying_goes : (lines : List moment.Deed) (next : told.Stage) → told.is_waiting next ≡ false → told.is_waiting (told.saying lines next) ≡ false
-saying_goes [] next goes = goes
-saying_goes (line ∷ lines) next goes = refl
-
 stage_goes : (phase : Phase) (v : UnitView) (a : AdapterState) (hand : told.Hand) (r : Request) → told.is_waiting (stage_by phase v a hand (Some r)) ≡ false
-stage_goes phases.Waiting v a hand r = refl
-stage_goes (phases.Positioning taken) v a hand r = refl
-stage_goes phases.Queued v a hand r = refl
-stage_goes phases.Transferring v a hand r = refl
-stage_goes (phases.Due (tasks.Clear moved last)) v a hand r = refl
-stage_goes (phases.Due (tasks.Judge moved last)) v a hand r =
-    saying_goes _ (told.outcome last hand (segment_seen (transfer_of v))) (outcome_goes last hand (segment_seen (transfer_of v)))
-stage_goes (phases.Due (tasks.Steps taken)) v a hand r = refl
-stage_goes (phases.Due tasks.Command) v a hand r = refl
-stage_goes (phases.Due (tasks.GiveUp done)) v a hand r = refl
+stage_goes phase v a hand r = search rules
 
 joined_same : (stage : told.Stage) (d : DriveState) (r : Request) → told.is_waiting stage ≡ false → stage_joined stage d r ≡ stage
 joined_same told.Waiting d r goes = absurd (grind (arith, goes))
@@ -95,12 +46,6 @@ joined_same other d r goes = refl
 joined_waits : (stage : told.Stage) (d : DriveState) (r : Request) → told.waits stage ≡ true → told.waits (stage_joined stage d r) ≡ true
 joined_waits told.Waiting d r waits = absurd (grind (arith, waits))
 joined_waits other d r waits = waits
-
--- THE UNIT, where none waited, and where one did
-nothing_waits : (held : ℕ → Held) (kind : DriveKind) (queue : List Waiter) (waiting : List (Waiting Request)) → queue ≡ [] → Match held kind queue waiting → waiting ≡ []
-nothing_waits held kind [] [] none match = refl
-nothing_waits held kind [] (y ∷ ys) none match = absurd match
-nothing_waits held kind (x ∷ xs) waiting none match = absurd (grind (arith, none))
 
 abbrev slot_of : List Waiter → ℕ
 slot_of queue = (slice_index_or queue 0 (record { number = 0; cylinder = 0 })).number
@@ -129,22 +74,11 @@ stays_head c r held kind (x ∷ xs) (y ∷ ys) n is match some = record {
       ∙ head_stays c r n (y ∷ ys) is tt;
 }
 
-none_less : {P : Type 0} → 0 < 0 → P
-none_less e = absurd (omega (arith, e))
-
-waits_for : (phase : Phase) → (is_waiting phase ≡ false → 0 < 0) → phase ≡ phases.Waiting
-waits_for phases.Waiting goes = refl
-waits_for other goes = none_less (goes refl)
-
 joined_stage : (held : ℕ → Held) (v : UnitView) (a : AdapterState) (seen : UnitSeen) (r : Request) (queue : List Waiter) → IsUnitSeen held v a seen
     → IsService (cylinder_of seen.drive.kind) seen.service → v.queue ≡ queue → (is_waiting v.phase ≡ false → 0 < length v.queue)
     → stage_joined seen.stage seen.drive r
     ≡ stage_by v.phase v a (hand_of (unit_joined seen r)) (head_of (unit_joined seen r).service)
-joined_stage held v a seen r [] is sorted none head =
-    let waiting : seen.service.waiting ≡ [] = nothing_waits held v.drive.kind v.queue seen.service.waiting none is.queue in
-    let phase : v.phase ≡ phases.Waiting = waits_for v.phase (λ goes. subst (λ (q : List Waiter). 0 < length q) none (head goes)) in
-    let before : seen.stage ≡ told.Waiting = is.stage ∙ rw (phase, waiting) refl in
-    rw (before, phase, waiting, is.drive) refl
+joined_stage held v a seen r [] is sorted none head = search rules
 joined_stage held v a seen r (x ∷ xs) is sorted some head =
     let inside : 0 < length v.queue = subst (λ (q : List Waiter). 0 < length q) (sym some) (omega arith) in
     let stays : StaysHead seen.service (service_joined seen.drive.kind r seen.service) =
@@ -157,15 +91,7 @@ joined_stage held v a seen r (x ∷ xs) is sorted some head =
 -- what stays where the queue alone changes
 queue_stage : (phase : Phase) (v : UnitView) (q : List Waiter) (a : AdapterState) (hand : told.Hand) (head : Option Request)
     → stage_by phase v a hand head ≡ stage_by phase (record v { queue = q }) a hand head
-queue_stage phases.Waiting v q a hand head = refl
-queue_stage (phases.Positioning taken) v q a hand head = refl
-queue_stage phases.Queued v q a hand head = refl
-queue_stage phases.Transferring v q a hand head = refl
-queue_stage (phases.Due (tasks.Clear moved last)) v q a hand head = refl
-queue_stage (phases.Due (tasks.Judge moved last)) v q a hand head = refl
-queue_stage (phases.Due (tasks.Steps taken)) v q a hand head = refl
-queue_stage (phases.Due tasks.Command) v q a hand head = refl
-queue_stage (phases.Due (tasks.GiveUp done)) v q a hand head = refl
+queue_stage phase v q a hand head = search rules
 
 queue_progress : (phase : Phase) (v : UnitView) (q : List Waiter) (a : AdapterState) (h : Held) (n : told.Progress)
     → IsProgress phase v a h n → IsProgress phase (record v { queue = q }) a h n
@@ -179,18 +105,7 @@ outstanding_more [] p h free there going = absurd (omega (arith, there))
 outstanding_more (None ∷ slots) zero h free there going = rw going refl
 outstanding_more (Some x ∷ slots) zero h free there going = absurd (grind (arith, free))
 outstanding_more (None ∷ slots) (suc p) h free there going = outstanding_more slots p h free (omega (arith, there)) going
-outstanding_more (Some x ∷ slots) (suc p) h free there going =
-    counted x.ended (outstanding_in slots) (outstanding_in (slice_set slots p (Some h))) (outstanding_more slots p h free (omega (arith, there)) going)
-  where
-    counted : (b : Bool) (m n : ℕ) → m + 1 ≡ n → counted_by b m + 1 ≡ counted_by b n
-    counted true m n e = e
-    counted false m n e = ap (λ k. k + 1) e
-
-either : {P : Type 0} (m n : ℕ) → (m ≡ n → P) → (m ≢ n → P) → P
-either m n same other = elim (eqb_tells m n) [
-  | inl is ↦ same is.1
-  | inr is ↦ other is.1
-]
+outstanding_more (Some x ∷ slots) (suc p) h free there going = search (rules, (outstanding_more slots p h free (omega (arith, there)) going))
 
 -- the replay with a request that joined at a unit
 abbrev joined_at : Replay → Request → ℕ → Replay
@@ -342,13 +257,7 @@ module _ (line p : ℕ) (h : Held) (r : Request) (w : World) (s : Replay) (sound
   joined_ready : ((joined_at s r h.unit).adapters (adapter_of h.unit)).ready
       ≡ with_coming (is_coming (unit_at (after w (Submit line p h)) h.unit).phase ((joined_at s r h.unit).units h.unit).stage) h.unit
       (adapter_at w (adapter_of h.unit)).queue
-  joined_ready =
-      ap (λ (b : AdapterSeen). b.ready)
-      (with_same s.adapters (adapter_of h.unit) (adapter_joined (at_unit s h.unit) h.unit (unit_joined (s.units h.unit) r).stage))
-      ∙ ready_by (unit_at w h.unit).phase refl
-      ∙ ap (λ (v : UnitView). with_coming (is_coming v.phase (unit_joined (s.units h.unit) r).stage) h.unit (adapter_at w (adapter_of h.unit)).queue) (sym own_unit)
-      ∙ ap (λ (n : UnitSeen). with_coming (is_coming (unit_at (after w (Submit line p h)) h.unit).phase n.stage) h.unit (adapter_at w (adapter_of h.unit)).queue)
-      (sym (with_same s.units h.unit (unit_joined (s.units h.unit) r)))
+  joined_ready = search (rules, with_same, ready_by, own_unit)
 
   adapter_there : (a : ℕ) → a < 4 → IsAdapterSeen (adapter_at w a).state ((joined_at s r h.unit).adapters a).state
   adapter_there a small =

@@ -1,8 +1,8 @@
 -- How long images get, call by call.
-use Rattle.std.proofs.Common.{◌≡◌, inl, inr, ℕ, ◌+◌, ◌-◌, ◌*◌, ◌==◌, ◌≤◌, ◌&&◌, nat_lt, Bool, true, false, not, List, [], ◌∷◌, ◌++◌, take, drop, length, refl, sym, ap, subst, arith, ◌∙◌, append-nil}
+use Rattle.std.proofs.Common.{◌≡◌, ℕ, ◌+◌, ◌-◌, ◌==◌, ◌≤◌, ◌&&◌, nat_lt, Bool, true, false, not, List, [], ◌∷◌, ◌++◌, take, drop, length, refl, sym, ap, subst, arith, ◌∙◌, append-nil, rules}
 use Rattle.std.specs.Prelude.{if◌then◌else◌}
 use Rattle.std.proofs.lemmas.Bool.{false≢true}
-use Rattle.std.proofs.lemmas.Bool.Decides.{eqb_tells, nat_tests}
+use Rattle.std.proofs.lemmas.Bool.Decides.{eqb_tells}
 use Rattle.std.proofs.lemmas.Grind.{common_steps}
 use Rattle.std.proofs.lemmas.List.{length-replicate, length-append}
 use Rattle.main_memory.specs.Bytes.{filled}
@@ -17,7 +17,7 @@ use Rattle.trace_replay.specs.Events.{Event, is_no_line}
 use Rattle.trace_replay.specs.Replay.{Replay, after_moment, after_moments, drained, act_drained, next_wish}
 use Rattle.driver_machine.specs.World.{World, unit_at, adapter_at, unit_of, held_in, slot_in_hand}
 use Rattle.driver_machine.specs.Acts as deed
-use Rattle.driver_machine.specs.Acts.{Act, Refuse, Submit, Of, Change, Nothing, Taken, Tried, after}
+use Rattle.driver_machine.specs.Acts.{Act, Submit, Nothing, Tried, after}
 use Rattle.driver_machine.specs.Lines.{lines_of, lines_of_all}
 use Rattle.driver_machine.specs.Events.{submit_acts, event_acts, move_acts, in_hand, or_nothing, can_move}
 use Rattle.driver_machine.specs.Sound.{Sound}
@@ -43,28 +43,14 @@ length_put at bytes whole inside = grind (arith, common_steps)
 
 length_window : (at : ℕ) (bytes image : List ℕ) → length (with_window at bytes image) ≡ length image + (at + length bytes - length image)
 unfolding with_window
-length_window at bytes image =
-    length_put at bytes (grown image (at + length bytes)) (by_grown (length image) (at + length bytes) (length (grown image (at + length bytes))) (length_grown image (at + length bytes)))
-    ∙ length_grown image (at + length bytes)
-  where
-    by_grown : (l n g : ℕ) → g ≡ l + (n - l) → n ≤ g
-    by_grown l n g e = omega (arith, e)
+length_window at bytes image = search (rules, length_put, length_grown)
 
 reaches : (long end : ℕ) → long + (end - long) ≡ (if nat_lt long end then end else long)
-reaches long end = at (nat_lt long end) refl
-  where
-    at : (b : Bool) → nat_lt long end ≡ b → long + (end - long) ≡ (if b then end else long)
-    at true e = grind (arith, nat_tests)
-    at false e = grind (arith, nat_tests)
+reaches long end = search rules
 
 pub length_block : (image bytes : List ℕ) (block : ℕ) → length bytes ≡ 512 → length (with_block image block bytes) ≡ reaching (length image) block
 unfolding with_block
-length_block image bytes block whole =
-    length_window (512 * block) bytes image ∙ ap (λ (n : ℕ). length image + (512 * block + n - length image)) whole
-    ∙ ap (λ (n : ℕ). length image + (n - length image)) (next block) ∙ reaches (length image) (512 * (block + 1))
-  where
-    next : (b : ℕ) → 512 * b + 512 ≡ 512 * (b + 1)
-    next b = omega arith
+length_block image bytes block whole = search (rules, length_window, reaches)
 
 -- MOMENTS one behind the other
 pub long_append : (s : Replay) (ms ns : List Moment) (unit long : ℕ) → length_behind s (ms ++ ns) unit long ≡ length_behind (after_moments s ms) ns unit (length_behind s ms unit long)
@@ -89,13 +75,7 @@ none_behind [] ns none = none
 none_behind (m ∷ ms) ns none = none_behind ms ns none.1
 
 quiet_act : (w : World) (act : Act) (rest : List Moment) (held : ℕ → Pack) → AreNoSectors (lines_of w act ++ rest) → packs_after w held act ≡ held
-quiet_act w (Of line u id (deed.Sector block t)) rest held none = absurd none.0
-quiet_act w (Of line u id other) rest held none = refl
-quiet_act w (Refuse line r kind) rest held none = refl
-quiet_act w (Submit line p h) rest held none = refl
-quiet_act w (Change input) rest held none = refl
-quiet_act w (Nothing line) rest held none = refl
-quiet_act w Taken rest held none = refl
+quiet_act w act rest held none = search rules
 
 quiet_packs : (w : World) (acts : List Act) (held : ℕ → Pack) → AreNoSectors (lines_of_all w acts) → packs_after_all w held acts ≡ held
 quiet_packs w [] held none = refl
@@ -114,15 +94,7 @@ quiet_acts s w held acts unit none =
 -- one sector that is tried
 written_long : (given : Bool) (held : ℕ → Pack) (u block unit : ℕ) (bytes : List ℕ) → (given ≡ true → length bytes ≡ 512)
     → length ((if given then with_written held u block bytes else held) unit).image ≡ (if (unit == u) && given then reaching (length (held unit).image) block else length (held unit).image)
-written_long false held u block unit bytes whole = at (unit == u)
-  where
-    at : (b : Bool) → length (held unit).image ≡ (if b && false then reaching (length (held unit).image) block else length (held unit).image)
-    at true = refl
-    at false = refl
-written_long true held u block unit bytes whole = elim (eqb_tells unit u) [
-  | inl is ↦ rw is.0 (ap (λ (x : ℕ). length (with_block (held x).image block bytes)) (sym is.1) ∙ length_block (held unit).image bytes block (whole refl))
-  | inr differ ↦ rw differ.0 refl
-]
+written_long given held u block unit bytes whole = search (rules, eqb_tells, length_block)
 
 sector_long : (s : Replay) (w : World) (held : ℕ → Pack) (line u block : ℕ) (t : Tried) (unit : ℕ) → Sound w → (s.units u).drive ≡ (unit_at w u).drive
     → Run w (deed_at line u (deed.Sector block t) w ∷ []) → ActsAreLong s w held (deed_at line u (deed.Sector block t) w ∷ []) unit
@@ -171,25 +143,13 @@ event_long s w held line other t unit sound shows run = still_acts s w held line
 
 -- another event is seen over the same world
 pub same_shown : (w : World) (s : Replay) (e : Event) → ShowsAll w s → ShowsAll w (record s { event = e })
-same_shown w s e is = record {
-  units = is.units;
-  adapters = is.adapters;
-  ready = is.ready;
-  noise = is.noise;
-  frames = is.frames;
-  outstanding = is.outstanding;
-}
+same_shown w s e is = search rules
 
 -- BEHIND MOMENTS
 behind_long : (start : Replay) (moments opening : List Moment) (old held : ℕ → Pack) (w : World) (acts : List Act)
     → AreNoSectors opening → ((unit : ℕ) → ActsAreLong (after_moments (after_moments start moments) opening) w held acts unit) → AreAsLong start moments old held
     → AreAsLong start (moments ++ (opening ++ lines_of_all w acts)) old (packs_after_all w held acts)
-behind_long start moments opening old held w acts quiet long before unit =
-    long unit
-    ∙ ap (λ (n : ℕ). length_behind (after_moments (after_moments start moments) opening) (lines_of_all w acts) unit n)
-    (before unit ∙ sym (quiet_long (after_moments start moments) opening unit (length_behind start moments unit (length (old unit).image)) quiet))
-    ∙ sym (long_append (after_moments start moments) opening (lines_of_all w acts) unit (length_behind start moments unit (length (old unit).image)))
-    ∙ sym (long_append start moments (opening ++ lines_of_all w acts) unit (length (old unit).image))
+behind_long start moments opening old held w acts quiet long before unit = search (rules, quiet_long, long_append)
 
 pub events_keep_lengths : EventsKeepLengths
 events_keep_lengths start moments old held w next input tried sound shows run before =

@@ -1,10 +1,9 @@
 -- Noise that is live flips places of a sector.
-use Rattle.std.proofs.Common.{◌≡◌, ℕ, Bool, true, false, not, List, [], ◌∷◌, ◌++◌, filter, Option, Some, None, refl, sym, ap, subst, arith, ◌∙◌}
+use Rattle.std.proofs.Common.{◌≡◌, ℕ, Bool, true, false, List, [], ◌∷◌, ◌++◌, filter, Option, Some, None, refl, arith, rules}
 use Rattle.std.specs.Prelude.{if◌then◌else◌}
 use Rattle.fire_code.specs.Burst.{IsPlaces}
-use Rattle.hardware_table.specs.declared.NoiseSpan.{NoiseSpan}
 use Rattle.hardware_table.specs.Moves.{was_read}
-use Rattle.hardware_table.specs.Noise.{LiveNoise, Book, is_at, is_behind, is_ended_by, is_spent, sector_number, with_noise, span_left, noise_left, oldest, flips, strikes, after_strike, book_struck}
+use Rattle.hardware_table.specs.Noise.{LiveNoise, Book, is_at, is_ended_by, with_noise, oldest, flips, strikes, after_strike, book_struck}
 use Rattle.trace_replay.specs.Script as script
 use Rattle.trace_replay.specs.Script.{Input}
 use Rattle.driver_machine.specs.World.{World, slot_in_hand, unit_at}
@@ -31,23 +30,11 @@ either false xs ys one other = other
 
 -- noise that is armed, and noise that strikes
 flip_with : (noise : LiveNoise) (live : List LiveNoise) → IsPlaces noise.places → AllFlip live → AllFlip (with_noise noise live)
-flip_with noise live one all =
-    either (is_spent noise.span) live _ all
-    (flip_append (filter (λ (other : LiveNoise). not (is_behind (sector_number noise.unit noise.block) other)) live)
-    (noise ∷ filter (is_behind (sector_number noise.unit noise.block)) live)
-    (flip_filter (λ (other : LiveNoise). not (is_behind (sector_number noise.unit noise.block) other)) live all)
-    (one, flip_filter (is_behind (sector_number noise.unit noise.block)) live all))
-
-flip_left : (noise : LiveNoise) (span : Option NoiseSpan) → IsPlaces noise.places → AllFlip (noise_left noise span)
-flip_left noise None one = tt
-flip_left noise (Some span) one = (one, tt)
+flip_with noise live one all = search (rules, either, flip_append, filter, flip_filter)
 
 flip_struck : (unit block word : ℕ) (live : List LiveNoise) → AllFlip live → AllFlip (after_strike unit block word live)
 flip_struck unit block word [] all = tt
-flip_struck unit block word (noise ∷ rest) all =
-    either (is_at unit block noise) (noise_left noise (span_left word noise.span) ++ rest) (noise ∷ after_strike unit block word rest)
-    (flip_append (noise_left noise (span_left word noise.span)) rest (flip_left noise (span_left word noise.span) all.0) all.1)
-    (all.0, flip_struck unit block word rest all.1)
+flip_struck unit block word (noise ∷ rest) all = search (rules, flip_struck unit block word rest all.1)
 
 -- EACH ACT
 book_by : (read : Bool) (unit block word : ℕ) (book : Book) → AllFlip book.live → AllFlip (if read then book_struck unit block word book else book).live
@@ -75,19 +62,12 @@ pub none_at_start : NoneAtStart
 none_at_start setups outstanding noises = tt
 
 -- WHAT IS STRUCK
-some_same : {x y : List ℕ} → Some x ≡ Some y → x ≡ y
-some_same e = grind (arith, e)
-
 none_some : {x : List ℕ} → None ≡ Some x → ⊥
 none_some e = grind (arith, e)
 
 found_flips : (at ended : Bool) (noise : LiveNoise) (word : ℕ) (later : Option LiveNoise) (places : List ℕ) → is_ended_by word noise.span ≡ ended
     → IsPlaces noise.places → (flips word later ≡ Some places → IsPlaces places) → flips word (if at then Some noise else later) ≡ Some places → IsPlaces places
-found_flips true true noise word later places is one rest e =
-    absurd (none_some (sym (ap (λ (b : Bool). if b then None else Some noise.places) is) ∙ e))
-found_flips true false noise word later places is one rest e =
-    subst IsPlaces (some_same (sym (ap (λ (b : Bool). if b then None else Some noise.places) is) ∙ e)) one
-found_flips false ended noise word later places is one rest e = rest e
+found_flips at ended noise word later places is one rest e = search rules
 
 struck_flips : (unit block word : ℕ) (live : List LiveNoise) (places : List ℕ) → AllFlip live → strikes unit block word live ≡ Some places → IsPlaces places
 struck_flips unit block word [] places all e = absurd (none_some e)

@@ -1,5 +1,5 @@
 -- The event that a drain goes on with is the same in the replay and in the machine.
-use Rattle.std.proofs.Common.{◌≡◌, ℕ, zero, suc, ◌+◌, ◌<◌, ◌≤◌, Bool, true, false, not, ◌&&◌, filter, List, [], ◌∷◌, length, get_or, Option, Some, None, refl, sym, ap, arith, ◌∙◌}
+use Rattle.std.proofs.Common.{◌≡◌, ℕ, zero, suc, ◌+◌, ◌<◌, ◌≤◌, Bool, true, false, not, ◌&&◌, filter, List, [], ◌∷◌, length, get_or, Option, Some, None, refl, sym, ap, arith, ◌∙◌, rules}
 use Rattle.std.specs.Prelude.{if◌then◌else◌, find}
 use Rattle.hardware_table.specs.Drive.{DriveState, is_positioning}
 use Rattle.trace_replay.specs.Script.{Input}
@@ -7,15 +7,13 @@ use Rattle.trace_replay.specs.Adapters as told
 use Rattle.trace_replay.specs.Events as event
 use Rattle.trace_replay.specs.Events.{adapters_there, act_of_attend, act_of_move, act_of_arrival}
 use Rattle.trace_replay.specs.Replay.{Replay, all_units, act_drained}
-use Rattle.driver_machine.specs.World.{World, AdapterView, adapter_of, unit_at, adapter_at, held_in, slot_in_hand, no_unit, new_adapter_view}
+use Rattle.driver_machine.specs.World.{World, AdapterView, unit_at, adapter_at, no_unit, new_adapter_view}
 use Rattle.driver_machine.specs.Events.{can_arrive, can_move, can_attend, lowest, drain_by, next_event}
 use Rattle.driver_machine.specs.Sound.{Sound}
 use Rattle.driver_laws.specs.shown.Within.{ShowsAll}
 use Rattle.driver_laws.specs.shown.Calls.{AreThere}
 use Rattle.driver_laws.proofs.shown.Named.{act_named}
-use Rattle.driver_laws.proofs.shown.Starting.{set_up}
 use Rattle.driver_laws.proofs.shown.Events.{can_attend_is}
-use Rattle.driver_laws.proofs.shown.Inputs.{going_phase}
 
 -- so many numbers from n on
 range : ℕ → ℕ → List ℕ
@@ -40,13 +38,7 @@ first_same p q n (suc k) same =
 
 filtered : (b : Bool) (p there q : ℕ → Bool) (n : ℕ) (rest : List ℕ) → there n ≡ b → (b ≡ true → p n ≡ q n) → (b ≡ false → q n ≡ false)
     → find p (filter there rest) ≡ find q rest → find p (filter there (n ∷ rest)) ≡ find q (n ∷ rest)
-filtered true p there q n rest is same none later =
-    ap (λ (b : Bool). find p (if b then n ∷ filter there rest else filter there rest)) is
-    ∙ ap (λ (b : Bool). if b then Some n else find p (filter there rest)) (same refl)
-    ∙ ap (λ (o : Option ℕ). if q n then Some n else o) later
-filtered false p there q n rest is same none later =
-    ap (λ (b : Bool). find p (if b then n ∷ filter there rest else filter there rest)) is
-    ∙ later ∙ sym (ap (λ (b : Bool). if b then Some n else find q rest) (none refl))
+filtered b p there q n rest is same none later = search rules
 
 first_there : (p there q : ℕ → Bool) (n k : ℕ) → ((x : ℕ) → n ≤ x → x < n + k → there x ≡ true → p x ≡ q x)
     → ((x : ℕ) → n ≤ x → x < n + k → there x ≡ false → q x ≡ false) → find p (filter there (range n k)) ≡ find q (range n k)
@@ -71,10 +63,7 @@ lowest_first can d (x ∷ xs) n q same =
 
 -- THE UNITS that position
 arrive_set_up : (w : World) (u : ℕ) → Sound w → u < 32 → can_arrive (unit_at w u) ≡ true → (unit_at w u).declared ≡ true
-arrive_set_up w u sound lt can =
-    (set_up w u sound lt ((sound.each_unit u lt).head
-    (going_phase u (unit_at w u).phase (unit_at w u) (adapter_at w (adapter_of u)) (held_in w (slot_in_hand (unit_at w u)))
-    (sound.each_unit u lt).phase can).0)).declared
+arrive_set_up w u sound lt can = search rules
 
 not_there : (b c : Bool) → (b ≡ true → c ≡ true) → c ≡ false → b ≡ false
 not_there true c holds off = sym (holds refl) ∙ off

@@ -1,13 +1,10 @@
 -- RCOM AND WCOM: the drive takes them, their line may be said, and what they leave is shown.
-use Rattle.std.proofs.Common.{◌≡◌, inl, inr, ◌<◌, ℕ, [], ◌-◌, Some, ◌*◌, ◌&&◌, Bool, true, false, refl, ap, subst, arith, ◌∙◌}
+use Rattle.std.proofs.Common.{◌≡◌, inl, inr, ◌<◌, ℕ, [], Some, ◌&&◌, Bool, true, false, refl, ap, subst, ◌∙◌, rules}
 use Rattle.pack_geometry.specs.declared.Place.{Place}
 use Rattle.pack_geometry.specs.Geometry.{place_at, block_count, IsInside}
-use Rattle.drive_registers.specs.Bits as bits
-use Rattle.hardware_table.specs.declared.Moved.TheVariants.{Clean}
 use Rattle.hardware_table.specs.declared.Work.TheVariants as work
-use Rattle.hardware_table.specs.Adapter.{AdapterState, bytes_between, loaded, started}
-use Rattle.hardware_table.specs.Drive.{DriveState, on}
-use Rattle.hardware_table.specs.Functions.{is_addressed}
+use Rattle.hardware_table.specs.Adapter.{AdapterState, loaded, started}
+use Rattle.hardware_table.specs.Drive.{DriveState}
 use Rattle.transfer_engine.specs.declared.job.Job.{Job}
 use Rattle.transfer_engine.specs.declared.job.Segment.{Segment}
 use Rattle.transfer_engine.specs.State as engine
@@ -25,7 +22,6 @@ use Rattle.driver_machine.specs.Acts.{going_to, transferring, commanded}
 use Rattle.driver_machine.specs.Acts as deed
 use Rattle.driver_machine.specs.Sound.{Sound, IsPhase, IsBegun, IsStill}
 use Rattle.driver_machine.specs.DueFacts.{IsAtCommand, MayGo}
-use Rattle.driver_laws.specs.shown.Stages.{segment_seen}
 use Rattle.driver_laws.specs.shown.Shows.{IsAdapterSeen, is_coming, Shows}
 use Rattle.driver_laws.proofs.shown.Told.{seen_told}
 use Rattle.driver_laws.specs.shown.Laws.{IsSaid}
@@ -36,27 +32,13 @@ use Rattle.driver_laws.proofs.shown.AdapterQueues.{without_coming}
 use Rattle.driver_laws.proofs.shown.DeedFacts.{said_by, no}
 use Rattle.driver_laws.proofs.shown.Drives.{segment_below}
 use Rattle.driver_laws.proofs.shown.Busy.{busy_with, kept_bus}
-use Rattle.driver_laws.proofs.invariant.Drives.{no_bits, place_inside, is_addressed-addressed}
-
-whole : (n : ℕ) → n ≡ n - 0
-whole n = omega arith
+use Rattle.driver_laws.proofs.invariant.Drives.{place_inside}
 
 transfer_core : (h : Held) (u : ℕ) (v : UnitView) (a : AdapterState) (seen : UnitSeen) (b : AdapterState) (write : Bool) (segment : Segment)
     → Core h v a seen → IsAtCommand v.phase
     → Core (record h { on_bus = true }) (going_to Transferring (transferring write segment.block) v) (commanded u h write segment a)
     (seen_told seen b (moment.Transfer write segment.block segment.count) [])
-transfer_core h u v a seen b write segment is (inl phase) = record {
-  drive = rw is.drive refl;
-  table = is.table;
-  stage = rw (is.stage, phase) (ap (λ n. told.Moving (segment_seen (transfer_of v)) n Clean) (whole segment.count));
-  progress = rw phase at is.progress;
-}
-transfer_core h u v a seen b write segment is (inr phase) = record {
-  drive = rw is.drive refl;
-  table = is.table;
-  stage = rw (is.stage, phase) (ap (λ n. told.Moving (segment_seen (transfer_of v)) n Clean) (whole segment.count));
-  progress = rw phase at is.progress;
-}
+transfer_core h u v a seen b write segment is h0 = search rules
 
 transfer_talk : (h : Held) (v : UnitView) (a : AdapterState) (seen : UnitSeen) → Core h v a seen → IsHead h v.drive.kind seen → IsBegun v h
     → IsAtCommand v.phase → MayGo h.write v.drive
@@ -67,31 +49,14 @@ transfer_talk h v a seen is head begun at go =
     ∙ ap Some (guarded_command seen.drive (hand_of seen) _
     (record { online = rw is.drive go.online; unlocked = rw is.drive go.unlocked; valid = rw is.drive go.valid }))
 
-whole_bytes : (count : ℕ) → bytes_between count 512 0 count ≡ 512 * count - 512 * 0
-whole_bytes count = grind (arith)
-
 transfer_adapter : (u : ℕ) (h : Held) (write : Bool) (segment : Segment) (a seen : AdapterState) → IsAdapterSeen a seen
     → IsAdapterSeen (commanded u h write segment a)
     (started (drive_of u) segment.block write (loaded [] 0 segment.count 512 0 segment.count seen))
-transfer_adapter u h write segment a seen is = record {
-  busy = refl;
-  completion = refl;
-  drive = refl;
-  block = refl;
-  count = refl;
-  write = refl;
-  moved = refl;
-  verdict = is.verdict;
-  late = refl;
-  attentions = is.attentions;
-  counted = λ busy. whole_bytes segment.count;
-}
+transfer_adapter u h write segment a seen is = search rules
 
 transfer_taken : (write : Bool) (d : DriveState) (place : Place) → d.work ≡ work.Ready → d.online ≡ true → write && d.locked ≡ false
     → IsInside d.kind place → takes (transfer_function write) (addressed place d) ≡ true
-transfer_taken true d place still online unlocked at =
-    rw (still, online, no_bits (is_addressed (addressed place d)) d.locked bits.invalid_address_error bits.write_lock_error (is_addressed-addressed d place at) unlocked) refl
-transfer_taken false d place still online unlocked at = rw (still, online, is_addressed-addressed d place at) refl
+transfer_taken write d place still online unlocked at = search rules
 
 command_still : (u : ℕ) (v : UnitView) (a : AdapterView) (h : Held) → IsAtCommand v.phase → IsPhase u v a h v.phase → IsBegun v h × IsStill v.drive
 command_still u v a h (inl phase) is = let task : IsPhase u v a h (Due Command) = subst (IsPhase u v a h) phase is in (task.0, task.1)

@@ -1,10 +1,10 @@
 -- A move: one sector is tried, and the surface stays what the packs hold.
-use Rattle.std.proofs.Common.{◌≡◌, ◌≢◌, ◌⊎◌, inl, inr, ℕ, ◌+◌, ◌-◌, ◌==◌, ◌<◌, ◌≤◌, Bool, true, false, not, ◌&&◌, List, [], ◌∷◌, ◌++◌, take, length, refl, sym, ap, subst, arith, ◌∙◌}
+use Rattle.std.proofs.Common.{◌≡◌, inl, ℕ, ◌+◌, ◌-◌, ◌==◌, ◌<◌, ◌≤◌, Bool, true, false, not, ◌&&◌, List, [], ◌∷◌, ◌++◌, take, length, refl, sym, ap, subst, arith, ◌∙◌, rules}
 use Rattle.std.specs.Prelude.{if◌then◌else◌, replicate}
 use Rattle.std.proofs.lemmas.Bool.Decides.{eqb_tells}
 use Rattle.std.proofs.lemmas.List.{take-replicate}
 use Rattle.std.proofs.Math.Seq.{take-append-add}
-use Rattle.pack_geometry.specs.Pack.{Pack, block_at, is_marked, with_written, written, with_block}
+use Rattle.pack_geometry.specs.Pack.{Pack, block_at, is_marked, with_written}
 use Rattle.pack_geometry.proofs.PackLaws.{block_at-with_block_same, block_at-with_block_other}
 use Rattle.main_memory.specs.Bytes.{filled}
 use Rattle.main_memory.proofs.ByteLaws.{length-filled}
@@ -65,33 +65,10 @@ cut_filled size bytes few =
 written_sector : (held : ℕ → Pack) (sectors : ℕ → ℕ → List ℕ) (u block : ℕ) (bytes : List ℕ) → length bytes ≡ 512
     → ((x b : ℕ) → sectors x b ≡ block_at (held x).image b)
     → (x b : ℕ) → this_sector_or ((x == u) && (b == block)) bytes sectors x b ≡ block_at (with_written held u block bytes x).image b
-written_sector held sectors u block bytes long same x b = by_unit (eqb_tells x u)
-  where
-    by_block : x ≡ u → ((b == block ≡ true) × (b ≡ block)) ⊎ ((b == block ≡ false) × (b ≢ block))
-        → this_sector_or (true && (b == block)) bytes sectors x b ≡ block_at (written (held u) block bytes).image b
-    by_block is (inl here) =
-        ap (λ (t : Bool). this_sector_or t bytes sectors x b) here.0
-        ∙ sym (ap (λ (k : ℕ). block_at (with_block (held u).image block bytes) k) here.1 ∙ block_at-with_block_same (held u).image bytes block long)
-    by_block is (inr other) =
-        ap (λ (t : Bool). this_sector_or t bytes sectors x b) other.0 ∙ same x b ∙ ap (λ (k : ℕ). block_at (held k).image b) is
-        ∙ sym (block_at-with_block_other (held u).image bytes block b long other.1)
-
-    by_unit : ((x == u ≡ true) × (x ≡ u)) ⊎ ((x == u ≡ false) × (x ≢ u))
-        → this_sector_or ((x == u) && (b == block)) bytes sectors x b ≡ block_at (with_written held u block bytes x).image b
-    by_unit (inl here) =
-        ap (λ (t : Bool). this_sector_or (t && (b == block)) bytes sectors x b) here.0 ∙ by_block here.1 (eqb_tells b block)
-        ∙ sym (ap (λ (t : Bool). block_at (if t then written (held u) block bytes else held x).image b) here.0)
-    by_unit (inr other) =
-        ap (λ (t : Bool). this_sector_or (t && (b == block)) bytes sectors x b) other.0 ∙ same x b
-        ∙ sym (ap (λ (t : Bool). block_at (if t then written (held u) block bytes else held x).image b) other.0)
+written_sector held sectors u block bytes long same x b = search (rules, eqb_tells, block_at-with_block_same, block_at-with_block_other)
 
 pub written_marks : (held : ℕ → Pack) (u block : ℕ) (bytes : List ℕ) (x : ℕ) → (with_written held u block bytes x).marks ≡ (held x).marks
-written_marks held u block bytes x = by_unit (eqb_tells x u)
-  where
-    by_unit : ((x == u ≡ true) × (x ≡ u)) ⊎ ((x == u ≡ false) × (x ≢ u)) → (with_written held u block bytes x).marks ≡ (held x).marks
-    by_unit (inl here) =
-        ap (λ (t : Bool). (if t then written (held u) block bytes else held x).marks) here.0 ∙ ap (λ (k : ℕ). (held k).marks) (sym here.1)
-    by_unit (inr other) = ap (λ (t : Bool). (if t then written (held u) block bytes else held x).marks) other.0
+written_marks held u block bytes x = search rules
 
 pub record IsWritten (held : ℕ → Pack) (s : Surface) : Type 0 where
   pub sectors : (x b : ℕ) → s.sector x b ≡ block_at (held x).image b

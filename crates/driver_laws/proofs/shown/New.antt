@@ -1,5 +1,5 @@
 -- A new driver is quiet.
-use Rattle.std.proofs.Common.{◌≡◌, inl, inr, ℕ, zero, suc, ◌≤◌, List, [], ◌∷◌, length, length-set, replicate, Option, None, refl, sym, ap, subst, ◌∙◌, arith, get_or-set_same, get_or-set_other}
+use Rattle.std.proofs.Common.{◌≡◌, ℕ, zero, suc, List, [], ◌∷◌, length-set, replicate, Option, None, refl, sym, ◌∙◌, get_or-set_same, get_or-set_other, rules}
 use Rattle.std.specs.Prelude.{slice_index_or, slice_set}
 use Rattle.std.proofs.lemmas.List.{get_or_past}
 use Rattle.std.proofs.lemmas.Option.{none-some}
@@ -13,16 +13,7 @@ abbrev pub AreAll : {A : Type 0} → (A → Type 0) → List A → A → Type 0
 AreAll P xs d = (u : ℕ) → P (slice_index_or xs u d)
 
 all_set : {A : Type 0} (P : A → Type 0) (xs : List A) (i : ℕ) (v d : A) → P v → P d → AreAll P xs d → AreAll P (slice_set xs i v) d
-all_set P xs i v d new past all u = elim (cases_eq u i) [
-  | inr other ↦ subst P (sym (get_or-set_other xs i u v d other)) (all u)
-  | inl same ↦ elim (cases_lt i (length xs)) [
-    | inl lt ↦ subst P (sym (ap (λ k. slice_index_or (slice_set xs i v) k d) same ∙ get_or-set_same xs i v d lt)) new
-    | inr le ↦ subst P (sym (get_or_past (slice_set xs i v) u d (beyond (length (slice_set xs i v)) (length xs) i u (length-set xs i v) same le))) past
-  ]
-]
-  where
-    beyond : (n m i u : ℕ) → n ≡ m → u ≡ i → m ≤ i → n ≤ u
-    beyond n m i u one two le = omega (arith, one, two, le)
+all_set P xs i v d new past all u = search (rules, cases_eq, get_or-set_other, cases_lt, get_or-set_same, get_or_past, length-set)
 
 all_replicate : {A : Type 0} (P : A → Type 0) (n : ℕ) (d : A) → P d → AreAll P (replicate n d) d
 all_replicate P zero d is u = is

@@ -1,12 +1,12 @@
 -- The block at which the packs failed is the next block of a write, as the replay has it.
-use Rattle.std.proofs.Common.{◌≡◌, ◌≢◌, ◌⊎◌, inl, inr, ℕ, ◌+◌, ◌-◌, ◌*◌, ◌==◌, ◌&&◌, ◌<◌, ◌≤◌, Bool, true, false, not, List, [], take, drop, length, Option, None, Some, refl, sym, ap, subst, arith, ◌∙◌}
-use Rattle.std.specs.Prelude.{if◌then◌else◌, slice_index, slice_index_or, IsTrue}
+use Rattle.std.proofs.Common.{◌≡◌, ◌≢◌, inl, ℕ, ◌+◌, ◌-◌, ◌*◌, ◌==◌, ◌&&◌, ◌<◌, ◌≤◌, Bool, true, false, not, List, [], take, drop, length, Option, None, Some, refl, sym, ap, subst, arith, ◌∙◌, rules}
+use Rattle.std.specs.Prelude.{slice_index, slice_index_or, IsTrue}
 use Rattle.std.proofs.lemmas.Option.{none-some}
 use Rattle.std.proofs.lemmas.Bool.{false≢true}
 use Rattle.std.proofs.lemmas.Bool.Decides.{eqb_tells}
 use Rattle.pack_geometry.specs.declared.DriveKind.{DriveKind}
 use Rattle.pack_geometry.specs.Geometry.{block_count}
-use Rattle.pack_geometry.specs.Pack.{Pack, block_at, with_written, written, with_block}
+use Rattle.pack_geometry.specs.Pack.{Pack, block_at, with_written, written}
 use Rattle.pack_geometry.proofs.PackLaws.{block_at-with_block_same, block_at-with_block_other}
 use Rattle.hardware_table.specs.declared.Moved.{Moved}
 use Rattle.hardware_table.specs.declared.Moved.TheVariants as verdict
@@ -57,9 +57,7 @@ verdict_by (Some stop) = stop
 
 is_verdict : (stop : Option Moved) (write : Bool) (places : Option (List ℕ)) → write ≡ true → IsVerdictBy stop false write places (verdict_by stop)
 unfolding verdict_by
-is_verdict (Some stop) write places is = refl
-is_verdict None true places is = refl
-is_verdict None false places is = absurd (grind (arith, is))
+is_verdict stop write places is = search rules
 
 no_read : (a w : Bool) → w ≡ true → IsTrue (a && not w) → ⊥
 no_read true w is e = grind (arith, is, e)
@@ -71,25 +69,7 @@ less_some m n e = omega (arith, e)
 -- ---- a sector that is written in the surface and in the packs alike, where they are the same
 written_left : (held : ℕ → Pack) (sectors : ℕ → ℕ → List ℕ) (u block : ℕ) (bytes : List ℕ) (x b : ℕ) → length bytes ≡ 512 → block_at (held x).image b ≡ sectors x b
     → block_at (with_written held u block bytes x).image b ≡ this_sector_or ((x == u) && (b == block)) bytes sectors x b
-written_left held sectors u block bytes x b long same = by_unit (eqb_tells x u)
-  where
-    by_block : x ≡ u → ((b == block ≡ true) × (b ≡ block)) ⊎ ((b == block ≡ false) × (b ≢ block))
-        → block_at (written (held u) block bytes).image b ≡ this_sector_or (true && (b == block)) bytes sectors x b
-    by_block is (inl here) =
-        ap (λ (k : ℕ). block_at (with_block (held u).image block bytes) k) here.1 ∙ block_at-with_block_same (held u).image bytes block long
-        ∙ sym (ap (λ (t : Bool). this_sector_or t bytes sectors x b) here.0)
-    by_block is (inr other) =
-        block_at-with_block_other (held u).image bytes block b long other.1 ∙ sym (ap (λ (k : ℕ). block_at (held k).image b) is) ∙ same
-        ∙ sym (ap (λ (t : Bool). this_sector_or t bytes sectors x b) other.0)
-
-    by_unit : ((x == u ≡ true) × (x ≡ u)) ⊎ ((x == u ≡ false) × (x ≢ u))
-        → block_at (with_written held u block bytes x).image b ≡ this_sector_or ((x == u) && (b == block)) bytes sectors x b
-    by_unit (inl here) =
-        ap (λ (t : Bool). block_at (if t then written (held u) block bytes else held x).image b) here.0 ∙ by_block here.1 (eqb_tells b block)
-        ∙ sym (ap (λ (t : Bool). this_sector_or (t && (b == block)) bytes sectors x b) here.0)
-    by_unit (inr other) =
-        ap (λ (t : Bool). block_at (if t then written (held u) block bytes else held x).image b) other.0 ∙ same
-        ∙ sym (ap (λ (t : Bool). this_sector_or (t && (b == block)) bytes sectors x b) other.0)
+written_left held sectors u block bytes x b long same = search (rules, eqb_tells, block_at-with_block_same, block_at-with_block_other)
 
 -- ---- THE BLOCK
 module _ (drives : ℕ → Option DriveKind) (old held left : ℕ → Pack) (s : Replay) (w : World) (sound : Sound w) (shows : ShowsAll w s) (units : AreDeclared drives w)

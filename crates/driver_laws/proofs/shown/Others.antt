@@ -1,6 +1,6 @@
 -- Where a unit stands as it did: its request in hand too, whatever else changes.
-use Rattle.std.proofs.Common.{◌≡◌, ◌≢◌, inl, inr, ℕ, ◌+◌, ◌<◌, Bool, true, false, Option, None, refl, sym, ap, ◌∙◌, subst}
-use Rattle.std.specs.Prelude.{if◌then◌else◌, unwrap_or}
+use Rattle.std.proofs.Common.{◌≡◌, ◌≢◌, inl, inr, ℕ, ◌<◌, Bool, true, false, Option, None, refl, sym, ap, ◌∙◌, subst, rules}
+use Rattle.std.specs.Prelude.{unwrap_or}
 use Rattle.std.proofs.lemmas.Bool.{cases_eq, false≢true}
 use Rattle.pack_geometry.specs.declared.DriveKind.{DriveKind}
 use Rattle.pack_geometry.specs.Pack.{Pack}
@@ -11,9 +11,8 @@ use Rattle.hardware_table.specs.Adapter.{AdapterState}
 use Rattle.transfer_engine.specs.State.{TransferState}
 use Rattle.driver_laws.specs.rules.Machine.{Blocks}
 use Rattle.driver_machine.specs.declared.Phase.{Phase}
-use Rattle.driver_machine.specs.declared.Phase.TheVariants.{Waiting, Positioning, Queued, Transferring, Due}
+use Rattle.driver_machine.specs.declared.Phase.TheVariants.{Waiting, Transferring}
 use Rattle.driver_machine.specs.World.{World, UnitView, AdapterView, Held, no_held, no_transfer, adapter_of, drive_of, unit_at, adapter_at, held_in, slot_in_hand}
-use Rattle.driver_machine.specs.Acts as deed
 use Rattle.driver_machine.specs.Acts.{Deed, Scene, effect}
 use Rattle.driver_machine.specs.Guards.{May}
 use Rattle.driver_machine.specs.Sound.{IsPhase, Sound, is_waiting}
@@ -39,17 +38,7 @@ waits_is other is = absurd (false≢true is)
 module _ (sure : ℕ → Type 0) (pack : Pack) (blocks : Blocks) where
   at_adapter : (kind : DriveKind) (table : Option Table) (h : Held) (t : Option TransferState) (phase : Phase) (a c : AdapterState) → (phase ≡ Transferring → IsSameMove a c)
       → At sure kind table pack blocks h t phase a → At sure kind table pack blocks h t phase c
-  at_adapter kind table h t Waiting a c same b = b
-  at_adapter kind table h t (Positioning taken) a c same b = b
-  at_adapter kind table h t Queued a c same b = b
-  at_adapter kind table h t (Due task) a c same b = b
-  at_adapter kind table h t Transferring a c same b = by (same refl)
-    where
-      by : IsSameMove a c → At sure kind table pack blocks h t Transferring c
-      by is =
-          subst (λ n. HandBears sure kind table pack blocks h (unwrap_or t no_transfer) ((unwrap_or t no_transfer).done + n) (if c.completion then c.verdict else verdict.Clean)) (sym is.moved)
-          (subst (λ l. HandBears sure kind table pack blocks h (unwrap_or t no_transfer) ((unwrap_or t no_transfer).done + a.moved) (if c.completion then l else verdict.Clean)) (sym is.verdict)
-          (subst (λ u. HandBears sure kind table pack blocks h (unwrap_or t no_transfer) ((unwrap_or t no_transfer).done + a.moved) (if u then a.verdict else verdict.Clean)) (sym is.completion) b))
+  at_adapter kind table h t phase a c same b = search rules
 
   -- a unit that waits has nothing done of any request
   at_held : (kind : DriveKind) (table : Option Table) (h g : Held) (t : Option TransferState) (phase : Phase) (a : AdapterState) → (is_waiting phase ≡ false → g ≡ h)
@@ -90,9 +79,7 @@ abbrev pub LeavesMoves : (u : ℕ) (old new : AdapterView) → Type 0
 LeavesMoves u old new = old.state.busy ≡ true → old.state.drive ≢ drive_of u → new.state.moved ≡ old.state.moved
 
 pub leaves_moves : (line u p : ℕ) (d : Deed) (s : Scene) → May u d s → LeavesMoves u s.adapter (effect line u p d s).adapter
-leaves_moves line u p (deed.Sector block t) s may busy other = absurd (other may.0.drive)
-leaves_moves line u p (deed.Move write segment) s may busy other = absurd (false≢true (sym may.1 ∙ busy))
-leaves_moves line u p d s may busy other = refl
+leaves_moves line u p d s may busy other = search rules
 
 waiting_none : (x : ℕ) (v : UnitView) (a : AdapterView) (h : Held) → IsPhase x v a h v.phase → v.phase ≡ Waiting → v.transfer ≡ None
 waiting_none x v a h is phase = let at : IsPhase x v a h Waiting = subst (IsPhase x v a h) phase is in at.1

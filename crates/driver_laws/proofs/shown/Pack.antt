@@ -1,22 +1,15 @@
 -- PACK: a command is due, and the volume is not valid. Its line may be said, and what it leaves is shown.
-use Rattle.std.proofs.Common.{◌≡◌, inl, inr, ℕ, List, [], ◌∷◌, drop, Option, Some, None, ◌&&◌, Bool, true, false, refl, sym, ap, not, subst, arith, ◌∙◌}
+use Rattle.std.proofs.Common.{◌≡◌, inl, inr, ℕ, List, [], ◌∷◌, drop, Some, ◌&&◌, Bool, true, false, refl, sym, ap, not, subst, arith, ◌∙◌, rules}
 use Rattle.std.specs.Prelude.{if◌then◌else◌}
-use Rattle.pack_geometry.specs.Geometry.{sectors_of}
 use Rattle.drive_registers.specs.declared.Function.TheVariants as function
 use Rattle.hardware_table.specs.declared.Work.TheVariants as work
 use Rattle.hardware_table.specs.Adapter.{AdapterState}
-use Rattle.hardware_table.specs.Drive.{DriveState}
 use Rattle.hardware_table.specs.Functions.{performed}
-use Rattle.trace_replay.specs.declared.seek_engine.Position.TheVariants as position
-use Rattle.trace_replay.specs.Seek.{sector_before}
-use Rattle.transfer_engine.specs.State as engine
-use Rattle.trace_replay.specs.requests.Requests.{Request}
 use Rattle.trace_replay.specs.Replay.{UnitSeen, Replay, hand_of, at_unit}
 use Rattle.trace_replay.specs.Conversation as told
 use Rattle.trace_replay.specs.Moments as moment
 use Rattle.trace_replay.specs.Adapters as rule
 use Rattle.driver_machine.specs.declared.RetryStep.{RetryStep}
-use Rattle.driver_machine.specs.declared.RetryStep.TheVariants.{Recalibrate}
 use Rattle.driver_machine.specs.declared.Phase.{Phase}
 use Rattle.driver_machine.specs.declared.Task.TheVariants.{Clear, Judge, Steps, Command, GiveUp}
 use Rattle.driver_machine.specs.declared.Phase.TheVariants.{Waiting, Positioning, Queued, Transferring, Due}
@@ -24,62 +17,24 @@ use Rattle.driver_machine.specs.declared.Phase.TheVariants as phases
 use Rattle.trace_replay.specs.declared.requests.answers.AnswerKind.{AnswerKind}
 use Rattle.driver_machine.specs.World.{World, UnitView, AdapterView, Held, slot_in_hand, transfer_of, adapter_of, unit_at, adapter_at, held_in}
 use Rattle.driver_machine.specs.Guards.{InHand, IsNext}
-use Rattle.driver_machine.specs.Due.{steps_of, target_of, next_by, start_by, step_of, command_of}
+use Rattle.driver_machine.specs.Due.{steps_of, target_of, next_by, step_of, command_of}
 use Rattle.driver_machine.specs.Acts.{with_drive, Deed, scene_of}
 use Rattle.driver_machine.specs.Acts as deed
 use Rattle.driver_machine.specs.Sound.{Sound, IsPhase, IsBegun}
 use Rattle.driver_machine.specs.DueFacts.{Calls, AtStart, AtStep, AtTransfer, AtChoice, IsAtCommand, IsDue}
 use Rattle.driver_machine.proofs.DueFacts.{due_facts, chosen_facts}
-use Rattle.driver_laws.specs.shown.Stages.{step_seen}
 use Rattle.driver_laws.specs.shown.Shows.{is_coming, with_coming, Shows}
 use Rattle.driver_laws.proofs.shown.Told.{seen_told}
 use Rattle.driver_laws.specs.shown.Laws.{IsSaid}
 use Rattle.driver_laws.proofs.shown.Core.{Core, IsHead}
-use Rattle.driver_laws.proofs.shown.Talk.{transfer_guarded, step_stage}
 use Rattle.driver_laws.proofs.shown.Facts.{At}
 use Rattle.driver_laws.proofs.shown.AdapterQueues.{ready_stays}
 use Rattle.driver_laws.proofs.shown.Plain.{ready_plain, plain_says}
 use Rattle.driver_laws.proofs.shown.DeedFacts.{said_by, command_begun}
 
-begun_packed : (d : DriveState) (head : Option Request) → told.begun d head ≡ told.begun (performed function.Pack d) head
-begun_packed d None = refl
-begun_packed d (Some r) = refl
-
 pack_core : (phase : Phase) (h : Held) (v : UnitView) (a : AdapterState) (seen : UnitSeen) (b : AdapterState) → v.phase ≡ phase → Calls phase
     → Core h v a seen → Core h (with_drive (performed function.Pack) v) a (seen_told seen b moment.Pack [])
-pack_core Waiting h v a seen b phase AtStart is = record {
-  drive = rw is.drive refl;
-  table = is.table;
-  stage = rw (is.stage, phase) (begun_packed v.drive _);
-  progress = rw phase (rw phase at is.progress);
-}
-pack_core (Due (Steps taken)) h v a seen b phase (AtStep _) is = record {
-  drive = rw is.drive refl;
-  table = is.table;
-  stage = rw (is.stage, phase) refl;
-  progress = rw phase (rw phase at is.progress);
-}
-pack_core (Due Command) h v a seen b phase AtTransfer is = record {
-  drive = rw is.drive refl;
-  table = is.table;
-  stage = rw (is.stage, phase) refl;
-  progress = rw phase (rw phase at is.progress);
-}
-pack_core Queued h v a seen b phase AtChoice is = record {
-  drive = rw is.drive refl;
-  table = is.table;
-  stage = rw (is.stage, phase) refl;
-  progress = rw phase (rw phase at is.progress);
-}
-pack_core (Positioning taken) h v a seen b phase calls is = elim calls [ ]
-pack_core Transferring h v a seen b phase calls is = elim calls [ ]
-pack_core (Due (Clear moved last)) h v a seen b phase calls is = elim calls [ ]
-pack_core (Due (Judge moved last)) h v a seen b phase calls is = elim calls [ ]
-pack_core (Due (GiveUp done)) h v a seen b phase calls is = elim calls [ ]
-
-guarded_pack : (d : DriveState) (hand : told.Hand) (command : moment.Deed) → d.online ≡ true → told.needs_unlocked command && d.locked ≡ false
-    → d.valid ≡ false → told.guarded d hand command ≡ moment.Pack
-guarded_pack d hand command online unlocked valid = rw (online, unlocked, valid) refl
+pack_core phase h v a seen b h0 calls is = search rules
 
 -- where PACK is due
 pub data IsPackAt (v : UnitView) (h : Held) : Type 0 where
@@ -91,10 +46,6 @@ pub data IsPackAt (v : UnitView) (h : Held) : Type 0 where
 pub some_same : {x y : Deed} → Some x ≡ Some y → x ≡ y
 some_same e = grind arith
 
-starts_search : (b : Bool) (c s : ℕ) (v : UnitView) (h : Held) → start_by (if b then position.Ready else position.Search c s) v h ≡ deed.Pack → b ≡ false
-starts_search true c s v h e = absurd (grind (arith, e))
-starts_search false c s v h e = refl
-
 pack_steps : (left : List RetryStep) (taken : ℕ) (v : UnitView) (h : Held) → v.phase ≡ Due (Steps taken) → drop taken (steps_of (transfer_of v)) ≡ left
     → step_of left taken v ≡ deed.Pack → IsPackAt v h
 pack_steps [] taken v h phase is e = absurd (grind (arith, e))
@@ -102,18 +53,13 @@ pack_steps (step ∷ left) taken v h phase is e = Goes taken step left phase is
 
 pack_unlocked : (online locks valid : Bool) (v : UnitView) (x y : AnswerKind) (command : Deed)
     → (if not online then deed.End x else if locks then deed.End y else if valid then command else deed.Pack) ≡ deed.Pack → online ≡ true → locks ≡ false
-pack_unlocked true true valid v x y command e on = absurd (grind (arith, e))
-pack_unlocked true false valid v x y command e on = refl
-pack_unlocked false locks valid v x y command e on = absurd (grind (arith, on))
+pack_unlocked online locks valid v x y command e on = search rules
 
 pack_command : (v : UnitView) (h : Held) → command_of v h ≡ deed.Pack → v.drive.online ≡ true → h.write && v.drive.locked ≡ false
 pack_command v h e on = pack_unlocked v.drive.online (h.write && v.drive.locked) v.drive.valid v _ _ _ e on
 
 pack_at : (phase : Phase) (v : UnitView) (h : Held) → v.phase ≡ phase → next_by phase v h ≡ Some deed.Pack → v.drive.online ≡ true → Calls phase → IsPackAt v h
-pack_at phases.Waiting v h phase next on AtStart =
-    Starts phase
-    (starts_search (told.starts_at_once v.drive (target_of v h)) (target_of v h).cylinder (sector_before (sectors_of v.drive.kind) 3 (target_of v h).sector)
-    v h (some_same next))
+pack_at phases.Waiting v h phase next on AtStart = search rules
 pack_at (Due (Steps taken)) v h phase next on (AtStep _) = pack_steps (drop taken (steps_of (transfer_of v))) taken v h phase refl (some_same next)
 pack_at (Due Command) v h phase next on AtTransfer = Transfers (inl phase) (pack_command v h (some_same next) on)
 pack_at phases.Queued v h phase next on AtChoice = absurd (grind (arith, next))
@@ -150,26 +96,9 @@ pack_due u w (inr chosen) =
       at = Transfers (inr chosen.phase) (pack_command (unit_at w u) (held_in w (slot_in_hand (unit_at w u))) (sym chosen.due) is.0);
     }
 
-step_unlocked : (step : RetryStep) (locked : Bool) → told.needs_unlocked (told.command_of (step_seen step)) && locked ≡ false
-step_unlocked Recalibrate locked = refl
-step_unlocked other locked = refl
-
 pack_talk : (h : Held) (v : UnitView) (a : AdapterState) (seen : UnitSeen) → Core h v a seen → IsHead h v.drive.kind seen
     → (IsAtCommand v.phase → IsBegun v h) → IsPackDue v h → IsPackAt v h → told.due seen.drive (hand_of seen) seen.stage ≡ Some moment.Pack
-pack_talk h v a seen is head begun due (Starts phase apart) =
-    let stage : seen.stage ≡ told.Steps (told.search_for v.drive (target_of v h) ∷ []) told.OwnBlocks =
-    is.stage ∙ rw (phase, head.head, sym head.is.first, apart) refl in
-    rw stage (ap Some (guarded_pack seen.drive (hand_of seen) (told.command_of (told.search_for v.drive (target_of v h)))
-    (rw is.drive due.online) refl (rw is.drive due.valid)))
-pack_talk h v a seen is head begun due (Goes taken step left phase some) =
-    rw (step_stage h v a seen taken step left is phase some)
-    (ap Some (guarded_pack seen.drive (hand_of seen) (told.command_of (step_seen step))
-    (rw is.drive due.online) (step_unlocked step seen.drive.locked) (rw is.drive due.valid)))
-pack_talk h v a seen is head begun due (Transfers at unlocked) =
-    transfer_guarded h v a seen is head (begun at) at
-    ∙ ap Some (guarded_pack seen.drive (hand_of seen)
-    (moment.Transfer h.write (engine.segment_of (transfer_of v)).block (engine.segment_of (transfer_of v)).count)
-    (rw is.drive due.online) (rw is.drive unlocked) (rw is.drive due.valid))
+pack_talk h v a seen is head begun due h0 = search rules
 
 -- a unit at which a command is due stands still
 called_still : (u : ℕ) (v : UnitView) (a : AdapterView) (h : Held) (phase : Phase) → Calls phase → IsPhase u v a h phase → v.drive.work ≡ work.Ready

@@ -1,7 +1,6 @@
 -- Where a segment begins and how long it is, as the replay and the machine say it.
-use Rattle.std.proofs.Common.{◌≡◌, ℕ, List, [], take, ◌+◌, Option, Some, None, Bool, true, false, refl, arith}
+use Rattle.std.proofs.Common.{◌≡◌, ℕ, List, [], take, ◌+◌, Option, Some, None, Bool, true, false, refl, rules}
 use Rattle.std.specs.Prelude.{if◌then◌else◌}
-use Rattle.pack_geometry.specs.Geometry.{replacement_at}
 use Rattle.transfer_engine.specs.declared.job.Job.{Job}
 use Rattle.transfer_engine.specs.State as engine
 use Rattle.trace_replay.specs.requests.Requests.{first_block}
@@ -12,11 +11,7 @@ use Rattle.driver_laws.specs.shown.Stages.{segment_by}
 pub segment_start : (index : Option ℕ) (job : Job) (done moved : ℕ) (hand : Hand) → job.first ≡ first_block hand.kind hand.request
     → hand.progress.done ≡ done + moved → ((i : ℕ) → index ≡ Some i → moved ≡ 0)
     → start_of (segment_by job.kind index) hand ≡ (engine.segment_by index job done).block + moved
-segment_start None job done moved hand first is none = omega (arith, first, is)
-segment_start (Some i) job done moved hand first is none =
-    let zero : moved ≡ 0 = none i refl in
-    let same : replacement_at job.kind i ≡ replacement_at job.kind i + moved = omega (arith, zero) in
-    same
+segment_start index job done moved hand first is none = search rules
 
 pub segment_length : (index : Option ℕ) (job : Job) (done : ℕ) (hand : Hand) → job.count ≡ hand.request.count → hand.progress.done ≡ done
     → length_of (segment_by job.kind index) hand ≡ (engine.segment_by index job done).count

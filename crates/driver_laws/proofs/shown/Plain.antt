@@ -1,6 +1,5 @@
 -- A line that leaves its adapter, the surface and the counts alone.
-use Rattle.std.proofs.Common.{◌≡◌, ◌≢◌, inl, inr, ℕ, zero, suc, ◌<◌, Bool, true, false, List, [], ◌∷◌, length, Option, Some, None, refl, sym, ap, subst, arith, ◌∙◌}
-use Rattle.std.proofs.lemmas.Bool.Decides.{eqb_tells}
+use Rattle.std.proofs.Common.{◌≡◌, ◌≢◌, ℕ, zero, suc, ◌<◌, Bool, true, false, List, [], ◌∷◌, length, Option, Some, None, refl, sym, ap, subst, arith, ◌∙◌, rules}
 use Rattle.std.specs.Prelude.{slice_set, slice_index_or}
 use Rattle.pack_geometry.specs.declared.DriveKind.{DriveKind}
 use Rattle.hardware_table.specs.Drive.{DriveState}
@@ -28,10 +27,7 @@ use Rattle.trace_replay.proofs.Unchanged.{with_other}
 use Rattle.driver_laws.proofs.invariant.Frame.{slot_there}
 
 pub with_same : {T : Type 0} (states : ℕ → T) (k : ℕ) (state : T) → with_state states k state k ≡ state
-with_same states k state = elim (eqb_tells k k) [
-  | inl same ↦ rw same.0 refl
-  | inr other ↦ absurd (other.1 refl)
-]
+with_same states k state = search rules
 
 -- THE OUTSTANDING are as many, where a request goes on.
 pub outstanding_same : (slots : List (Option Held)) (p : ℕ) (g h : Held) → slice_index_or slots p None ≡ Some h → g.ended ≡ h.ended

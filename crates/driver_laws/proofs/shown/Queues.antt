@@ -1,11 +1,11 @@
 -- A request joins the queue of its unit, as the replay and the machine keep it.
-use Rattle.std.proofs.Common.{◌≡◌, ℕ, suc, Bool, true, false, List, [], ◌∷◌, map, refl, sym, subst, arith}
-use Rattle.std.specs.Prelude.{if◌then◌else◌, Contains}
+use Rattle.std.proofs.Common.{◌≡◌, ℕ, suc, List, [], ◌∷◌, map, refl, sym, subst, arith, rules}
+use Rattle.std.specs.Prelude.{Contains}
 use Rattle.std.specs.List.{AllByRecursion}
 use Rattle.pack_geometry.specs.declared.DriveKind.{DriveKind}
 use Rattle.disksort.specs.declared.Waiter.{Waiter}
-use Rattle.trace_replay.specs.requests.ServiceOrder.{Waiting, Service, after_join, queue_of, queue_with, IsInOrder}
-use Rattle.trace_replay.proofs.requests.ServiceOrderRuns.{IsService, put_in, inserted, goes_before, queue_with-inserted, queue_of-after_join}
+use Rattle.trace_replay.specs.requests.ServiceOrder.{Waiting, Service, after_join, queue_with, IsInOrder}
+use Rattle.trace_replay.proofs.requests.ServiceOrderRuns.{IsService, put_in, inserted, queue_with-inserted, queue_of-after_join}
 use Rattle.trace_replay.specs.requests.Requests.{Request}
 use Rattle.trace_replay.specs.Service.{cylinder_of}
 use Rattle.driver_machine.specs.World.{Held}
@@ -58,14 +58,7 @@ put_matches : (held : ℕ → Held) (kind : DriveKind) (head : ℕ) (x : Waiter)
 put_matches held kind head x r [] [] is match = (is, tt)
 put_matches held kind head x r [] (q ∷ rs) is match = absurd match
 put_matches held kind head x r (y ∷ ys) [] is match = absurd match
-put_matches held kind head x r (y ∷ ys) (q ∷ rs) is match =
-    rw (is.cylinder, match.0.cylinder) (at (goes_before head x.cylinder y.cylinder) (put_matches held kind head x r ys rs is match.1))
-  where
-    at : (b : Bool) → MatchRequests held kind (put_in (λ (z : Waiter). z.cylinder) head x ys) (put_in (cylinder_of kind) head r rs)
-        → MatchRequests held kind (if b then x ∷ y ∷ ys else y ∷ put_in (λ (z : Waiter). z.cylinder) head x ys)
-        (if b then r ∷ q ∷ rs else q ∷ put_in (cylinder_of kind) head r rs)
-    at true behind = (is, match)
-    at false behind = (match.0, behind)
+put_matches held kind head x r (y ∷ ys) (q ∷ rs) is match = search (rules, put_matches held kind head x r ys rs is match.1)
 
 inserted_matches : (held : ℕ → Held) (kind : DriveKind) (x : Waiter) (r : Request) (xs : List Waiter) (rs : List Request) → IsFor held kind x r
     → MatchRequests held kind xs rs → MatchRequests held kind (inserted (λ (y : Waiter). y.cylinder) x xs) (inserted (cylinder_of kind) r rs)
@@ -83,9 +76,4 @@ pub match_joined : (held : ℕ → Held) (kind : DriveKind) (x : Waiter) (r : Re
     → IsInOrder (λ (y : Waiter). y.cylinder) queue → IsService (cylinder_of kind) service → IsFor held kind x r
     → Match held kind queue service.waiting
     → Match held kind (queue_with (λ (y : Waiter). y.cylinder) x queue) (after_join (cylinder_of kind) r service).waiting
-match_joined held kind x r queue service order sorted is match =
-    waiting_of held kind (queue_with (λ (y : Waiter). y.cylinder) x queue) (after_join (cylinder_of kind) r service).waiting
-    (subst (λ q. MatchRequests held kind q (queue_of (after_join (cylinder_of kind) r service)))
-    (sym (queue_with-inserted (λ (y : Waiter). y.cylinder) x queue order))
-    (subst (MatchRequests held kind (inserted (λ (y : Waiter). y.cylinder) x queue)) (sym (queue_of-after_join (cylinder_of kind) r service sorted))
-    (inserted_matches held kind x r queue (queue_of service) is (requests_of held kind queue service.waiting match))))
+match_joined held kind x r queue service order sorted is match = search (rules, waiting_of, queue_with-inserted, inserted, queue_of-after_join, inserted_matches, requests_of)

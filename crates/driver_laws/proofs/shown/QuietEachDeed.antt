@@ -1,8 +1,7 @@
 -- Each deed at a unit keeps what the driver stands for.
-use Rattle.std.proofs.Common.{◌≡◌, ◌≢◌, inl, inr, ℕ, Bool, true, false, List, [], ◌∷◌, ◌++◌, All, Option, Some, refl, sym, ap, ◌∙◌, subst}
+use Rattle.std.proofs.Common.{◌≡◌, ◌≢◌, inl, inr, ℕ, Bool, true, false, List, [], ◌∷◌, ◌++◌, All, Option, Some, refl, sym, ap, ◌∙◌, subst, rules}
 use Rattle.std.specs.Prelude.{if◌then◌else◌, unwrap_or, slice_index_or}
 use Rattle.std.proofs.lemmas.Bool.{cases_eq, eq-eqb, ne_eqb}
-use Rattle.std.proofs.lemmas.Bool.Decides.{eqb_tells}
 use Rattle.pack_geometry.specs.Pack.{Pack, with_written}
 use Rattle.pack_geometry.specs.Homes.{content_of}
 use Rattle.pack_geometry.specs.PackTable.{IsTableOf}
@@ -12,8 +11,7 @@ use Rattle.hardware_table.specs.Noise.{LiveNoise, Book, book_struck}
 use Rattle.main_memory.specs.Bytes.{filled}
 use Rattle.disksort.specs.declared.Waiter.{Waiter}
 use Rattle.trace_replay.specs.declared.requests.answers.AnswerKind.{AnswerKind}
-use Rattle.trace_replay.specs.declared.requests.answers.AnswerKind.TheVariants.{ReadOk, WriteOk, Eof, Error}
-use Rattle.trace_replay.specs.declared.requests.answers.Cause.TheVariants as cause
+use Rattle.trace_replay.specs.declared.requests.answers.AnswerKind.TheVariants.{ReadOk}
 use Rattle.driver_laws.specs.rules.Machine.{Blocks}
 use Rattle.driver_laws.specs.rules.Stands.{is_sure_among, IsLive}
 use Rattle.driver_laws.proofs.rules.Noises.{struck_live}
@@ -180,11 +178,7 @@ other_by true held u block bytes x other = rw (ne_eqb x u other) refl
 other_by false held u block bytes x other = refl
 
 pub marks_by : (b : Bool) (held : ℕ → Pack) (u block : ℕ) (bytes : List ℕ) (x : ℕ) → ((if b then with_written held u block bytes else held) x).marks ≡ (held x).marks
-marks_by false held u block bytes x = refl
-marks_by true held u block bytes x = elim (eqb_tells x u) [
-  | inl same ↦ rw same.0 (ap (λ k. (held k).marks) (sym same.1))
-  | inr apart ↦ rw apart.0 refl
-]
+marks_by b held u block bytes x = search rules
 
 sector_no_end : (block : ℕ) (t : Tried) (kind : AnswerKind) → deed.Sector block t ≢ deed.End kind
 sector_no_end block t kind e = cc
@@ -216,15 +210,7 @@ sector_kept armed w line u id block t held first s may reads b =
 
 -- AN END: its request has ended
 ended_step : (sure : Type 0) (blocks : Blocks) (h : Held) (kind : AnswerKind) → IsStep sure blocks h kind → IsStep sure blocks (record h { ended = true }) kind
-ended_step sure blocks h (ReadOk count last) is = record { usable = is.usable; said = is.said }
-ended_step sure blocks h WriteOk is = record { usable = is.usable; said = tt }
-ended_step sure blocks h Eof is = record { usable = is.usable; said = tt }
-ended_step sure blocks h (Error cause.Unforwarded done) is = record { usable = is.usable; said = is.said }
-ended_step sure blocks h (Error cause.Partition done) is = record { usable = is.usable; said = tt }
-ended_step sure blocks h (Error cause.Frames done) is = record { usable = is.usable; said = tt }
-ended_step sure blocks h (Error cause.Offline done) is = record { usable = is.usable; said = tt }
-ended_step sure blocks h (Error cause.Locked done) is = record { usable = is.usable; said = tt }
-ended_step sure blocks h (Error (cause.Fault tries) done) is = record { usable = is.usable; said = tt }
+ended_step sure blocks h kind is = search rules
 
 ended_done : (kind : AnswerKind) (h : Held) → done_by kind (record h { ended = true }) ≡ done_by kind h
 ended_done (ReadOk count last) h = refl

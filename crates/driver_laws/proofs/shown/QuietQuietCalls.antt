@@ -1,5 +1,5 @@
 -- Calls from any state of a replay that is consistent and shows the driver.
-use Rattle.std.proofs.Common.{◌≡◌, ℕ, ◌≤◌, ◌&&◌, nat_lt, Bool, true, false, List, [], ◌∷◌, ◌++◌, refl, sym, ap, subst, ◌∙◌}
+use Rattle.std.proofs.Common.{◌≡◌, ℕ, ◌≤◌, ◌&&◌, nat_lt, Bool, true, false, List, [], ◌∷◌, ◌++◌, refl, sym, ap, subst, ◌∙◌, rules}
 use Rattle.pack_geometry.specs.Pack.{Pack}
 use Rattle.trace_replay.specs.requests.ServiceOrder.{Waiting as Waiter, Service}
 use Rattle.trace_replay.proofs.requests.ServiceOrderRuns.{IsService}
@@ -48,11 +48,7 @@ work_numbered true s n w = w
 work_numbered false s n w = tt
 
 numbered_consistent : (s : Replay) (n : ℕ) → IsConsistent s → IsConsistent (numbered n s)
-numbered_consistent s n c = record {
-  units = c.units;
-  adapters = c.adapters;
-  event = record { speaker = c.event.speaker; served = c.event.served; started = c.event.started; act = c.event.act; due = c.event.due; first = c.event.first; at_work = work_numbered s.event.between s n c.event.at_work };
-}
+numbered_consistent s n c = search (rules, work_numbered)
 
 pub played_consistent : (s : Replay) (line : ℕ) (input : Input) → 1 ≤ line → MayPlay s → IsConsistent s → IsConsistent (after_moment s (Played line input))
 played_consistent s line input some may c =
@@ -186,15 +182,4 @@ ends_taken line u held w s unit sound work ends =
     }
 
 pub takings_drain : TakingsDrain
-takings_drain line u held w s moments unit some from =
-    let far : IsDraining (after_moment s (Played line script.Drain)) line moments held w = from.draining in
-    let works : Works w (Taken ∷ []) = taken_works sound_after w far.ends.over.rests.sound far.work some in
-    record {
-      draining = record {
-        follows = far.follows;
-        ends = ends_taken line u held w (after_moments (after_moment s (Played line script.Drain)) moments) unit works.sound far.work far.ends;
-        work = works.work;
-        there = far.there;
-      };
-      consistent = from.consistent;
-    }
+takings_drain line u held w s moments unit some from = search (rules, taken_works, sound_after, ends_taken)

@@ -1,5 +1,5 @@
 -- A quiet driver stands for a replay at rest.
-use Rattle.std.proofs.Common.{◌≡◌, inl, inr, ℕ, suc, ◌+◌, ◌≤◌, ◌<◌, ◌==◌, ◌&&◌, ◌||◌, not, Bool, true, false, List, [], ◌∷◌, length, Option, Some, None, refl, sym, ap, subst, arith, ◌∙◌}
+use Rattle.std.proofs.Common.{◌≡◌, inl, inr, ℕ, suc, ◌+◌, ◌≤◌, ◌<◌, Bool, true, false, List, [], ◌∷◌, length, Option, Some, None, refl, sym, ap, subst, arith, ◌∙◌, rules}
 use Rattle.std.specs.Prelude.{if◌then◌else◌, Contains, slice_index_or, unwrap_or}
 use Rattle.std.specs.Int.{bit_at}
 use Rattle.std.proofs.lemmas.List.{get_or_past}
@@ -7,24 +7,22 @@ use Rattle.std.proofs.lemmas.Nat.Bits.{bit_at-zero}
 use Rattle.std.proofs.lemmas.Bool.{false≢true, false_from_ne_true, cases_lt}
 use Rattle.pack_geometry.specs.Pack.{Pack}
 use Rattle.pack_geometry.specs.declared.DriveKind.TheVariants.{Rp06}
-use Rattle.hardware_table.specs.Drive.{DriveState, has_error, on, is_positioning, is_transferring}
+use Rattle.hardware_table.specs.Drive.{DriveState, has_error}
 use Rattle.hardware_table.specs.declared.Work.TheVariants as work
 use Rattle.disksort.specs.declared.Waiter.{Waiter}
-use Rattle.trace_replay.specs.Replay.{hand_of}
 use Rattle.driver_laws.specs.rules.Consistent.{Agrees, IsConsistent}
 use Rattle.driver_laws.specs.rules.Calm.{IsGood, IsCalm}
 use Rattle.driver_laws.specs.rules.Rest.{IsAtRest}
 use Rattle.driver_machine.specs.declared.Phase.{Phase}
-use Rattle.driver_machine.specs.declared.Phase.TheVariants.{Waiting, Due}
-use Rattle.driver_machine.specs.World.{World, UnitView, AdapterView, Held, unit_at, adapter_at, held_in, slot_in_hand, adapter_of, drive_of, unit_on, no_unit, new_adapter_view}
+use Rattle.driver_machine.specs.declared.Phase.TheVariants.{Waiting}
+use Rattle.driver_machine.specs.World.{World, UnitView, AdapterView, Held, unit_at, adapter_at, held_in, slot_in_hand, adapter_of, drive_of, no_unit, new_adapter_view}
 use Rattle.driver_machine.specs.Guards.{IsSetUp}
 use Rattle.driver_machine.specs.Sound.{Sound, AtWork, WorkOf, IsStill, IsPhase, is_waiting, frames_by, frames_used}
 use Rattle.driver_laws.proofs.invariant.SlotsLists.{Contains-first}
-use Rattle.driver_laws.specs.shown.Shows.{IsUnitSeen, Match, counted_by, outstanding_in}
-use Rattle.driver_laws.specs.shown.Stages.{stage_by, IsProgress}
+use Rattle.driver_laws.specs.shown.Shows.{IsUnitSeen, counted_by, outstanding_in}
 use Rattle.driver_laws.specs.shown.Within.{ShowsAll}
 use Rattle.driver_laws.specs.shown.Calls.{Stands}
-use Rattle.driver_laws.specs.shown.Quiet.{IsQuiet, kind_if, table_if, drive_if, setup_of, unit_rested, rested, StandsQuiet, QuietRests}
+use Rattle.driver_laws.specs.shown.Quiet.{IsQuiet, kind_if, drive_if, setup_of, unit_rested, rested, StandsQuiet, QuietRests}
 use Rattle.driver_laws.proofs.rules.Own.{drive_below}
 use Rattle.driver_laws.proofs.invariant.Frame.{adapter_of-small, unit_on-own, unit_on-small}
 
@@ -33,16 +31,8 @@ no_waiter : (xs : List Waiter) → ((x : Waiter) → Contains xs x → ⊥) → 
 no_waiter [] none = refl
 no_waiter (x ∷ xs) none = absurd (none x (Contains-first x xs))
 
-none_first : (queue : List Waiter) → queue ≡ [] → 0 < length queue → {P : Type 0} → P
-none_first queue none some = absurd (never (length queue) (ap length none) some)
-  where
-    never : (n : ℕ) → n ≡ 0 → 0 < n → ⊥
-    never n e lt = omega (arith, e, lt)
-
 waits_only : (p : Phase) (queue : List Waiter) → queue ≡ [] → WorkOf p queue → (is_waiting p ≡ false → 0 < length queue) → p ≡ Waiting
-waits_only Waiting queue none works head = refl
-waits_only (Due task) queue none works head = absurd works
-waits_only other queue none works head = none_first queue none (head refl)
+waits_only p queue none works head = search rules
 
 pub none_counted : (slots : List (Option Held)) → ((p : ℕ) (h : Held) → slice_index_or slots p None ≡ Some h → h.ended ≡ true) → outstanding_in slots ≡ 0
 none_counted [] ended = refl
@@ -66,10 +56,7 @@ abbrev pub StillSeen : DriveState → Type 0
 StillSeen d = (d.work ≡ work.Ready) × (d.attention ≡ false) × (has_error d ≡ false)
 
 still_seen : (d : DriveState) → IsStill d → StillSeen d
-still_seen d s = (s.work, s.attention, clear d.er1 d.er2 s.clear.er1 s.clear.er2)
-  where
-    clear : (one two : ℕ) → one ≡ 0 → two ≡ 0 → not ((one == 0) && (two == 0)) ≡ false
-    clear one two a b = rw (a, b) refl
+still_seen d s = search rules
 
 still_if : (b : Bool) (d : DriveState) (u : ℕ) → StillSeen d → StillSeen (drive_if b d u)
 still_if true d u s = s
@@ -107,12 +94,7 @@ module _ (w : World) (held : ℕ → Pack) (sound : Sound w) (works : AtWork w) 
   not_declared u le = ap (λ (v : UnitView). v.declared) (get_or_past w.units u no_unit (subst (λ n. n ≤ u) (sym sound.units) le))
 
   free : (a : ℕ) → a < 4 → (adapter_at w a).state.busy ≡ false
-  free a lt = false_from_ne_true (adapter_at w a).state.busy (λ busy. never busy)
-    where
-      never : (adapter_at w a).state.busy ≡ true → ⊥
-      never busy =
-          false≢true (sym (ap is_waiting ((sound.each_adapter a lt).busy busy).1.phase)
-          ∙ ap is_waiting (phase_waiting (unit_on a (adapter_at w a).state.drive) (unit_on-small a (adapter_at w a).state.drive lt (sound.each_adapter a lt).drive)))
+  free a lt = search (rules, false_from_ne_true, false≢true, phase_waiting, unit_on-small)
 
   past_adapter : (a : ℕ) → 4 ≤ a → adapter_at w a ≡ new_adapter_view
   past_adapter a le = get_or_past w.adapters a new_adapter_view (subst (λ n. n ≤ a) (sym sound.adapters) le)
@@ -153,28 +135,11 @@ module _ (w : World) (held : ℕ → Pack) (sound : Sound w) (works : AtWork w) 
   calm = record { drives = λ u. good_by (unit_at w u).declared u refl; stages = λ u. refl; live = refl }
 
   rest : IsAtRest (setup_of w held) (rested w held)
-  rest = record {
-    kinds = λ u. kind_seen (unit_at w u).declared (unit_at w u).drive u;
-    tables = λ u. refl;
-    idle = record { stages = λ u. refl; queues = λ u. refl; fresh = λ u. refl; between = refl };
-    sectors = λ u b. refl;
-    marks = λ u b. refl;
-    frames = refl;
-    outstanding = refl;
-    over = refl;
-    calm = calm;
-  }
+  rest = search (rules, kind_seen, calm)
 
   -- ---- it shows the world
   unit_shown : (x : ℕ) → IsSetUp w x → IsUnitSeen (held_in w) (unit_at w x) (adapter_at w (adapter_of x)).state (unit_rested (unit_at w x) x)
-  unit_shown x set = record {
-    drive = ap (λ b. drive_if b (unit_at w x).drive x) set.declared;
-    table = ap (λ b. table_if b (unit_at w x).table) set.declared;
-    queue = subst (λ z. Match (held_in w) (unit_at w x).drive.kind z []) (sym (queue_none x set.unit)) tt;
-    stage = sym (ap (λ p. stage_by p (unit_at w x) (adapter_at w (adapter_of x)).state (hand_of (unit_rested (unit_at w x) x)) None) (phase_waiting x set.unit));
-    progress = subst (λ p. IsProgress p (unit_at w x) (adapter_at w (adapter_of x)).state (held_in w (slot_in_hand (unit_at w x))) Rattle.trace_replay.specs.Conversation.not_begun)
-        (sym (phase_waiting x set.unit)) refl;
-  }
+  unit_shown x set = search (rules, queue_none, phase_waiting)
 
   shows : ShowsAll w (rested w held)
   shows = record {
@@ -199,32 +164,14 @@ module _ (w : World) (held : ℕ → Pack) (sound : Sound w) (works : AtWork w) 
   }
 
   stands : Stands held w (rested w held)
-  stands = record {
-    sound = sound;
-    work = works;
-    shows = shows;
-    quiet = λ x. refl;
-    over = refl;
-    packs = record { sectors = λ u b. refl; marks = λ u b. refl };
-  }
+  stands = search (rules, shows)
 
   -- ---- it is consistent
   seen : (x : ℕ) → StillSeen (unit_rested (unit_at w x) x).drive
   seen x = still_if (unit_at w x).declared (unit_at w x).drive x (drive_still x)
 
   agrees : (x : ℕ) → Agrees (unit_rested (unit_at w x) x) (record { state = (adapter_at w (adapter_of x)).state; ready = [] }) x
-  agrees x = record {
-    positions = sym (ap (λ z. is_positioning z || (unit_rested (unit_at w x) x).drive.attention) (seen x).0 ∙ (seen x).1);
-    never_both = ap (λ z. is_positioning z && (unit_rested (unit_at w x) x).drive.attention) (seen x).0;
-    transfers = ap is_transferring (seen x).0;
-    busy = ap (λ b. b && ((adapter_at w (adapter_of x)).state.drive == Rattle.trace_replay.specs.Adapters.drive_of x)) (all_free (adapter_of x));
-    attention = calls x ∙ sym (ap (λ b. on b 1) (seen x).1);
-    queued = refl;
-    held = refl;
-    errors = λ error. absurd (false≢true (sym (seen x).2 ∙ error));
-    said = refl;
-    counts = λ moving. absurd (false≢true moving);
-  }
+  agrees x = search (rules, seen, all_free, calls, false≢true)
 
   consistent : IsConsistent (rested w held)
   consistent = record {

@@ -1,8 +1,7 @@
 -- A SECTOR IS TRIED: a block more is done, or the segment stopped at it.
-use Rattle.std.proofs.Common.{◌≡◌, ◌≢◌, ℕ, ◌+◌, ◌<◌, ◌≤◌, not, Bool, true, false, List, [], length, take, Option, Some, None, refl, sym, ap, ◌∙◌, subst, arith}
-use Rattle.std.specs.Prelude.{if◌then◌else◌, is_some, IsTrue, option_map}
+use Rattle.std.proofs.Common.{◌≡◌, ◌≢◌, ℕ, ◌+◌, ◌<◌, ◌≤◌, not, Bool, true, false, List, [], length, take, Option, Some, None, refl, sym, ap, ◌∙◌, subst, arith, rules}
+use Rattle.std.specs.Prelude.{if◌then◌else◌, is_some, IsTrue}
 use Rattle.std.proofs.lemmas.Bool.{lt-ltb, false≢true}
-use Rattle.std.proofs.lemmas.Option.{none-some}
 use Rattle.std.proofs.lemmas.List.{get_or-set_same}
 use Rattle.pack_geometry.specs.declared.DriveKind.{DriveKind}
 use Rattle.pack_geometry.specs.Geometry.{limit_of, replacement_at}
@@ -16,8 +15,7 @@ use Rattle.pack_geometry.proofs.PackLaws.{length-block_at}
 use Rattle.hardware_table.specs.declared.Moved.{Moved}
 use Rattle.hardware_table.specs.declared.Moved.TheVariants as verdict
 use Rattle.hardware_table.specs.Drive.{DriveState, is_writing}
-use Rattle.hardware_table.specs.Moves.{IsVerdict, IsVerdictBy, has_bytes, was_read, was_written}
-use Rattle.hardware_table.specs.declared.FaultKind.{FaultKind}
+use Rattle.hardware_table.specs.Moves.{IsVerdict, has_bytes, was_read, was_written}
 use Rattle.main_memory.specs.Bytes.{filled}
 use Rattle.main_memory.specs.Blocks.{size_at}
 use Rattle.main_memory.proofs.ByteLaws.{length-filled}
@@ -37,10 +35,7 @@ use Rattle.trace_replay.proofs.Unusable.{marked_only}
 -- THE SECTOR that is tried carries the first block not done,
 pub tried_sector : (index : Option ℕ) (job : Job) (kind : DriveKind) (done moved block : ℕ) → job.kind ≡ kind → moved < (segment_by index job done).count
     → block ≡ (segment_by index job done).block + moved → block ≡ sector_for kind index (job.first + (done + moved))
-tried_sector None job kind done moved block same less is = omega (arith, is)
-tried_sector (Some i) job kind done moved block same less is =
-    let none : replacement_at job.kind i + moved ≡ replacement_at job.kind i = omega (arith, less) in
-    is ∙ none ∙ ap (λ k. replacement_at k i) same
+tried_sector index job kind done moved block same less is = search rules
 
 -- and where it is unmarked it is that block's home.
 own_home : (kind : DriveKind) (table : Option Table) (pack : Pack) (block : ℕ) → block < limit_of kind → is_marked pack block ≡ false → home_of kind table pack block ≡ Some block

@@ -1,6 +1,5 @@
 -- Behind a submission at a quiet driver few event lines are left, whatever the packs hold.
-use Rattle.std.proofs.Common.{◌≡◌, ℕ, suc, ◌+◌, ◌*◌, ◌≤◌, ◌==◌, Bool, true, false, List, [], ◌∷◌, length, filter, None, refl, sym, subst, arith}
-use Rattle.std.specs.Prelude.{if◌then◌else◌}
+use Rattle.std.proofs.Common.{◌≡◌, ℕ, ◌+◌, ◌*◌, ◌≤◌, ◌==◌, Bool, true, false, List, [], ◌∷◌, length, filter, None, refl, sym, subst, arith, rules}
 use Rattle.std.specs.List.{list_any}
 use Rattle.pack_geometry.specs.declared.DriveKind.{DriveKind}
 use Rattle.pack_geometry.specs.Pack.{Pack, empty_pack}
@@ -56,18 +55,11 @@ met_blocks s r Joined few none x = by (x == r.unit)
 
 all_blocks : (units : ℕ → UnitSeen) (xs : List ℕ) → ((x : ℕ) → blocks_waiting (units x).service.waiting ≤ 127) → blocks_of_units units xs ≤ 127 * length xs
 all_blocks units [] each = omega arith
-all_blocks units (x ∷ xs) each = both (blocks_waiting (units x).service.waiting) (blocks_of_units units xs) (length xs) (each x) (all_blocks units xs each)
-  where
-    both : (a b n : ℕ) → a ≤ 127 → b ≤ 127 * n → a + b ≤ 127 * suc n
-    both a b n first rest = omega (arith, first, rest)
+all_blocks units (x ∷ xs) each = search (rules, all_blocks units xs each)
 
 pub short : (test : ℕ → Bool) (xs : List ℕ) → length (filter test xs) ≤ length xs
 short test [] = omega arith
-short test (x ∷ xs) = by (test x) (short test xs)
-  where
-    by : (b : Bool) → length (filter test xs) ≤ length xs → length (if b then x ∷ filter test xs else filter test xs) ≤ suc (length xs)
-    by true le = omega (arith, le)
-    by false le = omega (arith, le)
+short test (x ∷ xs) = search (rules, short test xs)
 
 -- ---- A UNIT THAT IS SET UP is there
 is_there : (w : World) (u : ℕ) → IsSetUp w u → list_any (λ unit. unit == u) (filter (λ x. (unit_at w x).declared) all_units) ≡ true

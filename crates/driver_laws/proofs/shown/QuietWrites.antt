@@ -1,7 +1,6 @@
 -- The blocks of a write stay, whatever act comes.
-use Rattle.std.proofs.Common.{◌≡◌, inl, inr, ℕ, zero, suc, ◌&&◌, not, Bool, true, false, List, [], ◌∷◌, get_or-set_other, Option, Some, None, refl, sym, ap, ◌∙◌, subst}
-use Rattle.std.specs.Prelude.{if◌then◌else◌, slice_index_or, slice_set, unwrap_or}
-use Rattle.std.specs.Option.{option_map_or}
+use Rattle.std.proofs.Common.{◌≡◌, inl, inr, ℕ, ◌&&◌, not, Bool, true, false, List, get_or-set_other, Option, Some, None, refl, sym, ap, ◌∙◌, subst, rules}
+use Rattle.std.specs.Prelude.{if◌then◌else◌, unwrap_or}
 use Rattle.std.proofs.lemmas.Bool.{cases_eq, false≢true}
 use Rattle.std.proofs.lemmas.Option.{none-some, same_Some}
 use Rattle.hardware_table.specs.declared.Moved.TheVariants as verdict
@@ -9,13 +8,12 @@ use Rattle.hardware_table.specs.declared.Work.TheVariants as work
 use Rattle.hardware_table.specs.Drive.{is_writing}
 use Rattle.hardware_table.specs.Moves.{has_bytes, was_read}
 use Rattle.hardware_table.specs.Adapter.{next_window}
-use Rattle.trace_replay.specs.Script as script
 use Rattle.trace_replay.specs.Script.{Input}
 use Rattle.driver_machine.specs.declared.Phase.TheVariants.{Transferring}
 use Rattle.driver_machine.specs.declared.Task.TheVariants.{Judge}
 use Rattle.driver_machine.specs.World.{World, Held, no_held, unit_at, slot_at, held_in, slot_in_hand, with_block_in}
 use Rattle.driver_machine.specs.Acts as deed
-use Rattle.driver_machine.specs.Acts.{Refuse, Submit, Of, Change, Nothing, Taken, Deed, Scene, effect, scene_of, freed, after}
+use Rattle.driver_machine.specs.Acts.{Refuse, Submit, Of, Change, Nothing, Taken, Deed, Scene, effect, scene_of, after}
 use Rattle.driver_machine.specs.Guards.{May, MayChange}
 use Rattle.driver_machine.specs.Sound.{IsPhase, IsTask}
 use Rattle.driver_machine.proofs.Frame.{other_slot}
@@ -55,12 +53,7 @@ kept : (w now : World) (p : ℕ) (h g : Held) → slot_at now p ≡ slot_at w p 
 kept w now p h g same was is = ap (λ (x : Held). x.blocks) (same_Some g h (sym is ∙ same ∙ was))
 
 changed_slot : (w : World) (input : Input) (p : ℕ) → MayChange w input → slot_at (after w (Change input)) p ≡ slot_at w p
-changed_slot w (script.Turn u sector) p may = refl
-changed_slot w (script.Noise noise) p may = refl
-changed_slot w (script.Arm u kind times) p may = refl
-changed_slot w (script.SetOnline u on) p may = refl
-changed_slot w (script.SetLocked u on) p may = refl
-changed_slot w input p may = absurd may
+changed_slot w input p may = search rules
 
 -- EACH ACT
 pub writes_stay : WritesStay

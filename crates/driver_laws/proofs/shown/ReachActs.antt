@@ -1,13 +1,10 @@
 -- An act keeps the reach, and what lies beyond it.
-use Rattle.std.proofs.Common.{◌≡◌, inl, inr, ℕ, ◌+◌, ◌*◌, ◌<◌, ◌≤◌, true, List, [], ◌∷◌, drop, length, get_or-set_same, get_or-set_other, Option, Some, None, refl, sym, ap, subst, ◌∙◌}
+use Rattle.std.proofs.Common.{◌≡◌, ℕ, ◌+◌, ◌*◌, ◌<◌, ◌≤◌, true, List, [], ◌∷◌, drop, length, Option, Some, None, refl, sym, ap, subst, ◌∙◌, rules}
 use Rattle.std.specs.Prelude.{slice_index_or, slice_set, unwrap_or}
-use Rattle.std.proofs.lemmas.Bool.{cases_eq}
-use Rattle.std.proofs.lemmas.Option.{same_Some}
 use Rattle.pack_geometry.specs.declared.DriveKind.{DriveKind}
 use Rattle.pack_geometry.specs.Geometry.{block_count}
 use Rattle.pack_geometry.specs.Pack.{Pack}
 use Rattle.main_memory.specs.Bytes.{filled}
-use Rattle.main_memory.specs.Blocks.{Loan}
 use Rattle.hardware_table.specs.Drive.{is_writing}
 use Rattle.hardware_table.specs.Moves.{has_bytes, was_written}
 use Rattle.trace_replay.specs.Script as script
@@ -18,7 +15,7 @@ use Rattle.driver_machine.specs.Acts.{Act, Submit, Of, Change, Taken, Deed, Scen
 use Rattle.driver_machine.specs.Guards.{Allowed, InHand, MayChange}
 use Rattle.driver_machine.specs.Sound.{Sound}
 use Rattle.driver_machine.proofs.Frame.{effect_same}
-use Rattle.driver_laws.proofs.invariant.Hand.{slot_there}
+use Rattle.driver_laws.proofs.invariant.Frame.{slot_there}
 use Rattle.driver_laws.proofs.answers.Units.{setups_stay}
 use Rattle.driver_laws.proofs.answers.Ids.{freed_was}
 use Rattle.driver_laws.specs.answers.Packs.{packs_after}
@@ -54,19 +51,10 @@ AreBelow ends slots = (p : ℕ) (h : Held) → slice_index_or slots p None ≡ S
 
 set_below : (ends : ℕ → ℕ) (slots : List (Option Held)) (p : ℕ) (new : Held) → p < length slots → Below ends new → AreBelow ends slots
     → AreBelow ends (slice_set slots p (Some new))
-set_below ends slots p new less here there q g e = elim (cases_eq q p) [
-  | inl same ↦
-      let is : new ≡ g = same_Some new g (sym (get_or-set_same slots p (Some new) None less)
-      ∙ subst (λ (r : ℕ). slice_index_or (slice_set slots p (Some new)) r None ≡ Some g) same e) in
-      subst (Below ends) is here
-  | inr other ↦ there q g (sym (get_or-set_other slots p q (Some new) None other) ∙ e)
-]
+set_below ends slots p new less here there q g e = search rules
 
 same_below : (ends : ℕ → ℕ) (h g : Held) → g.first ≡ h.first → g.loan ≡ h.loan → g.unit ≡ h.unit → g.write ≡ h.write → Below ends h → Below ends g
-same_below ends h g first loan unit write asked writes =
-    let below : h.first + h.loan.count ≤ ends h.unit = asked (sym write ∙ writes) in
-    subst (λ (f : ℕ). f + g.loan.count ≤ ends g.unit) (sym first)
-    (subst (λ (l : Loan). h.first + l.count ≤ ends g.unit) (sym loan) (subst (λ (u : ℕ). h.first + h.loan.count ≤ ends u) (sym unit) below))
+same_below ends h g first loan unit write asked writes = search rules
 
 deed_below : (ends : ℕ → ℕ) (w : World) (line u id : ℕ) (d : Deed) → InHand w u id → AreBelow ends w.slots → AreBelow ends (after w (Of line u id d)).slots
 deed_below ends w line u id d i are =

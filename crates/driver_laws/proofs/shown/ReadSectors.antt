@@ -1,7 +1,6 @@
 -- A sector that was read as the packs have it is that of the surface: what a read gives is determined.
 use Rattle.std.proofs.Common.{ℕ, List, take, sym, ap, ◌∙◌}
 use Rattle.pack_geometry.specs.Pack.{Pack, block_at}
-use Rattle.main_memory.specs.Bytes.{front}
 use Rattle.main_memory.specs.Blocks.{size_at}
 use Rattle.hardware_table.specs.Adapter.{next_block, next_window}
 use Rattle.hardware_table.specs.Noise.{LiveNoise, strikes}

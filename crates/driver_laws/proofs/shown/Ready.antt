@@ -1,66 +1,30 @@
 -- READY, at a start or behind the steps of a retry: no line is told, and the same replay shows the world behind it.
-use Rattle.std.proofs.Common.{◌≡◌, inl, inr, ℕ, List, [], ◌∷◌, ◌++◌, Some, Bool, true, false, refl, sym, ap, not, subst, arith, ◌∙◌}
-use Rattle.std.specs.Prelude.{if◌then◌else◌}
-use Rattle.pack_geometry.specs.Geometry.{sectors_of}
+use Rattle.std.proofs.Common.{◌≡◌, inl, inr, ℕ, [], ◌∷◌, ◌++◌, Some, true, refl, sym, ap, subst, arith, ◌∙◌, rules}
 use Rattle.hardware_table.specs.Adapter.{AdapterState}
-use Rattle.trace_replay.specs.declared.seek_engine.Position.TheVariants as position
-use Rattle.trace_replay.specs.Seek.{sector_before}
 use Rattle.transfer_engine.specs.State.{TransferState, begun}
 use Rattle.trace_replay.specs.Replay.{UnitSeen, Replay, at_unit}
-use Rattle.trace_replay.specs.Conversation as told
 use Rattle.driver_machine.specs.declared.Phase.TheVariants.{Waiting, Queued}
 use Rattle.driver_machine.specs.declared.Phase.TheVariants as phases
-use Rattle.trace_replay.specs.declared.requests.answers.Cause.TheVariants as cause
 use Rattle.driver_machine.specs.World.{World, UnitView, AdapterView, Held, slot_in_hand, transfer_of, job_of, adapter_of, unit_at, adapter_at, held_in}
 use Rattle.driver_machine.specs.Guards.{InHand, IsNext}
-use Rattle.driver_machine.specs.Due.{target_of, next_by, start_by, start_of, failed}
+use Rattle.driver_machine.specs.Due.{next_by, start_of}
 use Rattle.driver_machine.specs.Acts as deed
 use Rattle.driver_machine.specs.Acts.{Deed, Of, scene_of, after}
 use Rattle.driver_machine.specs.Sound.{Sound}
 use Rattle.driver_machine.specs.DueFacts.{AllTaken, IsReady}
 use Rattle.driver_laws.specs.shown.Shows.{is_coming, Shows}
 use Rattle.driver_laws.proofs.shown.Core.{Core, IsHead}
-use Rattle.driver_laws.proofs.shown.Places.{no_bytes}
 use Rattle.driver_laws.proofs.shown.Facts.{At}
 use Rattle.driver_laws.proofs.shown.Silent.{silent_shows}
-
--- A unit that starts at once has no steps.
-not_ready : (online valid : Bool) (v : UnitView) (sector : ℕ) (h : Held) (t : TransferState)
-    → (if not online then failed cause.Offline 0 v else if false then failed cause.Locked 0 v
-    else if valid then deed.Search (target_of v h) sector else deed.Pack) ≡ deed.Ready t → ⊥
-not_ready true true v sector h t e = grind (arith, e)
-not_ready true false v sector h t e = grind (arith, e)
-not_ready false valid v sector h t e = grind (arith, e)
-
-starts_ready : (b : Bool) (c s : ℕ) (v : UnitView) (h : Held) (t : TransferState)
-    → start_by (if b then position.Ready else position.Search c s) v h ≡ deed.Ready t → b ≡ true
-starts_ready true c s v h t e = refl
-starts_ready false c s v h t e = absurd (not_ready v.drive.online v.drive.valid v s h t e)
 
 pub ready_core : (h : Held) (v : UnitView) (a : AdapterState) (seen : UnitSeen) → Core h v a seen → IsHead h v.drive.kind seen → v.phase ≡ Waiting
     → start_of v h ≡ deed.Ready (begun (job_of v.drive.kind h))
     → Core h (record v { phase = Queued; transfer = Some (begun (job_of v.drive.kind h)) }) a seen
-ready_core h v a seen is head phase starts =
-    let at_once : told.starts_at_once v.drive (target_of v h) ≡ true =
-    starts_ready (told.starts_at_once v.drive (target_of v h)) (target_of v h).cylinder (sector_before (sectors_of v.drive.kind) 3 (target_of v h).sector)
-    v h (begun (job_of v.drive.kind h)) starts in
-    record {
-      drive = is.drive;
-      table = is.table;
-      stage = is.stage ∙ rw (phase, head.head, sym head.is.first, at_once) refl;
-      progress =
-          (rw phase at is.progress)
-          ∙ ap (λ (bytes : List ℕ). record { done = 0; failures = 0; bytes = bytes; struck = [] }) (sym (no_bytes h.write h.blocks));
-    }
+ready_core h v a seen is head phase starts = search rules
 
 pub taken_core : (h : Held) (v : UnitView) (a : AdapterState) (seen : UnitSeen) → Core h v a seen → AllTaken v
     → Core h (record v { phase = Queued; transfer = Some (transfer_of v) }) a seen
-taken_core h v a seen is due = record {
-  drive = is.drive;
-  table = is.table;
-  stage = is.stage ∙ rw (due.phase, due.none) refl;
-  progress = rw due.phase at is.progress;
-}
+taken_core h v a seen is due = search rules
 
 -- The unit was coming, and joins its adapter's queue.
 ready_joins : (u : ℕ) (w : World) (s : Replay) → Shows u w s → is_coming (unit_at w u).phase (s.units u).stage ≡ true

@@ -1,5 +1,5 @@
 -- A REPAIR in the buffer: no line is told, and the same replay shows the world behind it.
-use Rattle.std.proofs.Common.{◌≡◌, ◌<◌, ℕ, [], ◌++◌, length, ◌+◌, ◌-◌, Option, Some, None, false, refl, sym, ap, subst, arith, ◌∙◌}
+use Rattle.std.proofs.Common.{◌≡◌, ◌<◌, ℕ, ◌++◌, length, ◌+◌, Option, false, refl, sym, ap, subst, ◌∙◌, rules}
 use Rattle.hardware_table.specs.declared.Moved.TheVariants.{Clean, Burst}
 use Rattle.hardware_table.specs.declared.Moved.TheVariants as verdict
 use Rattle.hardware_table.specs.Adapter.{AdapterState}
@@ -16,7 +16,7 @@ use Rattle.driver_machine.specs.Acts.{in_phase, Of, after, repaired_at}
 use Rattle.driver_machine.specs.Acts as deed
 use Rattle.driver_machine.specs.Sound.{Sound, IsPhase}
 use Rattle.driver_machine.specs.DueFacts.{IsJudged}
-use Rattle.driver_laws.specs.shown.Stages.{progress_judged, failures_at, front_of}
+use Rattle.driver_laws.specs.shown.Stages.{front_of}
 use Rattle.driver_laws.specs.shown.Shows.{Shows}
 use Rattle.driver_laws.proofs.shown.Core.{Core}
 use Rattle.driver_laws.proofs.shown.Facts.{At}
@@ -35,34 +35,12 @@ repaired_front h k n at pattern reads inside is =
 repair_core : (h : Held) (v : UnitView) (a : AdapterState) (seen : UnitSeen) (moved at pattern : ℕ)
     → Core h v a seen → IsJudged v moved (Burst at pattern) → h.write ≡ false → (transfer_of v).done + moved < length h.blocks
     → Core (repaired_at ((transfer_of v).done + moved) at pattern h) (in_phase (Due (Judge (moved + 1) Clean)) v) a seen
-repair_core h v a seen moved at pattern is due reads inside =
-    let progress : seen.progress ≡ progress_judged (Burst at pattern) moved (transfer_of v) h =
-    judged_progress (Burst at pattern) h v a seen moved is due in
-    let more : (transfer_of v).done + moved + 1 ≡ (transfer_of v).done + (moved + 1) = omega arith in
-    let none : 0 ≡ failures_at (moved + 1) (transfer_of v).failures =
-    sym (not_first (moved + 1) (transfer_of v).failures (omega arith)) in
-    record {
-      drive = is.drive;
-      table = is.table;
-      stage = is.stage ∙ rw due.phase refl;
-      progress =
-          progress
-          ∙ ap (λ bytes. record { done = (transfer_of v).done + moved + 1; failures = 0; bytes = bytes; struck = [] })
-          (repaired_front h ((transfer_of v).done + moved) ((transfer_of v).done + (moved + 1)) at pattern reads inside (sym more))
-          ∙ ap (λ n. record { done = n; failures = 0; bytes = front_of (repaired_at ((transfer_of v).done + moved) at pattern h) ((transfer_of v).done + (moved + 1)); struck = [] }) more
-          ∙ ap (λ n. record { done = (transfer_of v).done + (moved + 1); failures = n; bytes = front_of (repaired_at ((transfer_of v).done + moved) at pattern h) ((transfer_of v).done + (moved + 1)); struck = [] }) none;
-    }
+repair_core h v a seen moved at pattern is due reads inside = search (rules, judged_progress, not_first, repaired_front)
 
 -- the sector behind those that moved lies in the buffer
 next_inside : (index : Option ℕ) (t : TransferState) (size moved : ℕ) → t.index ≡ index → engine.IsTransfer t → t.job.count ≡ size
     → moved < (engine.segment_of t).count → t.done + moved < size
-next_inside None t size moved none is same less =
-    let left : moved < t.job.count - t.done = subst (λ i. moved < (engine.segment_by i t.job t.done).count) none less in
-    omega (arith, left, same)
-next_inside (Some i) t size moved some is same less =
-    let one : moved < 1 = subst (λ j. moved < (engine.segment_by j t.job t.done).count) some less in
-    let left : t.done < t.job.count = is.left in
-    omega (arith, one, left, same)
+next_inside index t size moved some is same less = search rules
 
 pub repair_shows : (line u id moved at_place pattern : ℕ) (w : World) (s : Replay) → Sound w → Shows u w s → InHand w u id → At u id w s
     → IsJudged (unit_at w u) moved (verdict.Burst at_place pattern)

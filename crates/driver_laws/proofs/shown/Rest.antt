@@ -1,15 +1,14 @@
 -- Refusals, answers that are taken, another speaker, and the start.
-use Rattle.std.proofs.Common.{◌≡◌, inl, inr, ℕ, zero, suc, ◌<◌, Bool, true, false, List, [], ◌∷◌, replicate, Option, Some, None, refl, sym, ap, subst, arith, ◌∙◌, get_or-set_other}
+use Rattle.std.proofs.Common.{◌≡◌, ℕ, zero, suc, ◌<◌, Bool, true, false, List, [], ◌∷◌, replicate, Option, Some, None, refl, sym, ap, subst, arith, ◌∙◌, get_or-set_other, rules}
 use Rattle.std.proofs.lemmas.List.Elements.{Contains-get_or}
 use Rattle.std.proofs.lemmas.Bool.Decides.{eqb_tells}
 use Rattle.std.specs.Prelude.{slice_set, slice_index_or, unwrap_or, Contains}
 use Rattle.std.specs.Option.{option_map_or}
 use Rattle.partitions.specs.Partitions.{admission}
 use Rattle.partitions.specs.declared.Admission.{Admission}
-use Rattle.partitions.specs.declared.Admission.TheVariants.{Inside, Eof, Outside}
 use Rattle.hardware_table.specs.Adapter.{new_adapter}
 use Rattle.disksort.specs.declared.Waiter.{Waiter}
-use Rattle.trace_replay.specs.requests.Requests.{Request, AtEnd, Beyond, FramesShort, Rejection, rejection_answer}
+use Rattle.trace_replay.specs.requests.Requests.{Request, Rejection, rejection_answer}
 use Rattle.trace_replay.specs.Script as script
 use Rattle.trace_replay.specs.Conversation as told
 use Rattle.trace_replay.specs.Replay.{UnitSeen, Replay, Refused, Joined, Submission, submission, submission_by, submitted, new_replay}
@@ -39,35 +38,18 @@ pub record IsRefusal (kind : AnswerKind) (met : Submission) : Type 0 where
   pub is : met ≡ Refused why
   pub answer : answer_told kind [] ≡ rejection_answer why
 
-some_same : {x y : AnswerKind} → Some x ≡ Some y → y ≡ x
-some_same e = grind arith
-
 refused_by : (adm : Admission) (room : Bool) (kind : AnswerKind) → refusal_by adm room ≡ Some kind → IsRefusal kind (submission_by adm room)
-refused_by Outside room kind e = record { why = Beyond; is = refl; answer = ap (λ k. answer_told k []) (some_same e) }
-refused_by Eof room kind e = record { why = AtEnd; is = refl; answer = ap (λ k. answer_told k []) (some_same e) }
-refused_by (Inside first) true kind e = absurd (grind (arith, e))
-refused_by (Inside first) false kind e = record { why = FramesShort; is = refl; answer = ap (λ k. answer_told k []) (some_same e) }
+refused_by adm room kind e = search rules
 
 pub joins_by : (adm : Admission) (room : Bool) → refusal_by adm room ≡ None → submission_by adm room ≡ Joined
-joins_by Outside room e = absurd (grind (arith, e))
-joins_by Eof room e = absurd (grind (arith, e))
-joins_by (Inside first) true e = refl
-joins_by (Inside first) false e = absurd (grind (arith, e))
+joins_by adm room e = search rules
 
 same_submission : (u : ℕ) (r : Request) (w : World) (s : Replay) → Shows u w s → IsSetUp w r.unit
     → submission s r ≡ submission_by (admission (unit_at w r.unit).drive.kind r.part r.block r.count) (is_room r w)
 same_submission u r w s shows set = rw ((shows.units r.unit set).drive, shows.frames) refl
 
 refuse_shows : (u line : ℕ) (r : Request) (kind : AnswerKind) (w : World) (s : Replay) → Shows u w s → Shows u (after w (Refuse line r kind)) s
-refuse_shows u line r kind w s shows = record {
-  units = λ x set. shows.units x (record { unit = set.unit; declared = set.declared });
-  adapters = shows.adapters;
-  own_ready = shows.own_ready;
-  other_ready = shows.other_ready;
-  noise = shows.noise;
-  frames = shows.frames;
-  outstanding = shows.outstanding;
-}
+refuse_shows u line r kind w s shows = search rules
 
 pub refusals_show : RefusalsShow
 refusals_show u line r kind w s shows allowed =
@@ -115,17 +97,7 @@ outstanding_freed (Some x ∷ slots) (suc p) h is over = ap (counted_by x.ended)
 
 freed_slot : (slot : Option ℕ) (slots : List (Option Held)) → ((p : ℕ) → slot ≡ Some p → (h : Held) × (slice_index_or slots p None ≡ Some h) × (h.ended ≡ true))
     → IsFreed slots (option_map_or (λ p. slice_set slots p None) slot slots)
-freed_slot None slots over = record { keeps = λ q h is going. is; count = refl }
-freed_slot (Some p) slots over =
-    let g : Held = (over p refl).0 in
-    record {
-      keeps = λ q h is going. elim (eqb_tells q p) [
-        | inl same ↦ absurd (true_false (over p refl).2
-            (ap (λ (y : Held). y.ended) (some_one (sym (over p refl).1 ∙ ap (λ n. slice_index_or slots n None) (sym same.1) ∙ is)) ∙ going))
-        | inr other ↦ get_or-set_other slots p q None None other.1 ∙ is
-      ];
-      count = outstanding_freed slots p g (over p refl).1 (over p refl).2;
-    }
+freed_slot slot slots over = search (rules, eqb_tells, true_false, some_one, get_or-set_other, outstanding_freed)
 
 made_over : (answers : List Made) (slots : List (Option Held))
     → ((made : Made) (p : ℕ) → Contains answers made → made.slot ≡ Some p → (h : Held) × (slice_index_or slots p None ≡ Some h) × (h.ended ≡ true))
@@ -178,22 +150,7 @@ rest_shows u line w s sound shows = (
 
 -- ANOTHER SPEAKER
 pub speakers_change : SpeakersChange
-speakers_change u x w s shows calm next small small' = record {
-  units = shows.units;
-  adapters = shows.adapters;
-  own_ready = ready (adapter_of x) (omega (arith, small')) ∙ sym (ap (λ b. with_coming b x (adapter_at w (adapter_of x)).queue) next);
-  other_ready = λ a less other. ready a less;
-  noise = shows.noise;
-  frames = shows.frames;
-  outstanding = shows.outstanding;
-}
-  where
-    ready : (a : ℕ) → a < 4 → (s.adapters a).ready ≡ (adapter_at w a).queue
-    ready a less = elim (eqb_tells a (adapter_of u)) [
-      | inl same ↦ subst (λ b. (s.adapters b).ready ≡ (adapter_at w b).queue) (sym same.1)
-          (shows.own_ready ∙ ap (λ b. with_coming b u (adapter_at w (adapter_of u)).queue) calm)
-      | inr other ↦ shows.other_ready a less other.1
-    ]
+speakers_change u x w s shows calm next small small' = search rules
 
 -- THE START
 none_outstanding : (n : ℕ) → 0 ≡ outstanding_in (replicate n None)
@@ -205,19 +162,7 @@ waiting_calm phases.Waiting = refl
 waiting_calm other = refl
 
 new_adapters : IsAdapterSeen new_adapter new_adapter
-new_adapters = record {
-  busy = refl;
-  completion = refl;
-  drive = refl;
-  block = refl;
-  count = refl;
-  write = refl;
-  moved = refl;
-  verdict = refl;
-  late = refl;
-  attentions = refl;
-  counted = λ busy. absurd (grind (arith, busy));
-}
+new_adapters = search rules
 
 pub start_is_shown : StartIsShown
 start_is_shown u drives tables surface setups outstanding noises start quiet = record {

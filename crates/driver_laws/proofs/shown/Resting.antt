@@ -1,5 +1,5 @@
 -- A unit speaks until nothing is due at it; then no unit speaks.
-use Rattle.std.proofs.Common.{◌≡◌, ◌≢◌, ◌⊎◌, inl, inr, ℕ, ◌+◌, ◌*◌, ◌/◌, ◌<◌, Bool, true, false, List, [], ◌∷◌, length, refl, sym, ap, subst, arith, ◌∙◌}
+use Rattle.std.proofs.Common.{◌≡◌, ◌≢◌, ◌⊎◌, inl, inr, ℕ, ◌+◌, ◌*◌, ◌<◌, Bool, true, false, List, [], ◌∷◌, length, refl, sym, ap, subst, arith, ◌∙◌, rules}
 use Rattle.std.proofs.lemmas.Bool.{cases_eq}
 use Rattle.disksort.specs.declared.Waiter.{Waiter}
 use Rattle.trace_replay.specs.Moments as moment
@@ -18,7 +18,7 @@ use Rattle.driver_machine.proofs.Until.{due_over}
 use Rattle.driver_machine.specs.Runs.{Run}
 use Rattle.driver_laws.proofs.invariant.Deeds.{deed_at}
 use Rattle.driver_laws.proofs.invariant.Due.{begun_one, none_due}
-use Rattle.driver_laws.specs.shown.Shows.{Shows, with_coming, is_coming}
+use Rattle.driver_laws.specs.shown.Shows.{Shows, is_coming}
 use Rattle.driver_laws.specs.shown.Within.{ShowsAll, Rests}
 use Rattle.driver_laws.proofs.shown.Telling.{Speaks, Tells}
 use Rattle.driver_laws.proofs.shown.Joined.{tells_append, tells_too}
@@ -43,34 +43,10 @@ at_rest w line u sound lt none = rest_by (unit_at w u).phase w line u refl sound
 
 -- THE SPEAKER CHANGES. Of a unit that is not coming all is seen as of any other.
 pub shows_all : (u : ℕ) (w : World) (s : Replay) → Shows u w s → is_coming (unit_at w u).phase (s.units u).stage ≡ false → ShowsAll w s
-shows_all u w s shows still = record {
-  units = shows.units;
-  adapters = shows.adapters;
-  ready = λ a. λ lt. by a lt (cases_eq a (adapter_of u));
-  noise = shows.noise;
-  frames = shows.frames;
-  outstanding = shows.outstanding;
-}
-  where
-    by : (a : ℕ) → a < 4 → (a ≡ adapter_of u) ⊎ (a ≢ adapter_of u) → (s.adapters a).ready ≡ (adapter_at w a).queue
-    by a lt (inl same) =
-        subst (λ (k : ℕ). (s.adapters k).ready ≡ (adapter_at w k).queue) (sym same)
-        (shows.own_ready ∙ ap (λ (b : Bool). with_coming b u (adapter_at w (adapter_of u)).queue) still)
-    by a lt (inr other) = shows.other_ready a lt other
+shows_all u w s shows still = search rules
 
 pub shows_one : (u : ℕ) (w : World) (s : Replay) → u < 32 → ShowsAll w s → is_coming (unit_at w u).phase (s.units u).stage ≡ false → Shows u w s
-shows_one u w s lt shows still = record {
-  units = shows.units;
-  adapters = shows.adapters;
-  own_ready = shows.ready (adapter_of u) (eighth u lt) ∙ ap (λ (b : Bool). with_coming b u (adapter_at w (adapter_of u)).queue) (sym still);
-  other_ready = λ a. λ less. λ other. shows.ready a less;
-  noise = shows.noise;
-  frames = shows.frames;
-  outstanding = shows.outstanding;
-}
-  where
-    eighth : (u : ℕ) → u < 32 → u / 8 < 4
-    eighth u lt = omega (arith, lt)
+shows_one u w s lt shows still = search rules
 
 -- behind all that is due no unit speaks, and the others and the attentions stand as they did
 pub record Rested (line : ℕ) (drains : Bool) (act : Act) (others : ℕ → UnitView) (raised u : ℕ) (w : World) (s : Replay) : Type 0 where

@@ -1,7 +1,7 @@
 -- With nothing outstanding the driver stands for what its packs hold.
-use Rattle.std.proofs.Common.{◌≡◌, ◌⊎◌, inl, inr, ℕ, zero, suc, ◌<◌, false, List, [], ◌∷◌, replicate, All, Option, None, refl, sym, ap, ◌∙◌, subst}
+use Rattle.std.proofs.Common.{◌≡◌, ◌⊎◌, inl, inr, ℕ, zero, suc, ◌<◌, false, List, [], ◌∷◌, replicate, All, Option, None, refl, sym, ap, ◌∙◌, subst, rules}
 use Rattle.std.specs.Prelude.{Contains, slice_index_or, unwrap_or}
-use Rattle.std.proofs.lemmas.Bool.{false≢true, cases_eq}
+use Rattle.std.proofs.lemmas.Bool.{false≢true}
 use Rattle.std.proofs.lemmas.Option.{none-some}
 use Rattle.std.proofs.lemmas.List.Elements.{All-nil}
 use Rattle.pack_geometry.specs.Pack.{Pack}
@@ -13,7 +13,7 @@ use Rattle.disksort.specs.declared.Waiter.{Waiter}
 use Rattle.driver_laws.specs.rules.Stands.{is_sure_among, IsLive}
 use Rattle.driver_machine.specs.declared.Made.{Made}
 use Rattle.driver_machine.specs.declared.Phase.{Phase}
-use Rattle.driver_machine.specs.declared.Phase.TheVariants.{Waiting, Due}
+use Rattle.driver_machine.specs.declared.Phase.TheVariants.{Waiting}
 use Rattle.driver_machine.specs.World.{World, UnitView, Held, Setup, new_unit, new_world, no_transfer, adapter_of, unit_at, adapter_at, held_in, slot_in_hand, transfer_of}
 use Rattle.driver_machine.specs.Guards.{IsSetUp}
 use Rattle.driver_machine.specs.Sound.{Among, Sound, AtWork, WorkOf, is_waiting}
@@ -29,9 +29,7 @@ use Rattle.driver_laws.proofs.shown.Others.{waits_none}
 
 -- a unit without an outstanding request waits
 waits_only : (p : Phase) (queue : List Waiter) → WorkOf p queue → (is_waiting p ≡ false → ⊥) → p ≡ Waiting
-waits_only Waiting queue works never = refl
-waits_only (Due task) queue works never = absurd works
-waits_only other queue works never = absurd (never refl)
+waits_only p queue works never = search rules
 
 unit_waits : (w : World) (held : ℕ → Pack) (u : ℕ) → Sound w → AtWork w → Rests w held → u < 32 → (unit_at w u).phase ≡ Waiting
 unit_waits w held u s work rests lt =
@@ -65,13 +63,7 @@ rest_bears w held s work rests = record {
 -- A NEW DRIVER: each unit that is set up is one of the setups'
 among_or : (u : ℕ) (xs : List ℕ) → Among u xs ⊎ (Among u xs → ⊥)
 among_or u [] = inr (λ is. is)
-among_or u (x ∷ xs) = elim (cases_eq u x) [
-  | inl same ↦ inl (inl same)
-  | inr other ↦ elim (among_or u xs) [
-    | inl later ↦ inl (inr later)
-    | inr none ↦ inr (λ is. elim is [ inl same ↦ other same | inr later ↦ none later ])
-  ]
-]
+among_or u (x ∷ xs) = search (rules, among_or u xs)
 
 found : (u : ℕ) (setups : List Setup) → Among u (units_of setups) → (s : Setup) × Contains setups s × (s.unit ≡ u)
 found u [] is = absurd is

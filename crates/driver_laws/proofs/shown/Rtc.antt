@@ -1,5 +1,5 @@
 -- RTC: its line may be said, and what it leaves is shown.
-use Rattle.std.proofs.Common.{◌≡◌, ℕ, [], Some, ◌==◌, false, refl, sym, subst, arith}
+use Rattle.std.proofs.Common.{◌≡◌, ℕ, [], Some, ◌==◌, false, refl, sym, subst, arith, rules}
 use Rattle.drive_registers.specs.Codes.{offset_field}
 use Rattle.hardware_table.specs.declared.Moved.{Moved}
 use Rattle.hardware_table.specs.Adapter.{AdapterState}
@@ -25,12 +25,7 @@ use Rattle.driver_laws.proofs.shown.DeedFacts.{no, said_by}
 centre_core : (h : Held) (v : UnitView) (a : AdapterState) (seen : UnitSeen) (b : AdapterState) (moved : ℕ) (last : Moved)
     → Core h v a seen → v.phase ≡ Due (Judge moved last) → offset_field v.drive.offset == 0 ≡ false
     → Core h (with_drive centred v) a (seen_told seen b moment.Centre [])
-centre_core h v a seen b moved last is phase set = record {
-  drive = rw is.drive refl;
-  table = is.table;
-  stage = rw (is.stage, phase, set) (rw is.drive refl);
-  progress = rw phase (rw phase at is.progress);
-}
+centre_core h v a seen b moved last is phase set = search rules
 
 centre_talk : (h : Held) (v : UnitView) (a : AdapterState) (seen : UnitSeen) (moved : ℕ) (last : Moved)
     → Core h v a seen → v.phase ≡ Due (Judge moved last) → offset_field v.drive.offset == 0 ≡ false

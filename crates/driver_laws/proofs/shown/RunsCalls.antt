@@ -1,5 +1,5 @@
 -- From the start of a run on each call keeps the reach.
-use Rattle.std.proofs.Common.{◌≡◌, ℕ, ◌+◌, ◌≤◌, true, List, [], ◌∷◌, replicate, Option, Some, None, refl, sym, ap, subst, arith, ◌∙◌}
+use Rattle.std.proofs.Common.{◌≡◌, ℕ, ◌+◌, ◌≤◌, true, List, [], ◌∷◌, Option, Some, None, refl, sym, ap, subst, arith, ◌∙◌, rules}
 use Rattle.std.specs.Prelude.{is_some, unwrap_or}
 use Rattle.std.proofs.lemmas.Bool.{false≢true}
 use Rattle.std.proofs.lemmas.Option.{none-some}
@@ -52,10 +52,7 @@ answers_keep_reach ends old held w sound some within = acts_keep_reach ends old 
 kind_below : (ends : ℕ → ℕ) (drives : ℕ → Option DriveKind) (w : World) (r : Request) (unit : ℕ) (drive : Option DriveKind) → drives unit ≡ drive → unit ≡ r.unit
     → AreDeclared drives w → (unit_at w unit).declared ≡ true → AsksBelow ends drives (script.Submit r)
     → is_some r.written ≡ true → first_block (unit_at w unit).drive.kind r + r.count ≤ ends unit
-kind_below ends drives w r unit None is same declared on asks writes = absurd (false≢true (sym (declared.others unit is) ∙ on))
-kind_below ends drives w r unit (Some kind) is same declared on asks writes =
-    subst (λ (k : DriveKind). first_block k r + r.count ≤ ends unit) (sym (declared.kinds unit kind is))
-    (subst (λ (u : ℕ). first_block kind r + r.count ≤ ends u) (sym same) (asks kind (subst (λ (u : ℕ). drives u ≡ Some kind) same is) writes))
+kind_below ends drives w r unit drive is same declared on asks writes = search rules
 
 held_below : (ends : ℕ → ℕ) (h : Held) (first count : ℕ) → h.first ≡ first → h.loan.count ≡ count → first + count ≤ ends h.unit → h.first + h.loan.count ≤ ends h.unit
 held_below ends h first count is many below =

@@ -1,5 +1,5 @@
 -- A run keeps what is no sector, and so leaves its packs as the replay has them.
-use Rattle.std.proofs.Common.{◌≡◌, ◌⊎◌, inl, inr, ℕ, ◌*◌, ◌<◌, ◌≤◌, true, [], ◌∷◌, drop, Option, refl, sym, ap, subst, arith, ◌∙◌}
+use Rattle.std.proofs.Common.{◌≡◌, ℕ, ◌*◌, ◌<◌, true, [], ◌∷◌, drop, Option, refl, sym, ap, subst, ◌∙◌, rules}
 use Rattle.std.specs.Prelude.{is_some, unwrap_or}
 use Rattle.std.proofs.lemmas.Bool.{false≢true}
 use Rattle.std.proofs.lemmas.List.{get_or_past}
@@ -7,9 +7,7 @@ use Rattle.pack_geometry.specs.declared.DriveKind.{DriveKind}
 use Rattle.pack_geometry.specs.declared.DriveKind.TheVariants.{Rp06}
 use Rattle.pack_geometry.specs.Geometry.{block_count}
 use Rattle.pack_geometry.specs.Pack.{Pack}
-use Rattle.trace_replay.specs.Script.{drives_of}
-use Rattle.trace_replay.specs.Packs.{surface_of}
-use Rattle.driver_machine.specs.World.{World, UnitView, new_world, unit_at, no_unit}
+use Rattle.driver_machine.specs.World.{World, UnitView, new_world, unit_at}
 use Rattle.driver_machine.specs.Acts.{Act, Taken, after}
 use Rattle.driver_machine.specs.Events.{submit_acts, event_acts}
 use Rattle.driver_machine.specs.Guards.{Allowed}
@@ -19,7 +17,7 @@ use Rattle.driver_laws.proofs.invariant.Calls.{submit_works, event_works}
 use Rattle.driver_laws.proofs.invariant.Starts.{sound_new}
 use Rattle.driver_laws.proofs.shown.TraceRuns.{sound_after, is_legal}
 use Rattle.driver_laws.specs.answers.Packs.{packs_after}
-use Rattle.driver_laws.proofs.shown.Marks.{sectors_are_left, marks_stay}
+use Rattle.driver_laws.proofs.shown.Marks.{marks_stay}
 use Rattle.driver_laws.specs.shown.RunsRuns.{IsKept, StartsKept, RunsKeep, EventsKeep, SubmissionsKeep, AnswersKeep, PacksAreLeft, RunsAreLegal}
 use Rattle.driver_laws.proofs.shown.Acts.{beyond_stays, others_stay}
 use Rattle.driver_laws.proofs.shown.Units.{act_same}
@@ -64,12 +62,7 @@ answers_keep drives old held w sound some kept = runs_keep drives old held w (Ta
 
 -- THE START. Only units below 32 are set up.
 pub is_small : (w : World) (x : ℕ) → Sound w → (unit_at w x).declared ≡ true → x < 32
-is_small w x sound on = by_size (grind arith)
-  where
-    by_size : (x < 32) ⊎ (32 ≤ x) → x < 32
-    by_size (inl less) = less
-    by_size (inr more) =
-        absurd (false≢true (sym (ap (λ (v : UnitView). v.declared) (get_or_past w.units x no_unit (subst (λ (n : ℕ). n ≤ x) (sym sound.units) more))) ∙ on))
+is_small w x sound on = search (rules, false≢true, get_or_past)
 
 pub starts_kept : StartsKept
 starts_kept drives tables held setups outstanding noises are set declared =
@@ -88,18 +81,7 @@ starts_kept drives tables held setups outstanding noises are set declared =
 
 -- THE PACKS, and the whole run
 pub packs_are_left : PacksAreLeft
-packs_are_left drives old held start line moments w far kept = record {
-  sectors = λ unit kind block is less. sectors_are_left start line moments held w unit block far;
-  beyond = kept.packs.beyond;
-  marks = kept.packs.marks;
-  others = kept.packs.others;
-}
+packs_are_left drives old held start line moments w far kept = search rules
 
 pub runs_are_legal : RunsAreLegal
-runs_are_legal script tables old held line moments w good inputs read far kept idle = record {
-  good = good;
-  inputs = inputs;
-  tables_read = read;
-  trace = is_legal (drives_of script) tables (surface_of old) line moments held w far idle;
-  packs = packs_are_left (drives_of script) old held _ line moments w far kept;
-}
+runs_are_legal script tables old held line moments w good inputs read far kept idle = search (rules, is_legal, packs_are_left)

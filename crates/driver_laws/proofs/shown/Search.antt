@@ -1,5 +1,5 @@
 -- SEARCH: the drive takes it, its line may be said, and what it leaves is shown.
-use Rattle.std.proofs.Common.{◌≡◌, ◌<◌, ℕ, List, [], ◌∷◌, Some, Bool, true, false, refl, sym, ap, subst, arith, ◌∙◌}
+use Rattle.std.proofs.Common.{◌≡◌, ◌<◌, ℕ, [], ◌∷◌, Some, Bool, true, false, refl, sym, arith, rules}
 use Rattle.std.specs.Prelude.{if◌then◌else◌}
 use Rattle.pack_geometry.specs.declared.DriveKind.{DriveKind}
 use Rattle.pack_geometry.specs.declared.Place.{Place}
@@ -21,27 +21,19 @@ use Rattle.driver_machine.specs.declared.Phase.TheVariants.{Waiting, Positioning
 use Rattle.driver_machine.specs.declared.Phase.TheVariants as phases
 use Rattle.driver_machine.specs.World.{World, UnitView, Held, slot_in_hand, job_of, adapter_of, unit_at, adapter_at, held_in}
 use Rattle.driver_machine.specs.Guards.{InHand}
-use Rattle.driver_machine.specs.Due.{steps_of, position_of, target_of}
+use Rattle.driver_machine.specs.Due.{position_of, target_of}
 use Rattle.driver_machine.specs.Acts.{going_to, searching}
 use Rattle.driver_machine.specs.Acts as deed
 use Rattle.driver_machine.specs.Sound.{Sound, IsPhase}
 use Rattle.driver_machine.specs.DueFacts.{MayGo}
-use Rattle.driver_laws.specs.shown.Stages.{steps_seen}
 use Rattle.driver_laws.specs.shown.Shows.{Shows}
 use Rattle.driver_laws.proofs.shown.Told.{seen_told}
 use Rattle.driver_laws.specs.shown.Laws.{IsSaid}
 use Rattle.driver_laws.proofs.shown.Core.{Core, IsHead}
-use Rattle.driver_laws.proofs.shown.Places.{no_bytes}
-use Rattle.driver_laws.proofs.shown.Talk.{guarded_command}
 use Rattle.driver_laws.proofs.shown.Facts.{At, inside_limit}
 use Rattle.driver_laws.proofs.shown.Plain.{plain_says, ready_plain}
 use Rattle.driver_laws.proofs.shown.DeedFacts.{no, said_by}
 use Rattle.driver_laws.proofs.invariant.Drives.{place_inside, below_limit, is_addressed-addressed}
-
--- a first try has no steps of a retry
-no_steps : (kind : DriveKind) (first count : ℕ) (write : Bool) → steps_of (begun (record { kind = kind; first = first; count = count; write = write })) ≡ []
-no_steps kind first count true = refl
-no_steps kind first count false = refl
 
 -- a search is for the sector that is said
 pub record IsSearch (b : Bool) (s sector : ℕ) : Type 0 where
@@ -56,35 +48,19 @@ search_is false c s cylinder sector e = record { apart = refl; same = grind (ari
 pub search_stage : (h : Held) (v : UnitView) (a : AdapterState) (seen : UnitSeen) (sector : ℕ) → Core h v a seen → IsHead h v.drive.kind seen
     → v.phase ≡ Waiting → position_of v h ≡ position.Search (target_of v h).cylinder sector
     → seen.stage ≡ told.Steps (told.SearchFor (target_of v h).cylinder sector ∷ []) told.OwnBlocks
-search_stage h v a seen sector is head phase at =
-    let search : IsSearch (told.starts_at_once v.drive (target_of v h)) (sector_before (sectors_of v.drive.kind) 3 (target_of v h).sector) sector =
-    search_is (told.starts_at_once v.drive (target_of v h)) (target_of v h).cylinder (sector_before (sectors_of v.drive.kind) 3 (target_of v h).sector)
-    (target_of v h).cylinder sector at in
-    is.stage ∙ rw (phase, head.head, sym head.is.first, search.apart, search.same) refl
+search_stage h v a seen sector is head phase at = search rules
 
 search_core : (h : Held) (v : UnitView) (a : AdapterState) (seen : UnitSeen) (b : AdapterState) (sector : ℕ)
     → Core h v a seen → IsHead h v.drive.kind seen → v.phase ≡ Waiting
     → position_of v h ≡ position.Search (target_of v h).cylinder sector
     → Core h (record (going_to (Positioning 0) (searching (target_of v h) sector) v) { transfer = Some (begun (job_of v.drive.kind h)) })
     a (seen_told seen b (moment.Search (target_of v h).cylinder sector) [])
-search_core h v a seen b sector is head phase at = record {
-  drive = rw (is.drive, head.head, sym head.is.first) refl;
-  table = is.table;
-  stage =
-      rw (search_stage h v a seen sector is head phase at)
-      (ap (λ steps. told.UnderWay (steps_seen steps) told.OwnBlocks) (sym (no_steps v.drive.kind h.first h.loan.count h.write)));
-  progress =
-      (rw phase at is.progress)
-      ∙ ap (λ (bytes : List ℕ). record { done = 0; failures = 0; bytes = bytes; struck = [] }) (sym (no_bytes h.write h.blocks));
-}
+search_core h v a seen b sector is head phase at = search rules
 
 search_talk : (h : Held) (v : UnitView) (a : AdapterState) (seen : UnitSeen) (sector : ℕ) → Core h v a seen → IsHead h v.drive.kind seen
     → v.phase ≡ Waiting → position_of v h ≡ position.Search (target_of v h).cylinder sector → MayGo false v.drive
     → told.due seen.drive (hand_of seen) seen.stage ≡ Some (moment.Search (target_of v h).cylinder sector)
-search_talk h v a seen sector is head phase at go =
-    rw (search_stage h v a seen sector is head phase at, is.drive)
-    (ap Some (guarded_command v.drive (record (hand_of seen) { kind = v.drive.kind }) (moment.Search (target_of v h).cylinder sector)
-    (record { online = go.online; unlocked = refl; valid = go.valid })))
+search_talk h v a seen sector is head phase at go = search rules
 
 -- WHAT IS TAKEN by a drive that stands still and is online
 search_taken : (d : DriveState) (place : Place) → d.work ≡ work.Ready → d.online ≡ true → IsInside d.kind place
@@ -97,13 +73,7 @@ sector_before_small other sector = omega arith
 
 search_inside : (kind : DriveKind) (block sector : ℕ) → block < block_count kind → sector_before (sectors_of kind) 3 (place_at kind block).sector ≡ sector
     → IsInside kind (search_place (place_at kind block).cylinder sector (place_at kind block))
-search_inside kind block sector lt is =
-    let at : IsInside kind (place_at kind block) = place_inside kind block lt in
-    record {
-      cylinder = at.cylinder;
-      track = at.track;
-      sector = subst (λ n. n < sectors_of kind) is (sector_before_small kind (place_at kind block).sector);
-    }
+search_inside kind block sector lt is = search (rules, place_inside, sector_before_small)
 
 pub search_line : (line u id : ℕ) (w : World) (s : Replay) (sector : ℕ) → Sound w → Shows u w s → InHand w u id → At u id w s
     → (unit_at w u).phase ≡ phases.Waiting → MayGo false (unit_at w u).drive

@@ -1,16 +1,15 @@
 -- A SECTOR is tried: its line may be said, and what it leaves is shown.
-use Rattle.std.proofs.Common.{◌≡◌, ◌<◌, ℕ, ◌≤◌, List, [], ◌++◌, take, length, ◌+◌, ◌-◌, Option, Some, None, ◌*◌, ◌==◌, ◌&&◌, Bool, true, false, refl, sym, ap, not, subst, arith, ◌∙◌, append-nil}
-use Rattle.std.specs.Prelude.{if◌then◌else◌, min, nat_lt, option_map}
+use Rattle.std.proofs.Common.{◌≡◌, ◌<◌, ℕ, ◌≤◌, List, [], ◌++◌, take, length, ◌+◌, ◌-◌, Option, Some, None, ◌*◌, ◌==◌, ◌&&◌, Bool, true, false, refl, sym, ap, not, subst, arith, ◌∙◌, append-nil, rules}
+use Rattle.std.specs.Prelude.{if◌then◌else◌}
 use Rattle.pack_geometry.specs.declared.DriveKind.{DriveKind}
 use Rattle.hardware_table.specs.declared.Moved.{Moved}
-use Rattle.hardware_table.specs.declared.Moved.TheVariants.{Clean, Burst, Hard, Marked, Faulted, Offline}
+use Rattle.hardware_table.specs.declared.Moved.TheVariants.{Clean, Burst, Hard}
 use Rattle.hardware_table.specs.declared.Moved.TheVariants as verdict
-use Rattle.hardware_table.specs.declared.FaultKind.{FaultKind}
 use Rattle.hardware_table.specs.declared.Work.TheVariants as work
 use Rattle.hardware_table.specs.declared.Work.{Work}
-use Rattle.hardware_table.specs.Adapter.{AdapterState, IsAdapter, bytes_between, stepped, step_bytes, late_after, next_block, next_window, drive_stepped}
+use Rattle.hardware_table.specs.Adapter.{AdapterState, IsAdapter, bytes_between, stepped, step_bytes, next_block, next_window, drive_stepped}
 use Rattle.hardware_table.specs.Drive.{DriveState, is_writing}
-use Rattle.hardware_table.specs.Moves.{IsVerdict, has_bytes, IsVerdictBy, stop_of, first_armed, was_read, was_written}
+use Rattle.hardware_table.specs.Moves.{IsVerdict, has_bytes, was_read, was_written}
 use Rattle.hardware_table.specs.Noise.{strikes, after_strike, book_struck, Book}
 use Rattle.main_memory.specs.Blocks.{Loan, size_at}
 use Rattle.transfer_engine.specs.declared.job.Job.{Job}
@@ -38,92 +37,23 @@ use Rattle.driver_laws.specs.shown.Laws.{IsSaid}
 use Rattle.driver_laws.proofs.shown.Core.{Core, IsHead}
 use Rattle.driver_laws.proofs.shown.Facts.{At, some_one}
 use Rattle.driver_laws.proofs.shown.Plain.{ready_plain}
-use Rattle.driver_laws.proofs.shown.DeedFacts.{judged_start, no, kept_block, said_by}
+use Rattle.driver_laws.proofs.shown.DeedFacts.{no, kept_block, said_by}
 use Rattle.driver_laws.proofs.shown.Busy.{Moves, moves, only_one}
 use Rattle.driver_laws.proofs.shown.Fronts.{front_more, front_same, block_set}
 use Rattle.driver_laws.proofs.rules.Known.{written_live}
 
 -- THE COMPLETION goes up behind a clean sector where it was the last, in bytes as in blocks.
-bytes_over : (n count moved last : ℕ) → n ≡ 512 * count - (512 - last) - 512 * moved → 1 ≤ last → last ≤ 512 → moved < count
-    → (n - min 512 n == 0) ≡ (moved + 1 == count)
-bytes_over n count moved last is some few more = grind (arith, is, some, few, more)
-
 bytes_left : (blocks last skip count moved : ℕ) → 0 < bytes_between blocks last skip count - 512 * moved → moved < count
 bytes_left blocks last skip count moved some = grind (arith, some)
-
-by_bytes : (n blocks last skip count moved : ℕ) → n ≡ bytes_between blocks last skip count - 512 * moved → 1 ≤ last → last ≤ 512 → moved < count
-    → (n - min 512 n == 0) ≡ (moved + 1 == count)
-by_bytes n blocks last skip count moved is some few more = at (skip + count == blocks) refl
-  where
-    at : (b : Bool) → (skip + count == blocks) ≡ b → (n - min 512 n == 0) ≡ (moved + 1 == count)
-    at true e =
-        let less : n ≡ 512 * count - (512 - last) - 512 * moved = is ∙ rw e refl in
-        bytes_over n count moved last less some few more
-    at false e =
-        let all : n ≡ 512 * count - (512 - 512) - 512 * moved = is ∙ rw e (omega arith) in
-        bytes_over n count moved 512 all (omega arith) (omega arith) more
 
 -- both go up together
 over_together : (a seen : AdapterState) → IsAdapter a → IsAdapterSeen a seen → a.busy ≡ true → a.completion ≡ false → 1 ≤ a.blocks
     → (seen.byte_count - step_bytes seen == 0) ≡ (a.byte_count - step_bytes a == 0)
-over_together a seen ok is busy down some =
-    let left : 0 < bytes_between a.blocks a.last a.skip a.count - 512 * a.moved = subst (λ n. 0 < n) (ok.counted busy) (ok.left busy down) in
-    let more : a.moved < a.count = bytes_left a.blocks a.last a.skip a.count a.moved left in
-    let ours : (a.byte_count - step_bytes a == 0) ≡ (a.moved + 1 == a.count) =
-    by_bytes a.byte_count a.blocks a.last a.skip a.count a.moved (ok.counted busy) (ok.last_some some) ok.last_few more in
-    let counted : seen.byte_count ≡ 512 * a.count - (512 - 512) - 512 * a.moved = is.counted (is.busy ∙ busy) ∙ rw (is.count, is.moved) (omega arith) in
-    let theirs : (seen.byte_count - step_bytes seen == 0) ≡ (a.moved + 1 == a.count) =
-    bytes_over seen.byte_count a.count a.moved 512 counted (omega arith) (omega arith) more in
-    theirs ∙ sym ours
-
-less_by_one : (n count moved : ℕ) → n ≡ 512 * count - 512 * moved → n - min 512 n ≡ 512 * count - 512 * (moved + 1)
-less_by_one n count moved is = omega (arith, is)
-
-stopped_adapter : (v : Moved) (a seen : AdapterState) → IsAdapterSeen a seen
-    → IsAdapterSeen (record a { completion = true; verdict = v }) (record seen { completion = true; verdict = v })
-stopped_adapter v a seen is = record {
-  busy = is.busy;
-  completion = refl;
-  drive = is.drive;
-  block = is.block;
-  count = is.count;
-  write = is.write;
-  moved = is.moved;
-  verdict = refl;
-  late = is.late;
-  attentions = is.attentions;
-  counted = is.counted;
-}
+over_together a seen ok is busy down some = search rules
 
 sector_adapter : (v : Moved) (a seen : AdapterState) → (seen.byte_count - step_bytes seen == 0) ≡ (a.byte_count - step_bytes a == 0)
     → IsAdapterSeen a seen → IsAdapterSeen (stepped v a) (stepped v seen)
-sector_adapter Clean a seen over is = record {
-  busy = is.busy;
-  completion = over;
-  drive = is.drive;
-  block = is.block;
-  count = is.count;
-  write = is.write;
-  moved = ap (λ n. n + 1) is.moved;
-  verdict = refl;
-  late = is.late;
-  attentions = is.attentions;
-  counted = λ busy. less_by_one seen.byte_count seen.count seen.moved (is.counted busy);
-}
-sector_adapter (Faulted kind) a seen over is = record {
-  busy = is.busy;
-  completion = refl;
-  drive = is.drive;
-  block = is.block;
-  count = is.count;
-  write = is.write;
-  moved = is.moved;
-  verdict = refl;
-  late = ap (late_after kind) is.late;
-  attentions = is.attentions;
-  counted = is.counted;
-}
-sector_adapter other a seen over is = stopped_adapter other a seen is
+sector_adapter v a seen over is = search rules
 
 -- and so for the drive
 sector_drive : (v : Moved) (a seen : AdapterState) (d : DriveState) → IsAdapterSeen a seen → IsAdapterSeen (stepped v a) (stepped v seen)
@@ -160,35 +90,9 @@ FitsWrite (Burst at pattern) = ⊥
 FitsWrite Hard = ⊥
 FitsWrite v = Unit {0}
 
-no_stop : (armed : Option FaultKind) (v : Moved) → option_map Faulted armed ≡ Some v → FitsWrite v
-no_stop None v e = absurd (grind (arith, e))
-no_stop (Some kind) (Burst at pattern) e = absurd (grind (arith, e))
-no_stop (Some kind) Hard e = absurd (grind (arith, e))
-no_stop (Some kind) Clean e = tt
-no_stop (Some kind) Marked e = tt
-no_stop (Some kind) (Faulted f) e = tt
-no_stop (Some kind) Offline e = tt
-
-stops : (on : Bool) (armed : Option FaultKind) (v : Moved) → (if on then option_map Faulted armed else Some Offline) ≡ Some v → FitsWrite v
-stops true armed v e = no_stop armed v e
-stops false armed (Burst at pattern) e = grind (arith, e)
-stops false armed Hard e = grind (arith, e)
-stops false armed Clean e = tt
-stops false armed Marked e = tt
-stops false armed (Faulted f) e = tt
-stops false armed Offline e = tt
-
-written_by : (stop : Option Moved) (marked : Bool) (places : Option (List ℕ)) (v : Moved) → ((s : Moved) → stop ≡ Some s → FitsWrite s)
-    → IsVerdictBy stop marked true places v → FitsWrite v
-written_by (Some s) marked places v holds is = subst FitsWrite (sym is) (holds s refl)
-written_by None true places v holds is = subst FitsWrite (sym is) tt
-written_by None false places v holds is = subst FitsWrite (sym is) tt
-
 -- what a write comes to
 written_verdict : (d : DriveState) (marked : Bool) (places : Option (List ℕ)) (v : Moved) → is_writing d.work ≡ true → IsVerdict d marked places v → FitsWrite v
-written_verdict d marked places v writes is =
-    written_by (stop_of d) marked places v (λ s e. stops d.online (first_armed d.armed) s e)
-    (subst (λ b. IsVerdictBy (stop_of d) marked b places v) writes is)
+written_verdict d marked places v writes is = search rules
 
 -- the block of the buffer that was read, where one was
 abbrev pub read_into : Bool → ℕ → List ℕ → Held → Held
@@ -223,24 +127,7 @@ tried_progress : (v : Moved) (write : Bool) (a : AdapterState) (bytes : List ℕ
     → t.done + a.moved < length h.blocks → (write ≡ true → FitsWrite v)
     → told.progress_tried v (bytes_got (has_bytes v && not write) bytes) (progress_with a.moved t h)
     ≡ progress_stopped v (stepped v a).moved t (read_into (has_bytes v && not write) (t.done + a.moved) bytes h)
-tried_progress Clean write a bytes t h is inside reads =
-    ap (λ front. record { done = t.done + a.moved + 1; failures = 0; bytes = front; struck = [] }) (front_got write (t.done + a.moved) bytes h is inside)
-    ∙ ap (λ n. record { done = n; failures = 0; bytes = front_of (read_into (not write) (t.done + a.moved) bytes h) n; struck = [] }) (more_done t.done a.moved)
-    ∙ ap (λ n. record { done = t.done + (a.moved + 1); failures = n; bytes = front_of (read_into (not write) (t.done + a.moved) bytes h) (t.done + (a.moved + 1)); struck = [] })
-    (not_none a.moved t.failures)
-tried_progress (Burst at pattern) true a bytes t h is inside reads = absurd (reads refl)
-tried_progress (Burst at pattern) false a bytes t h is inside reads =
-    ap (λ front. record { done = t.done + a.moved; failures = failures_at a.moved t.failures; bytes = front; struck = bytes })
-    (front_kept true (t.done + a.moved) bytes h)
-    ∙ ap (λ struck. record { done = t.done + a.moved; failures = failures_at a.moved t.failures; bytes = front_of (with_block_in (t.done + a.moved) bytes h) (t.done + a.moved); struck = struck })
-    (sym (block_set h (t.done + a.moved) bytes inside))
-tried_progress Hard true a bytes t h is inside reads = absurd (reads refl)
-tried_progress Hard false a bytes t h is inside reads =
-    ap (λ front. record { done = t.done + a.moved; failures = failures_at a.moved t.failures; bytes = front; struck = [] })
-    (front_kept true (t.done + a.moved) bytes h)
-tried_progress Marked write a bytes t h is inside reads = refl
-tried_progress (Faulted kind) write a bytes t h is inside reads = refl
-tried_progress Offline write a bytes t h is inside reads = refl
+tried_progress v write a bytes t h is inside reads = search (rules, front_got, read_into, more_done, not_none, front_kept, block_set)
 
 read_into_is : (b : Bool) (k n : ℕ) (bytes : List ℕ) (h : Held) → k ≡ n → read_into b n bytes h ≡ (if b then with_block_in k bytes h else h)
 read_into_is true k n bytes h is = ap (λ j. with_block_in j bytes h) (sym is)
@@ -288,31 +175,13 @@ sector_core h v a seen b block last bytes got is moving drive gives =
     }
 
 -- A SECTOR MAY COME where some are left, and it is the one where the segment stands.
-sector_may_by : (count moved block : ℕ) (segment : told.Segment) (hand : told.Hand) → moved < count → block ≡ told.start_of segment hand
-    → nat_lt 0 (count - moved) && (block == told.start_of segment hand) ≡ true
-sector_may_by count moved block segment hand more is = rw (sym is) (grind (arith, more))
-
 sector_talk : (h : Held) (v : UnitView) (a : AdapterState) (seen : UnitSeen) (block : ℕ) → Core h v a seen → IsHead h v.drive.kind seen → IsBegun v h
     → v.phase ≡ Transferring → a.completion ≡ false → a.moved < a.count → ((i : ℕ) → (transfer_of v).index ≡ Some i → a.moved ≡ 0)
     → block ≡ (engine.segment_of (transfer_of v)).block + a.moved → told.sector_may (hand_of seen) seen.stage block ≡ true
-sector_talk h v a seen block is head begun phase down more none at =
-    let progress : seen.progress ≡ progress_with a.moved (transfer_of v) h = sector_progress h v a seen is phase down in
-    let start : told.start_of (segment_seen (transfer_of v)) (hand_of seen) ≡ (engine.segment_of (transfer_of v)).block + a.moved =
-    judged_start h v a seen a.moved is head begun (ap (λ (p : told.Progress). p.done) progress) none in
-    rw (sector_stage h v a seen is phase down)
-    (sector_may_by a.count a.moved block (segment_seen (transfer_of v)) (hand_of seen) more (at ∙ sym start))
+sector_talk h v a seen block is head begun phase down more none at = search rules
 
 was_read_reads : (d : DriveState) (last : Moved) (write : Bool) → is_writing d.work ≡ write → was_read d last ≡ true → write ≡ false
-was_read_reads d last true is read = no (rw is (no_read last)) read
-  where
-    no_read : (m : Moved) → was_read (record d { work = work.Transfer true }) m ≡ false
-    no_read verdict.Clean = refl
-    no_read (verdict.Burst at pattern) = refl
-    no_read verdict.Hard = refl
-    no_read verdict.Marked = refl
-    no_read (verdict.Faulted kind) = refl
-    no_read verdict.Offline = refl
-was_read_reads d last false is read = refl
+was_read_reads d last write is read = search rules
 
 kept_sector : (b : Bool) (kind : DriveKind) (q : Request) (h : Held) (k : ℕ) (bytes : List ℕ) → (b ≡ true → h.write ≡ false)
     → IsHeldFor kind q h → IsHeldFor kind q (if b then with_block_in k bytes h else h)
@@ -407,10 +276,7 @@ sector_facts u id block w s t sound at busy tried =
 
 sector_adapter_may : (u block : ℕ) (a seen : AdapterState) → seen.busy ≡ true → seen.drive ≡ drive_of u → seen.completion ≡ false
     → rule.is_busy_for seen u && rule.can_move seen ≡ true
-sector_adapter_may u block a seen busy drive down = rw (busy, drive, down) (same (drive_of u))
-  where
-    same : (d : ℕ) → (true && (d == d)) && (true && true) ≡ true
-    same d = grind arith
+sector_adapter_may u block a seen busy drive down = search rules
 
 pub sector_line : (line u id block : ℕ) (w : World) (s : Replay) (t : Tried) → Sound w → Shows u w s → InHand w u id → At u id w s
     → IsBusyFor (adapter_at w (adapter_of u)).state (drive_of u) false → block ≡ next_block (adapter_at w (adapter_of u)).state

@@ -1,23 +1,17 @@
 -- Only the move of an adapter tells of a sector.
-use Rattle.std.proofs.Common.{◌≡◌, ℕ, zero, suc, Bool, true, false, not, List, [], ◌∷◌, ◌++◌, Option, None, Some, refl, subst, ◌&&◌}
-use Rattle.std.specs.Prelude.{if◌then◌else◌}
-use Rattle.disksort.specs.declared.Waiter.{Waiter}
+use Rattle.std.proofs.Common.{◌≡◌, ℕ, zero, suc, Bool, true, false, List, [], ◌∷◌, ◌++◌, Option, None, Some, subst, rules}
 use Rattle.trace_replay.specs.requests.Requests.{Request}
 use Rattle.trace_replay.specs.Moments.{Moment}
 use Rattle.trace_replay.specs.Script as says
 use Rattle.trace_replay.specs.Script.{Input}
 use Rattle.trace_replay.specs.declared.requests.answers.AnswerKind.{AnswerKind}
-use Rattle.trace_replay.specs.declared.requests.answers.Cause.TheVariants as cause
-use Rattle.driver_machine.specs.declared.RetryStep.TheVariants as step
 use Rattle.driver_machine.specs.World.{World, UnitView, Held, adapter_of, unit_at, adapter_at, held_in, slot_in_hand, unit_on, unit_of}
 use Rattle.driver_machine.specs.Acts as deed
-use Rattle.driver_machine.specs.Acts.{Act, Refuse, Submit, Of, Change, Nothing, Taken, Deed, Tried, after, after_all}
-use Rattle.driver_machine.specs.Due.{next_of, command_of, sensed, failed}
-use Rattle.driver_machine.specs.Events.{Part, followed, and_then, when_by, each, go_on, until, in_hand, in_hand_by, due_by, next_acts, due_acts, begun, choose_by, choose_acts, adapter_start, submit_by, submit_acts, refusal_of, can_arrive, can_attend, or_nothing, data_interrupt, steps_taken, attention, drives, attended, event_acts}
+use Rattle.driver_machine.specs.Acts.{Act, Refuse, Submit, Of, Deed, Tried, after, after_all}
+use Rattle.driver_machine.specs.Due.{command_of, sensed}
+use Rattle.driver_machine.specs.Events.{Part, followed, and_then, when_by, each, go_on, until, in_hand, next_acts, due_acts, begun, choose_by, choose_acts, adapter_start, submit_by, submit_acts, refusal_of, can_arrive, can_attend, or_nothing, data_interrupt, steps_taken, attention, drives, attended, event_acts}
 use Rattle.driver_machine.specs.Lines.{lines_of, lines_of_all}
-use Rattle.driver_machine.proofs.DueFacts.{due_facts}
-use Rattle.driver_laws.proofs.shown.Due.{due_own}
-use Rattle.driver_laws.proofs.shown.Speaking.{IsUntried, own_untried}
+use Rattle.driver_laws.proofs.shown.Speaking.{IsUntried}
 use Rattle.driver_laws.specs.rules.Beginnings.{AreNoSectors}
 
 -- ACTS that try no sector
@@ -66,20 +60,10 @@ none_or_nothing false line part none w = (tt, tt)
 
 -- AT A UNIT
 none_in_hand : (line u : ℕ) (d : Deed) → IsUntried d → Untried (in_hand line u d)
-none_in_hand line u d untried w = by (unit_at w u).queue
-  where
-    by : (queue : List Waiter) → TryNone (in_hand_by queue line u d w)
-    by [] = tt
-    by (x ∷ rest) = (untried, tt)
+none_in_hand line u d untried w = search rules
 
 none_next : (line u : ℕ) → Untried (next_acts line u)
-none_next line u w = by (next_of (unit_at w u) (held_in w (slot_in_hand (unit_at w u)))) refl
-  where
-    by : (next : Option Deed) → next_of (unit_at w u) (held_in w (slot_in_hand (unit_at w u))) ≡ next → TryNone (due_by next line u w)
-    by None is = tt
-    by (Some d) is =
-        none_in_hand line u d
-        (own_untried d (due_own (unit_at w u) (held_in w (slot_in_hand (unit_at w u))) d (due_facts (unit_at w u) (held_in w (slot_in_hand (unit_at w u))) d is))) w
+none_next line u w = search rules
 
 none_due : (line u : ℕ) → Untried (due_acts line u)
 none_due line u w = none_until _ (next_acts line u) (none_next line u) w
@@ -89,13 +73,7 @@ none_begun line u d untried w = none_followed (in_hand line u d w) (due_acts lin
 
 -- ADAPTER START
 sensed_untried : (writes : Bool) (v : UnitView) (d : Deed) → IsUntried d → IsUntried (sensed writes v d)
-sensed_untried writes v d untried = by (not v.drive.online) (writes && v.drive.locked) v.drive.valid
-  where
-    by : (off locked valid : Bool) → IsUntried (if off then failed cause.Offline 0 v else if locked then failed cause.Locked 0 v else if valid then d else deed.Pack)
-    by true locked valid = tt
-    by false true valid = tt
-    by false false true = untried
-    by false false false = tt
+sensed_untried writes v d untried = search rules
 
 command_untried : (v : UnitView) (h : Held) → IsUntried (command_of v h)
 command_untried v h = sensed_untried h.write v (deed.Move h.write _) tt
@@ -156,20 +134,7 @@ no_sectors_append [] ns first later = later
 no_sectors_append (m ∷ ms) ns first later = (first.0, no_sectors_append ms ns first.1 later)
 
 lines_none : (w : World) (act : Act) → TriesNone act → AreNoSectors (lines_of w act)
-lines_none w (Refuse line r kind) none = (tt, tt)
-lines_none w (Submit line p h) none = tt
-lines_none w (Change input) none = tt
-lines_none w (Nothing line) none = (tt, tt)
-lines_none w Taken none = tt
-lines_none w (Of line u id (deed.Sector block tried)) none = absurd none
-lines_none w (Of line u id (deed.Do step.Recalibrate taken)) none = (tt, tt)
-lines_none w (Of line u id (deed.Do (step.Seek cylinder) taken)) none = (tt, tt)
-lines_none w (Of line u id (deed.Do (step.Offset code) taken)) none = (tt, tt)
-lines_none w (Of line u id (deed.Ready transfer)) none = tt
-lines_none w (Of line u id (deed.Repair moved at pattern)) none = tt
-lines_none w (Of line u id (deed.Forward moved index)) none = tt
-lines_none w (Of line u id (deed.Continue moved)) none = tt
-lines_none w (Of line u id other) none = (tt, tt)
+lines_none w act none = search rules
 
 all_lines_none : (w : World) (acts : List Act) → TryNone acts → AreNoSectors (lines_of_all w acts)
 all_lines_none w [] none = tt

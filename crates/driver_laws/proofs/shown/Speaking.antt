@@ -1,27 +1,24 @@
 -- A unit speaks: what is due at it, deed by deed, until nothing is.
-use Rattle.std.proofs.Common.{◌≡◌, ◌≢◌, ◌⊎◌, inl, inr, ℕ, zero, suc, ◌<◌, Bool, true, false, List, [], ◌∷◌, ◌++◌, length, Some, refl, sym, ap, subst, ◌∙◌}
-use Rattle.std.proofs.lemmas.Bool.Decides.{eqb_tells}
+use Rattle.std.proofs.Common.{◌≡◌, ◌≢◌, ◌⊎◌, inl, inr, ℕ, zero, suc, ◌<◌, Bool, true, false, List, [], ◌∷◌, ◌++◌, length, Some, refl, sym, ap, subst, ◌∙◌, rules}
 use Rattle.pack_geometry.specs.Pack as model
 use Rattle.trace_replay.specs.Moments as moment
 use Rattle.trace_replay.specs.Moments.{Moment, Told}
 use Rattle.trace_replay.specs.Conversation.{goes_on}
 use Rattle.trace_replay.specs.Events.{DueLine, wish_of, wanted, Act, act_after}
-use Rattle.trace_replay.specs.Replay.{UnitSeen, Replay, LineMay, next_wish, unit_after, surface_after, with_state, this_or}
-use Rattle.driver_machine.specs.declared.RetryStep.{RetryStep}
-use Rattle.driver_machine.specs.declared.RetryStep.TheVariants as step
+use Rattle.trace_replay.specs.Replay.{UnitSeen, Replay, LineMay, next_wish, unit_after, surface_after, with_state}
 use Rattle.driver_machine.specs.World.{World, UnitView, Held, adapter_of, unit_at, adapter_at, held_in, slot_in_hand}
 use Rattle.driver_machine.specs.Acts as deed
 use Rattle.driver_machine.specs.Acts.{Deed, Of, Scene, effect, scene_of, after}
 use Rattle.driver_machine.specs.Due.{next_of}
-use Rattle.driver_machine.specs.Lines.{deed_told, step_told, lines_with, lines_of_all}
+use Rattle.driver_machine.specs.Lines.{deed_told, lines_with, lines_of_all}
 use Rattle.driver_machine.specs.Events.{go_on, until, next_acts}
 use Rattle.driver_machine.specs.Guards.{Allowed, IsSetUp}
 use Rattle.driver_machine.specs.Sound.{Sound}
 use Rattle.driver_machine.proofs.DueFacts.{due_facts}
-use Rattle.driver_machine.proofs.Frame.{other_unit, effect_same}
-use Rattle.driver_machine.proofs.Until.{IsNext, next_cases, own_unit}
+use Rattle.driver_machine.proofs.Frame.{other_unit}
+use Rattle.driver_machine.proofs.Until.{IsNext, next_cases}
 use Rattle.driver_machine.specs.Runs.{Run}
-use Rattle.driver_laws.proofs.invariant.Deeds.{deed_at, own_adapter}
+use Rattle.driver_laws.proofs.invariant.Deeds.{deed_at}
 use Rattle.driver_laws.proofs.invariant.Sound.{sound_after}
 use Rattle.driver_laws.specs.answers.Packs.{packs_after}
 use Rattle.driver_laws.specs.shown.Shows.{Shows, IsOnSurface}
@@ -30,7 +27,7 @@ use Rattle.driver_laws.proofs.shown.EachDeed.{lines_are_said, silent_deeds_show}
 use Rattle.driver_laws.specs.shown.Within.{IsEvent}
 use Rattle.driver_laws.proofs.shown.Telling.{told_within, within_all, LinesFollow, Speaks, Tells}
 use Rattle.driver_laws.proofs.shown.Joined.{nothing_told, then_tells}
-use Rattle.driver_laws.proofs.shown.Due.{IsOwn, told_cases, due_own, own_line, same_raised, due_goes, one_same, some_line}
+use Rattle.driver_laws.proofs.shown.Due.{IsOwn, told_cases, due_own, own_line, due_goes}
 
 -- no sector is tried
 abbrev pub IsUntried : Deed → Type 0
@@ -41,21 +38,10 @@ pub own_untried : (d : Deed) → IsOwn d → IsUntried d
 own_untried (deed.Sector block tried) own = own
 own_untried other own = tt
 
-step_keeps : (s : Replay) (u : ℕ) (step : RetryStep) → surface_after s u (step_told step) ≡ s.surface
-step_keeps s u step.Recalibrate = refl
-step_keeps s u other = refl
-
 -- such a deed's line leaves the surface
 pub keeps_surface : (s : Replay) (u : ℕ) (h : Held) (d : Deed) (line : moment.Deed) → IsUntried d → deed_told h d ≡ line ∷ []
     → surface_after s u line ≡ s.surface
-keeps_surface s u h (deed.Sector block tried) line untried is = absurd untried
-keeps_surface s u h (deed.Do step taken) line untried is =
-    subst (λ (x : moment.Deed). surface_after s u x ≡ s.surface) (one_same is) (step_keeps s u step)
-keeps_surface s u h (deed.Ready transfer) line untried is = absurd (some_line is)
-keeps_surface s u h (deed.Repair moved at pattern) line untried is = absurd (some_line is)
-keeps_surface s u h (deed.Forward moved index) line untried is = absurd (some_line is)
-keeps_surface s u h (deed.Continue moved) line untried is = absurd (some_line is)
-keeps_surface s u h other line untried is = subst (λ (x : moment.Deed). surface_after s u x ≡ s.surface) (one_same is) refl
+keeps_surface s u h d line untried is = search rules
 
 -- and the packs
 pub keeps_packs : (line u id : ℕ) (w : World) (d : Deed) (held : ℕ → model.Pack) → IsUntried d → packs_after w held (Of line u id d) ≡ held
@@ -75,28 +61,15 @@ pub lines_none : (line u id : ℕ) (w : World) (d : Deed) → told_by w u d ≡ 
 lines_none line u id w d is = ap (λ (tolds : List moment.Deed). lines_with line u id tolds ++ []) is
 
 pub set_up_after : (line u id : ℕ) (w : World) (d : Deed) → Sound w → IsSetUp w u → IsSetUp (after w (Of line u id d)) u
-set_up_after line u id w d sound unit = record {
-  unit = unit.unit;
-  declared = ap (λ (v : UnitView). v.declared)
-      (own_unit w u (slot_in_hand (unit_at w u)) (effect line u (slot_in_hand (unit_at w u)) d (scene_of w u))
-      (subst (λ (k : ℕ). u < k) (sym sound.units) unit.unit))
-      ∙ (effect_same line u (slot_in_hand (unit_at w u)) d (scene_of w u)).declared ∙ unit.declared;
-}
+set_up_after line u id w d sound unit = search rules
 
 pub raised_after : (line u id : ℕ) (w : World) (d : Deed) → Sound w → u < 32 → IsOwn d
     → (adapter_at (after w (Of line u id d)) (adapter_of u)).state.attentions ≡ (adapter_at w (adapter_of u)).state.attentions
-raised_after line u id w d sound lt own =
-    ap (λ (a : Rattle.driver_machine.specs.World.AdapterView). a.state.attentions)
-    (own_adapter w u (slot_in_hand (unit_at w u)) (effect line u (slot_in_hand (unit_at w u)) d (scene_of w u)) sound.adapters lt)
-    ∙ same_raised line u (slot_in_hand (unit_at w u)) d (scene_of w u) own
+raised_after line u id w d sound lt own = search rules
 
 pub quiet_after : (s : Replay) (u : ℕ) (new : UnitSeen) (x : ℕ) → x ≢ u → goes_on (s.units x).stage ≡ false
     → goes_on (with_state s.units u new x).stage ≡ false
-quiet_after s u new x other quiet =
-    elim (eqb_tells x u) [
-      | inl same ↦ absurd (other same.1)
-      | inr not ↦ ap (λ (b : Bool). goes_on (this_or b new s.units x).stage) not.0 ∙ quiet
-    ]
+quiet_after s u new x other quiet = search rules
 
 -- A LINE IS TOLD, and its unit speaks.
 pub record MayTell (line u id : ℕ) (drains : Bool) (act : Act) (w : World) (s : Replay) (d : Deed) (told : moment.Deed) : Type 0 where

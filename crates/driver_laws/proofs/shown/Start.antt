@@ -6,7 +6,6 @@ use Rattle.pack_geometry.specs.Pack.{Pack}
 use Rattle.pack_geometry.specs.TableSpelling.{Table}
 use Rattle.trace_replay.specs.Moments.{Moment}
 use Rattle.trace_replay.specs.Packs.{surface_of}
-use Rattle.trace_replay.specs.Conversation as told
 use Rattle.trace_replay.specs.Replay.{Replay, all_units, new_replay, after_moments}
 use Rattle.driver_machine.specs.World.{World, Setup, new_world, unit_at}
 use Rattle.driver_machine.specs.Acts.{Taken, after}

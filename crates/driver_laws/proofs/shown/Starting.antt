@@ -1,8 +1,6 @@
 -- The start of an adapter: each unit that it takes gets its lines, and behind it no line is due.
-use Rattle.std.proofs.Common.{◌≡◌, ◌⊎◌, inl, inr, ℕ, zero, suc, ◌+◌, ◌<◌, Bool, true, false, not, ◌&&◌, List, [], ◌∷◌, length, refl, sym, ap, subst, arith, ◌∙◌}
+use Rattle.std.proofs.Common.{◌≡◌, ◌⊎◌, inl, inr, ℕ, zero, suc, ◌+◌, ◌<◌, Bool, true, false, List, [], ◌∷◌, length, refl, sym, ap, subst, ◌∙◌, rules}
 use Rattle.std.specs.Prelude.{if◌then◌else◌}
-use Rattle.std.proofs.lemmas.Bool.{true_from_ne_false}
-use Rattle.disksort.specs.declared.Waiter.{Waiter}
 use Rattle.trace_replay.specs.Moments as moment
 use Rattle.trace_replay.specs.Events.{NoLine, DueLine, wanted, wish_in, first_ready, Act, Serving, act_after}
 use Rattle.trace_replay.specs.Replay.{Replay, next_wish}
@@ -59,18 +57,8 @@ pub record IsCommand (h : Held) (d : Deed) : Type 0 where
   pub own : IsOwn d
   pub some : deed_told h d ≡ [] → ⊥
 
-some_line : {x : moment.Deed} → x ∷ [] ≡ [] → ⊥
-some_line e = grind (arith, e)
-
-either : (P : Deed → Type 0) (b : Bool) (x y : Deed) → P x → P y → P (if b then x else y)
-either P true x y holds fails = holds
-either P false x y holds fails = fails
-
 pub is_command : (v : UnitView) (h : Held) → IsCommand h (command_of v h)
-is_command v h =
-    either (IsCommand h) (not v.drive.online) _ _ (record { own = tt; some = some_line })
-    (either (IsCommand h) (h.write && v.drive.locked) _ _ (record { own = tt; some = some_line })
-    (either (IsCommand h) v.drive.valid _ _ (record { own = tt; some = some_line }) (record { own = tt; some = some_line })))
+is_command v h = search rules
 
 -- NO UNIT SPEAKS, so the event says whose line comes next.
 pub wish_resting : (line : ℕ) (drains : Bool) (act : Act) (w : World) (s : Replay) → Rests line drains act w s
@@ -80,13 +68,7 @@ wish_resting line drains act w s rests =
 
 -- a unit with requests is set up
 pub set_up : (w : World) (u : ℕ) → Sound w → u < 32 → 0 < length (unit_at w u).queue → IsSetUp w u
-set_up w u sound lt some = record {
-  unit = lt;
-  declared = true_from_ne_false (unit_at w u).declared (λ off. absurd (none (ap (λ (q : List Waiter). length q) ((sound.each_unit u lt).undeclared off))));
-}
-  where
-    none : length (unit_at w u).queue ≡ 0 → ⊥
-    none e = grind (arith, e, some)
+set_up w u sound lt some = search rules
 
 pub other_act : (line : ℕ) (drains : Bool) {act new : Act} {w : World} {s : Replay} → act ≡ new → Rests line drains act w s → Rests line drains new w s
 other_act line drains {act} {new} {w} {s} is rests = subst (λ (x : Act). Rests line drains x w s) is rests
@@ -151,13 +133,7 @@ choose_told line a drains false (u ∷ rest) w s lt rests busy is run =
 -- BEHIND THE START no line is due.
 start_over : (line a : ℕ) (drains busy : Bool) (w : World) (s : Replay) → a < 4 → Rests line drains (Serving a false []) w s
     → choose_acts line a w ≡ [] → (adapter_at w a).state.busy ≡ busy → next_wish s ≡ NoLine
-start_over line a drains true w s lt rests none busy =
-    wish_resting line drains (Serving a false []) w s rests
-    ∙ ap (λ (b : Bool). if b then NoLine else first_ready (s.adapters a).ready) ((rests.shows.adapters a lt).busy ∙ busy)
-start_over line a drains false w s lt rests none busy =
-    wish_resting line drains (Serving a false []) w s rests
-    ∙ ap (λ (b : Bool). if b then NoLine else first_ready (s.adapters a).ready) ((rests.shows.adapters a lt).busy ∙ busy)
-    ∙ ap first_ready (rests.shows.ready a lt ∙ no_more line a w rests.sound lt none busy)
+start_over line a drains busy w s lt rests none h0 = search (rules, wish_resting, no_more)
 
 pub start_told : (line a : ℕ) (drains : Bool) (w : World) (s : Replay) → a < 4 → Rests line drains (Serving a false []) w s
     → Run w (adapter_start line a w) → Tells (IsOverWithin line drains) w s (adapter_start line a w)

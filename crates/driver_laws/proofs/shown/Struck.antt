@@ -1,10 +1,9 @@
 -- What a read gives of a sector at which no alias is among the noise that was armed.
-use Rattle.std.proofs.Common.{◌≡◌, ℕ, ◌+◌, ◌*◌, ◌/◌, ◌%◌, ◌<◌, ◌≤◌, List, length, get_or, take, Option, Some, None, sym, ap, subst, arith, ◌∙◌}
+use Rattle.std.proofs.Common.{◌≡◌, ℕ, ◌+◌, ◌*◌, ◌/◌, ◌%◌, ◌<◌, ◌≤◌, List, length, get_or, take, Option, Some, None, sym, ap, subst, arith, ◌∙◌, rules}
 use Rattle.std.specs.Int.{bit_at}
 use Rattle.std.proofs.lemmas.Nat.Bits.{same_from_bits_below}
 use Rattle.std.proofs.lemmas.Grind.{same_number_lists}
 use Rattle.fire_code.specs.Word.{bit_of_word}
-use Rattle.fire_code.proofs.Toggle.{bit_of_data}
 use Rattle.main_memory.specs.Bytes.{front}
 use Rattle.hardware_table.specs.declared.Moved.TheVariants as verdict
 use Rattle.hardware_table.specs.Moves.{IsStruck, IsReadVerdict}
@@ -14,7 +13,6 @@ use Rattle.trace_replay.specs.Packs.{read_as}
 use Rattle.trace_replay.proofs.ReadBytes.{reads_as_told}
 use Rattle.driver_machine.specs.Repaired.{repaired}
 use Rattle.driver_laws.proofs.rules.Noises.{Harmless, read_clean, read_burst}
-use Rattle.driver_machine.specs.Repaired as machine
 use Rattle.driver_laws.proofs.shown.Fronts.{repaired_same}
 
 -- two words with the same places flipped have the same bytes
@@ -25,10 +23,7 @@ pub column : (i j : ℕ) → j < 8 → (8 * i + j) % 8 ≡ j
 column i j less = omega (arith, less)
 
 pub bit_here : (bytes : List ℕ) (check i j : ℕ) → i < 512 → j < 8 → bit_of_word bytes check (8 * i + j) ≡ bit_at (get_or bytes i 0) j
-bit_here bytes check i j small less =
-    bit_of_data bytes check (8 * i + j) (omega (arith, small, less))
-    ∙ ap (λ (n : ℕ). bit_at (get_or bytes n 0) ((8 * i + j) % 8)) (row i j less)
-    ∙ ap (λ (n : ℕ). bit_at (get_or bytes i 0) n) (column i j less)
+bit_here bytes check i j small less = search rules
 
 pub struck_once : (places sector one other : List ℕ) → IsStruck places sector one → IsStruck places sector other → one ≡ other
 struck_once places sector one other a b =

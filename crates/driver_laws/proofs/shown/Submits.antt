@@ -1,32 +1,27 @@
 -- A condition that changes, and a request that is refused or joins.
-use Rattle.std.proofs.Common.{◌≡◌, ◌≢◌, inl, inr, ℕ, ◌+◌, ◌<◌, Bool, true, false, ◌&&◌, List, [], ◌∷◌, length, None, refl, sym, ap, subst, ◌∙◌, get_or-set_same}
-use Rattle.std.specs.Prelude.{nat_lt, nat_le}
-use Rattle.pack_geometry.specs.declared.DriveKind.{DriveKind}
+use Rattle.std.proofs.Common.{◌≡◌, ◌≢◌, ℕ, ◌+◌, ◌<◌, Bool, false, ◌&&◌, List, [], ◌∷◌, length, None, refl, sym, ap, subst, ◌∙◌, get_or-set_same, rules}
+use Rattle.std.specs.Prelude.{nat_lt}
 use Rattle.pack_geometry.specs.Pack.{Pack}
-use Rattle.partitions.specs.Partitions.{admission}
 use Rattle.hardware_table.specs.Drive.{DriveState}
 use Rattle.hardware_table.specs.Events.{turned, fault_armed, online_set, locked_set}
-use Rattle.disksort.specs.declared.Waiter.{Waiter}
 use Rattle.trace_replay.proofs.requests.ServiceOrderRuns.{IsService}
 use Rattle.trace_replay.specs.requests.Requests.{Request, Rejection, rejection_answer}
 use Rattle.trace_replay.specs.Moments as moment
 use Rattle.trace_replay.specs.Moments.{Moment, Played}
 use Rattle.trace_replay.specs.Script as script
 use Rattle.trace_replay.specs.Script.{Input}
-use Rattle.trace_replay.specs.Service.{cylinder_of, frames_needed}
+use Rattle.trace_replay.specs.Service.{cylinder_of}
 use Rattle.trace_replay.specs.Conversation.{goes_on}
 use Rattle.trace_replay.specs.Events.{Wish, Refusal, wanted, Done, Refusing, Serving, Event}
-use Rattle.trace_replay.specs.Replay.{Replay, Submission, Refused, Joined, ToldMay, next_wish, act_done, told_after, drained, after_moment, after_moments, act_of, act_submitted, event_of, is_drain, replay_played, submitted, submission, submission_by, has_frames, unit_joined}
+use Rattle.trace_replay.specs.Replay.{Replay, Submission, Refused, Joined, ToldMay, next_wish, act_done, told_after, drained, after_moment, after_moments, act_of, act_submitted, event_of, is_drain, replay_played, submitted, submission, unit_joined}
 use Rattle.trace_replay.specs.declared.requests.answers.AnswerKind.{AnswerKind}
-use Rattle.driver_machine.specs.declared.Phase.{Phase}
-use Rattle.driver_machine.specs.declared.Phase.TheVariants.{Waiting, Due}
 use Rattle.driver_machine.specs.World.{World, UnitView, Held, adapter_of, unit_at, adapter_at, held_in, no_unit}
 use Rattle.driver_machine.specs.Acts as deed
 use Rattle.driver_machine.specs.Acts.{Act as MachineAct, Refuse, Submit, Change, joined, after, after_all}
 use Rattle.driver_machine.specs.Lines.{lines_of_all, answer_told}
-use Rattle.driver_machine.specs.Events.{followed, and_then, choose_by, choose_acts, adapter_start, due_acts, joined_acts, refusal_of, is_room}
+use Rattle.driver_machine.specs.Events.{followed, and_then, choose_acts, adapter_start, due_acts, joined_acts, refusal_of}
 use Rattle.driver_machine.specs.Guards.{Allowed, IsSetUp, IsHeldFor, MayChange}
-use Rattle.driver_machine.specs.Sound.{Sound, AtWork, WorkOf}
+use Rattle.driver_machine.specs.Sound.{Sound, AtWork}
 use Rattle.driver_machine.specs.Runs.{Run}
 use Rattle.driver_laws.proofs.invariant.Leads.{run_split}
 use Rattle.driver_laws.proofs.invariant.Start.{until_stop}
@@ -34,14 +29,14 @@ use Rattle.driver_laws.proofs.invariant.Sound.{sound_after}
 use Rattle.driver_laws.specs.answers.Packs.{packs_after_all}
 use Rattle.driver_laws.specs.shown.Shows.{Shows}
 use Rattle.driver_laws.specs.shown.Acts.{IsRefused, IsAtWorkFor}
-use Rattle.driver_laws.proofs.shown.Rest.{refusals_show, joins_show, changes_show, joins_by}
+use Rattle.driver_laws.proofs.shown.Rest.{refusals_show, joins_show, changes_show}
 use Rattle.driver_laws.specs.shown.Within.{ShowsAll, Rests}
 use Rattle.driver_laws.proofs.shown.Telling.{within_all, Speaks, Tells, IsTold}
 use Rattle.driver_laws.specs.shown.Calls.{IsSurfaceOf, Stands, IsOverWithin, Ends}
 use Rattle.driver_laws.proofs.shown.Joined.{Followed, lines_follow, then_tells, drained_by}
-use Rattle.driver_laws.proofs.shown.Due.{IsQuiet, rest_quiet}
+use Rattle.driver_laws.proofs.shown.Due.{IsQuiet}
 use Rattle.driver_laws.proofs.shown.Speaking.{quiet_after}
-use Rattle.driver_laws.proofs.shown.Resting.{IsAtRest, Rested, shows_one, shows_all, due_told}
+use Rattle.driver_laws.proofs.shown.Resting.{Rested, shows_one, shows_all, due_told}
 use Rattle.driver_laws.proofs.shown.Starting.{wish_resting, start_told}
 use Rattle.driver_laws.proofs.shown.Events.{not_drained, same_packs, drained_there}
 use Rattle.driver_laws.proofs.invariant.Calls.{eighth}
@@ -55,12 +50,7 @@ any_told [] s plain = sym (not_in_drain s plain)
 any_told (m ∷ ms) s plain = refl
 
 pub ends_plain : (line : ℕ) (held : ℕ → Pack) (w : World) (s : Replay) → IsOverWithin line false w s → IsSurfaceOf held s → Ends line false held w s
-ends_plain line held w s over packs = record {
-  last = s;
-  is = sym (not_in_drain s over.rests.event.drains_is);
-  over = over;
-  packs = packs;
-}
+ends_plain line held w s over packs = search rules
 
 pub is_told_plain : (line : ℕ) (held : ℕ → Pack) (w : World) (s : Replay) (acts : List MachineAct) → IsSurfaceOf held s
     → Tells (IsOverWithin line false) w s acts → IsTold line false held w s acts
@@ -80,36 +70,20 @@ is_told_plain line held w s acts packs tells =
     }
 
 -- A DRIVER AT WORK: each unit rests, and no adapter starts.
-pub work_rest : (phase : Phase) (queue : List Waiter) → WorkOf phase queue → IsAtRest phase queue
-work_rest Waiting queue work = inr (refl, work)
-work_rest (Due task) queue work = absurd work
-work_rest other queue work = inl refl
-
 pub calm : (w : World) (s : Replay) (x : ℕ) → AtWork w → IsSetUp w x
     → Rattle.driver_laws.specs.shown.Shows.IsUnitSeen (held_in w) (unit_at w x) (adapter_at w (adapter_of x)).state (s.units x)
     → IsQuiet (unit_at w x).phase (s.units x).stage
-calm w s x work unit seen =
-    rest_quiet (unit_at w x).phase (held_in w) (unit_at w x) (adapter_at w (adapter_of x)).state (s.units x) seen refl
-    (work_rest (unit_at w x).phase (unit_at w x).queue (work.units x unit.unit))
+calm w s x work unit seen = search rules
 
 none_chosen : (line a : ℕ) (busy : Bool) (w : World) → AtWork w → a < 4 → (adapter_at w a).state.busy ≡ busy → choose_acts line a w ≡ []
-none_chosen line a true w work four is = ap (λ (b : Bool). choose_by b (adapter_at w a).queue line w) is
-none_chosen line a false w work four is =
-    ap (λ (b : Bool). choose_by b (adapter_at w a).queue line w) is ∙ ap (λ (l : List ℕ). choose_by false l line w) (work.adapters a four is)
+none_chosen line a busy w work four is = search rules
 
 pub start_none : (line a : ℕ) (w : World) → AtWork w → a < 4 → adapter_start line a w ≡ []
 start_none line a w work four = until_stop (2 + length w.slots) (choose_acts line a) w (none_chosen line a (adapter_at w a).state.busy w work four refl)
 
 -- the same replay with another event
 other_event : (e : Event) (w : World) (r : Replay) → ShowsAll w r → ShowsAll w (record r { event = e })
-other_event e w r shows = record {
-  units = shows.units;
-  adapters = shows.adapters;
-  ready = shows.ready;
-  noise = shows.noise;
-  frames = shows.frames;
-  outstanding = shows.outstanding;
-}
+other_event e w r shows = search rules
 
 -- A CONDITION CHANGES.
 changed_told : (line x : ℕ) (input : Input) (held : ℕ → Pack) (w : World) (s : Replay) → IsSetUp w x → IsSetUp (after w (Change input)) x
@@ -139,18 +113,11 @@ changed_told line x input held w s unit later stands allowed at work done plain 
     }
 
 same_set_up : (w : World) (x : ℕ) (f : DriveState → DriveState) → Sound w → IsSetUp w x → IsSetUp (deed.with_unit_drive x f w) x
-same_set_up w x f sound unit = record {
-  unit = unit.unit;
-  declared = ap (λ (v : UnitView). v.declared) (get_or-set_same w.units x (deed.with_drive f (unit_at w x)) no_unit
-      (subst (λ (k : ℕ). x < k) (sym sound.units) unit.unit)) ∙ unit.declared;
-}
+same_set_up w x f sound unit = search rules
 
 same_surface : (held : ℕ → Pack) (s r : Replay) → IsSurfaceOf held s → r.surface.sector ≡ s.surface.sector → r.surface.is_marked ≡ s.surface.is_marked
     → IsSurfaceOf held r
-same_surface held s r packs sectors marks = record {
-  sectors = λ u block. ap (λ (f : ℕ → ℕ → List ℕ). f u block) sectors ∙ packs.sectors u block;
-  marks = λ u block. ap (λ (f : ℕ → ℕ → Bool). f u block) marks ∙ packs.marks u block;
-}
+same_surface held s r packs sectors marks = search rules
 
 pub change_played : (line : ℕ) (input : Input) (held : ℕ → Pack) (w : World) (s : Replay) → Stands held w s → MayChange w input
     → AtWork (after w (Change input)) → IsTold line false held w (after_moment s (Played line input)) (Change input ∷ [])
@@ -236,11 +203,7 @@ refused_played line r kind held w s stands allowed =
 
 -- A REQUEST JOINS.
 joins : (r : Request) (w : World) (s : Replay) → ShowsAll w s → IsSetUp w r.unit → refusal_of r w ≡ None → submission s r ≡ Joined
-joins r w s shows unit none =
-    ap (λ (kind : DriveKind). submission_by (admission kind r.part r.block r.count) (has_frames s r))
-    (ap (λ (d : DriveState). d.kind) (shows.units r.unit unit).drive)
-    ∙ ap (λ (n : ℕ). submission_by (admission (unit_at w r.unit).drive.kind r.part r.block r.count) (nat_le (n + frames_needed r) 16384)) shows.frames
-    ∙ joins_by (admission (unit_at w r.unit).drive.kind r.part r.block r.count) (is_room r w) none
+joins r w s shows unit none = search rules
 
 abbrev joining : ℕ → Request → Event
 joining line r = record { line = line; drains = false; between = false; act = Serving (adapter_of r.unit) false []; speaker = r.unit }

@@ -1,20 +1,18 @@
 -- A run goes on call by call.
-use Rattle.std.proofs.Common.{◌≡◌, ◌≢◌, ◌⊎◌, inl, inr, ℕ, ◌<◌, Bool, true, false, filter, List, [], ◌∷◌, ◌++◌, length, Option, Some, None, refl, sym, ap, subst, ◌∙◌, get_or-set_same, get_or-set_other}
+use Rattle.std.proofs.Common.{◌≡◌, inl, ℕ, ◌<◌, Bool, true, false, filter, List, [], ◌∷◌, ◌++◌, length, Option, None, refl, sym, ap, ◌∙◌, rules}
 use Rattle.std.specs.Prelude.{if◌then◌else◌, nat_lt}
-use Rattle.std.proofs.lemmas.Bool.{lt-ltb, cases_eq}
+use Rattle.std.proofs.lemmas.Bool.{lt-ltb}
 use Rattle.pack_geometry.specs.declared.DriveKind.{DriveKind}
 use Rattle.pack_geometry.specs.Pack.{Pack}
 use Rattle.pack_geometry.specs.TableSpelling.{Table}
-use Rattle.hardware_table.specs.Events.{turned, fault_armed, online_set, locked_set}
 use Rattle.trace_replay.specs.Moments.{Moment, Played}
 use Rattle.trace_replay.specs.Packs.{Surface}
 use Rattle.trace_replay.specs.Script as script
 use Rattle.trace_replay.specs.Script.{Input}
-use Rattle.trace_replay.specs.Replay.{Replay, Submission, Refused, Joined, all_units, new_replay, are_at_work, InputMay, Follows, after_moment, after_moments, replay_played, submitted, submission, Legal}
+use Rattle.trace_replay.specs.Replay.{Replay, Submission, Refused, Joined, all_units, new_replay, InputMay, Follows, after_moment, after_moments, replay_played, submitted, submission, Legal}
 use Rattle.driver_laws.proofs.rules.Conserved.{is_conserved}
-use Rattle.driver_machine.specs.World.{World, UnitView, unit_at, slot_in_hand, no_unit}
-use Rattle.driver_machine.specs.Acts as deed
-use Rattle.driver_machine.specs.Acts.{Act, Refuse, Submit, Of, Change, Nothing, effect, scene_of, joined, after, after_all}
+use Rattle.driver_machine.specs.World.{World, UnitView, unit_at}
+use Rattle.driver_machine.specs.Acts.{Act, Submit, Change, Nothing, after, after_all}
 use Rattle.driver_machine.specs.Lines.{lines_of_all}
 use Rattle.driver_machine.specs.Events.{next_event}
 use Rattle.driver_machine.specs.Guards.{Allowed}
@@ -34,34 +32,13 @@ use Rattle.trace_replay.proofs.Following.{joined as follows_append}
 -- THE UNITS that are set up stay so.
 set_declared : (w : World) (u : ℕ) (v : UnitView) (x : ℕ) → u < length w.units → v.declared ≡ (unit_at w u).declared
     → (unit_at (record w { units = Rattle.std.specs.Prelude.slice_set w.units u v }) x).declared ≡ (unit_at w x).declared
-set_declared w u v x lt same = by (cases_eq x u)
-  where
-    by : (x ≡ u) ⊎ (x ≢ u) → (unit_at (record w { units = Rattle.std.specs.Prelude.slice_set w.units u v }) x).declared ≡ (unit_at w x).declared
-    by (inl is) =
-        ap (λ (k : ℕ). (unit_at (record w { units = Rattle.std.specs.Prelude.slice_set w.units u v }) k).declared) is
-        ∙ ap (λ (y : UnitView). y.declared) (get_or-set_same w.units u v no_unit lt) ∙ same ∙ ap (λ (k : ℕ). (unit_at w k).declared) (sym is)
-    by (inr other) = ap (λ (y : UnitView). y.declared) (get_or-set_other w.units u x v no_unit other)
+set_declared w u v x lt same = search rules
 
 change_declared : (w : World) (input : Input) (x : ℕ) → Sound w → Allowed w (Change input) → (unit_at (after w (Change input)) x).declared ≡ (unit_at w x).declared
-change_declared w (script.Turn u sector) x sound may =
-    set_declared w u (deed.with_drive (turned sector) (unit_at w u)) x (unit_there w u sound may.0.unit) refl
-change_declared w (script.Arm u kind times) x sound may =
-    set_declared w u (deed.with_drive (fault_armed kind times) (unit_at w u)) x (unit_there w u sound may.0.unit) refl
-change_declared w (script.SetOnline u on) x sound may =
-    set_declared w u (deed.with_drive (online_set on) (unit_at w u)) x (unit_there w u sound may.unit) refl
-change_declared w (script.SetLocked u on) x sound may =
-    set_declared w u (deed.with_drive (locked_set on) (unit_at w u)) x (unit_there w u sound may.unit) refl
-change_declared w (script.Noise noise) x sound may = refl
-change_declared w other x sound may = absurd may
+change_declared w input x sound may = search (rules, set_declared, unit_there)
 
 act_declared : (w : World) (act : Act) (x : ℕ) → Sound w → Allowed w act → (unit_at (after w act) x).declared ≡ (unit_at w x).declared
-act_declared w (Submit line p h) x sound allowed =
-    set_declared w h.unit (joined p h (unit_at w h.unit)) x (unit_there w h.unit sound allowed.unit.unit) refl
-act_declared w (Of line u id d) x sound allowed =
-    set_declared w u (effect line u (slot_in_hand (unit_at w u)) d (scene_of w u)).unit x (unit_there w u sound allowed.0.unit)
-    (effect_same line u (slot_in_hand (unit_at w u)) d (scene_of w u)).declared
-act_declared w (Change input) x sound allowed = change_declared w input x sound allowed
-act_declared w other x sound allowed = refl
+act_declared w act x sound allowed = search (rules, set_declared, unit_there, effect_same, change_declared)
 
 all_declared : (w : World) (acts : List Act) (x : ℕ) → Sound w → Run w acts → (unit_at (after_all w acts) x).declared ≡ (unit_at w x).declared
 all_declared w [] x sound run = refl
@@ -92,22 +69,13 @@ played_there s other = refl
 so_far : (start : Replay) (line : ℕ) (moments more : List Moment) (held : ℕ → Pack) (w : World) → Follows start moments → Follows (after_moments start moments) more
     → IsLeft line held w (after_moments (after_moments start moments) more) → AreThere w (after_moments (after_moments start moments) more)
     → IsSoFar start line (moments ++ more) held w
-so_far start line moments more held w before behind left there = record {
-  follows = follows_append start moments more before behind;
-  left = subst (IsLeft line held w) (sym (after_parts start moments more)) left;
-  there = subst (AreThere w) (sym (after_parts start moments more)) there;
-}
+so_far start line moments more held w before behind left there = search (rules, follows_append, after_parts)
 
 -- and in a drain.
 pub draining : (start : Replay) (line : ℕ) (moments more : List Moment) (held : ℕ → Pack) (w : World) → Follows start moments
     → Follows (after_moments start moments) more → Ends line true held w (after_moments (after_moments start moments) more) → AtWork w
     → AreThere w (after_moments (after_moments start moments) more) → IsDraining start line (moments ++ more) held w
-draining start line moments more held w before behind ends work there = record {
-  follows = follows_append start moments more before behind;
-  ends = subst (Ends line true held w) (sym (after_parts start moments more)) ends;
-  work = work;
-  there = subst (AreThere w) (sym (after_parts start moments more)) there;
-}
+draining start line moments more held w before behind ends work there = search (rules, follows_append, after_parts)
 
 module _ (drives : ℕ → Option DriveKind) (tables : ℕ → Option Table) (surface : Surface) where
   abbrev start : Replay
@@ -156,11 +124,4 @@ module _ (drives : ℕ → Option DriveKind) (tables : ℕ → Option Table) (su
   -- WHERE NOTHING IS OUTSTANDING the trace is legal.
   pub is_legal : (line : ℕ) (moments : List Moment) (held : ℕ → Pack) (w : World)
       → IsSoFar start line moments held w → next_event w ≡ None → Legal start moments
-  is_legal line moments held w far idle = record {
-    follows = far.follows;
-    over = record {
-      over = far.left.stands.over;
-      answered = none_outstanding w (after_moments start moments).outstanding far.left.stands.sound far.left.stands.work idle
-          far.left.stands.shows.outstanding;
-    };
-  }
+  is_legal line moments held w far idle = search (rules, none_outstanding, start)

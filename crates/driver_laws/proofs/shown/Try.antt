@@ -1,10 +1,7 @@
 -- A TRY FAILED: its line may be said, and what it leaves is shown.
-use Rattle.std.proofs.Common.{◌≡◌, ◌<◌, ℕ, [], ◌∷◌, ◌++◌, ◌+◌, Option, Some, None, ◌==◌, Bool, true, false, refl, sym, ap, arith, ◌∙◌}
-use Rattle.std.specs.Prelude.{if◌then◌else◌}
+use Rattle.std.proofs.Common.{◌≡◌, ◌<◌, ℕ, [], ◌∷◌, ◌+◌, Option, Some, None, false, refl, sym, ap, arith, ◌∙◌, rules}
 use Rattle.pack_geometry.specs.Geometry.{place_at}
-use Rattle.drive_registers.specs.declared.OffsetCode.{OffsetCode}
 use Rattle.hardware_table.specs.declared.Moved.{Moved}
-use Rattle.hardware_table.specs.declared.Moved.TheVariants.{Clean, Burst, Hard, Marked, Faulted, Offline}
 use Rattle.hardware_table.specs.declared.Moved.TheVariants as verdict
 use Rattle.hardware_table.specs.Adapter.{AdapterState}
 use Rattle.trace_replay.specs.declared.retry_offsets.Step.{Step}
@@ -17,18 +14,17 @@ use Rattle.trace_replay.specs.requests.Requests.{Request}
 use Rattle.trace_replay.specs.Replay.{UnitSeen, Replay, hand_of, at_unit, unit_after}
 use Rattle.trace_replay.specs.Conversation as told
 use Rattle.trace_replay.specs.Moments as moment
-use Rattle.driver_machine.specs.declared.RetryStep.TheVariants.{Seek}
 use Rattle.driver_machine.specs.declared.Task.TheVariants.{Judge}
 use Rattle.driver_machine.specs.declared.Phase.TheVariants.{Due}
 use Rattle.driver_machine.specs.declared.Task.{Task}
 use Rattle.driver_machine.specs.World.{World, UnitView, Held, slot_in_hand, transfer_of, adapter_of, unit_at, adapter_at, held_in}
 use Rattle.driver_machine.specs.Guards.{InHand}
-use Rattle.driver_machine.specs.Due.{steps_of, steps_for, offset_steps, task_for, try_of}
+use Rattle.driver_machine.specs.Due.{steps_of, steps_for, task_for, try_of}
 use Rattle.driver_machine.specs.Acts.{with_transfer, transfer_tried}
 use Rattle.driver_machine.specs.Acts as deed
 use Rattle.driver_machine.specs.Sound.{Sound, IsBegun, IsTask}
 use Rattle.driver_machine.specs.DueFacts.{IsJudged, IsFailure}
-use Rattle.driver_laws.specs.shown.Stages.{stage_by, IsProgress, steps_seen, segment_seen, progress_judged, front_of, progress_with}
+use Rattle.driver_laws.specs.shown.Stages.{stage_by, IsProgress, segment_seen, progress_judged, front_of, progress_with}
 use Rattle.driver_laws.specs.shown.Shows.{Shows}
 use Rattle.driver_laws.proofs.shown.Told.{seen_told}
 use Rattle.driver_laws.specs.shown.Laws.{IsSaid}
@@ -44,25 +40,14 @@ abbrev pub progress_failed : ℕ → TransferState → Held → told.Progress
 progress_failed moved t h =
     record { done = t.done + moved; failures = failures_after moved t.failures; bytes = front_of h (t.done + moved); struck = [] }
 
-one_failure : (b : Bool) (failures : ℕ) → (if b then failures else 0) + 1 ≡ (if b then failures + 1 else 1)
-one_failure true failures = refl
-one_failure false failures = refl
-
 failed_progress : (last : Moved) (moved : ℕ) (t : TransferState) (h : Held) → IsFailure last → progress_judged last moved t h ≡ progress_failed moved t h
-failed_progress Clean moved t h fails = absurd fails
-failed_progress (Burst at pattern) moved t h fails = absurd fails
-failed_progress Marked moved t h fails = absurd fails
-failed_progress Offline moved t h fails = absurd fails
-failed_progress other moved t h fails =
-    ap (λ n. record { done = t.done + moved; failures = n; bytes = front_of h (t.done + moved); struck = [] }) (one_failure (moved == 0) t.failures)
+failed_progress last moved t h fails = search rules
 
 try_stage : (last : Moved) (h : Held) (v : UnitView) (a : AdapterState) (seen : UnitSeen) (moved : ℕ) → IsFailure last → Core h v a seen
     → IsJudged v moved last
     → seen.stage ≡ told.Saying (moment.Try (told.start_of (segment_seen (transfer_of v)) (hand_of seen)) seen.progress.failures ∷ [])
     (told.failed (hand_of seen) (segment_seen (transfer_of v)))
-try_stage Hard h v a seen moved fails is due = is.stage ∙ rw (due.phase, due.centred) refl
-try_stage (Faulted kind) h v a seen moved fails is due = is.stage ∙ rw (due.phase, due.centred) refl
-try_stage other h v a seen moved fails is due = absurd fails
+try_stage last h v a seen moved fails is due = search rules
 
 try_progress : (last : Moved) (h : Held) (v : UnitView) (a : AdapterState) (seen : UnitSeen) (moved : ℕ) → IsFailure last → Core h v a seen
     → IsJudged v moved last → seen.progress ≡ progress_failed moved (transfer_of v) h
@@ -80,26 +65,12 @@ try_talk last h v a seen moved fails is head begun due none =
     let failures : seen.progress.failures ≡ failures_after moved (transfer_of v).failures = ap (λ (p : told.Progress). p.failures) progress in
     rw (try_stage last h v a seen moved fails is due, start, failures) refl
 
--- THE RETRY. What the schedule says is what comes next.
-offsets_seen : (code : Option OffsetCode) → steps_seen (offset_steps code) ≡ told.offset_steps code
-offsets_seen None = refl
-offsets_seen (Some code) = refl
-
-seeks_seen : (b : Bool) (cylinder : ℕ) (code : Option OffsetCode)
-    → steps_seen (if b then offset_steps code else Seek cylinder ∷ offset_steps code)
-    ≡ (if b then [] else told.SeekTo cylinder ∷ []) ++ told.offset_steps code
-seeks_seen true cylinder code = offsets_seen code
-seeks_seen false cylinder code = ap (λ xs. told.SeekTo cylinder ∷ xs) (offsets_seen code)
-
+-- THE RETRY.
 retried_stage : (st : Step) (cylinder moved done : ℕ) (v : UnitView) (t : TransferState) (a : AdapterState) (hand : told.Hand) (head : Option Request)
     → steps_of (engine.failed moved t) ≡ steps_for cylinder st
     → told.retried st cylinder (segment_seen t) done
     ≡ stage_by (Due (task_for st done)) (with_transfer (transfer_tried (task_for st done) moved t) (task_for st done) v) a hand head
-retried_stage (retry.Offset code) cylinder moved done v t a hand head is = ap (λ steps. told.Steps (steps_seen steps) (segment_seen t)) (sym is)
-retried_stage (retry.Recalibrate code) cylinder moved done v t a hand head is =
-    ap (λ steps. told.Steps (told.Recalibrate ∷ steps) (segment_seen t)) (sym (seeks_seen (cylinder == 0) cylinder code))
-    ∙ ap (λ steps. told.Steps (steps_seen steps) (segment_seen t)) (sym is)
-retried_stage other cylinder moved done v t a hand head is = refl
+retried_stage st cylinder moved done v t a hand head is = search rules
 
 failed_same : (moved : ℕ) (t : TransferState) (h : Held) → progress_failed moved t h ≡ progress_with 0 (engine.failed moved t) h
 failed_same moved t h =
@@ -114,10 +85,7 @@ retried_progress other moved v t a h p is = is ∙ failed_same moved t h
 
 failed_block : (index : Option ℕ) (job : Job) (done moved : ℕ) → ((i : ℕ) → index ≡ Some i → moved ≡ 0)
     → (engine.segment_by index job (done + moved)).block ≡ (engine.segment_by index job done).block + moved
-failed_block None job done moved none = omega arith
-failed_block (Some i) job done moved none =
-    let zero : moved ≡ 0 = none i refl in
-    rw zero (plus_none _)
+failed_block index job done moved none = search rules
 
 try_core : (last : Moved) (h : Held) (v : UnitView) (a : AdapterState) (seen : UnitSeen) (b : AdapterState) (moved block number : ℕ) → IsFailure last
     → Core h v a seen → IsHead h v.drive.kind seen → IsBegun v h → IsJudged v moved last → ((i : ℕ) → (transfer_of v).index ≡ Some i → moved ≡ 0)
@@ -192,12 +160,5 @@ pub record IsTry (moved block number : ℕ) (next : Task) (t : TransferState) : 
   pub number_is : number ≡ failures_after moved t.failures
   pub next_is : next ≡ task_for (step_for moved t) (t.done + moved)
 
-try_parts : (moved block number b n : ℕ) (next x : Task) → deed.Try moved block number next ≡ deed.Try moved b n x
-    → (block ≡ b) × (number ≡ n) × (next ≡ x)
-try_parts moved block number b n next x e = (grind (arith, e), grind (arith, e), grind (arith, e))
-
 pub try_is : (moved block number : ℕ) (next : Task) (t : TransferState) → deed.Try moved block number next ≡ try_of moved t → IsTry moved block number next t
-try_is moved block number next t e =
-    let parts : (block ≡ (engine.segment_of t).block + moved) × (number ≡ failures_after moved t.failures) × (next ≡ task_for (step_for moved t) (t.done + moved)) =
-    try_parts moved block number ((engine.segment_of t).block + moved) (failures_after moved t.failures) next (task_for (step_for moved t) (t.done + moved)) e in
-    record { block_is = parts.0; number_is = parts.1; next_is = parts.2 }
+try_is moved block number next t e = search rules

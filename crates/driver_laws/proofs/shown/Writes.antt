@@ -1,5 +1,5 @@
 -- What a write gives a sector: the block of its buffer.
-use Rattle.std.proofs.Common.{◌≡◌, ℕ, zero, suc, ◌+◌, ◌*◌, ◌<◌, Bool, true, false, List, [], ◌∷◌, ◌++◌, take, drop, length, Option, Some, None, refl, sym, ap, subst, arith, ◌∙◌}
+use Rattle.std.proofs.Common.{◌≡◌, ℕ, zero, suc, ◌+◌, ◌*◌, ◌<◌, Bool, true, List, [], ◌∷◌, ◌++◌, take, drop, length, Option, Some, None, refl, sym, ap, subst, arith, ◌∙◌, rules}
 use Rattle.std.proofs.lemmas.List.{drop-drop}
 use Rattle.std.specs.Prelude.{is_some, slice_index_or, replicate}
 use Rattle.hardware_table.specs.declared.Moved.{Moved}
@@ -34,19 +34,7 @@ piece_at (suc n) (suc k) bytes less =
     ∙ ap (take 512) (drop-drop (512 * k) 512 bytes ∙ ap (λ m. drop m bytes) more)
 
 was_written_writes : (d : DriveState) (last : Moved) (write : Bool) → is_writing d.work ≡ write → was_written d last ≡ true → write ≡ true
-was_written_writes d last true is written = refl
-was_written_writes d last false is written = absurd (not_both (rw is (none last)) written)
-  where
-    not_both : {b : Bool} → b ≡ false → b ≡ true → ⊥
-    not_both e f = grind (arith, e, f)
-
-    none : (m : Moved) → was_written (record d { work = work.Transfer false }) m ≡ false
-    none verdict.Clean = refl
-    none (verdict.Burst at pattern) = refl
-    none verdict.Hard = refl
-    none verdict.Marked = refl
-    none (verdict.Faulted kind) = refl
-    none verdict.Offline = refl
+was_written_writes d last write is written = search rules
 
 pub written_is : (o : Option (List ℕ)) → is_some o ≡ true → (bytes : List ℕ) × (o ≡ Some bytes)
 written_is None is = absurd (grind (arith, is))
