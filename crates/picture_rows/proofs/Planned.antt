@@ -6,16 +6,16 @@ use Rattle.drive_pictures.specs.declared.letters.Letter.{Letter}
 use Rattle.drive_pictures.specs.declared.letters.Letter.TheVariants as letter
 use Rattle.drive_pictures.specs.declared.requests.Request.{Request}
 use Rattle.run_picture.specs.declared.columns.Column.{Column}
-use Rattle.picture_sheet.specs.declared.sheet.Sheet.{Sheet}
-use Rattle.picture_sheet.specs.Requests.{is_shown}
-use Rattle.picture_sheet.specs.Units.{units_shown}
+use Rattle.run_plan.specs.declared.sheet.Sheet.{Sheet}
+use Rattle.run_plan.specs.Requests.{is_shown}
+use Rattle.run_plan.specs.Units.{units_shown}
 use Rattle.run_plan.specs.declared.bars.Bar.{Bar}
 use Rattle.run_plan.specs.declared.lanes.Lane.{Lane}
 use Rattle.run_plan.specs.declared.plan.Plan.{Plan}
 use Rattle.run_plan.specs.Bars.{Lettered, numbered, columns_of}
 use Rattle.run_plan.specs.Lanes.{Told, told, lane_in, letter_at}
 use Rattle.run_plan.specs.Plans.{Plans}
-use Rattle.run_plan.specs.Words.{letter_word}
+use Rattle.drive_pictures.specs.Words.{letter_word}
 use Rattle.picture_rows.specs.Planned.{RequestLeftOut, ColumnLeftOut, SliceOfAnotherUnit, CaptionOfAnotherRun, ScaleTurnedRound, LegendWithoutALetter}
 
 one_kept : (p : Request → Bool) (r : Request) → p r ≡ true → filter p (r ∷ []) ≡ r ∷ []

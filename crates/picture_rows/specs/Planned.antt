@@ -4,16 +4,17 @@ use Rattle.drive_pictures.specs.declared.letters.Letter.{Letter}
 use Rattle.drive_pictures.specs.declared.requests.Request.{Request}
 use Rattle.run_picture.specs.declared.columns.Column.{Column}
 use Rattle.run_picture.specs.declared.columns.Window.{Window}
-use Rattle.picture_sheet.specs.declared.sheet.Sheet.{Sheet}
-use Rattle.picture_sheet.specs.Requests.{is_shown}
-use Rattle.picture_sheet.specs.Units.{units_shown}
+use Rattle.run_plan.specs.declared.sheet.Sheet.{Sheet}
+use Rattle.run_plan.specs.Requests.{is_shown}
+use Rattle.run_plan.specs.Units.{units_shown}
 use Rattle.run_view.specs.declared.view.View.{View}
 use Rattle.run_view.specs.Captions.{caption_of}
 use Rattle.run_plan.specs.declared.lanes.Lane.{Lane}
 use Rattle.run_plan.specs.declared.plan.Plan.{Plan}
 use Rattle.run_plan.specs.Lanes.{letter_at}
-use Rattle.run_plan.specs.Plans.{edge_of, Plans}
-use Rattle.run_plan.specs.Words.{letter_word}
+use Rattle.run_picture.specs.Columns.{edge_of}
+use Rattle.run_plan.specs.Plans.{Plans}
+use Rattle.drive_pictures.specs.Words.{letter_word}
 use Rattle.hpview_run.specs.declared.words.Form.{Form}
 use Rattle.hpview_run.specs.Drawing.{IsDrawn}
 

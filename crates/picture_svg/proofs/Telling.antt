@@ -5,8 +5,8 @@ use Rattle.std.specs.List.{flat_map, slice_range}
 use Rattle.std.proofs.lemmas.Grind.{flat_map-append}
 use Rattle.std.proofs.lemmas.List.{append-nil, append_assoc, length-drop, length-take-le}
 use Rattle.std.proofs.lemmas.List.Folds.{drop_split}
-use Rattle.picture_sheet.specs.declared.sheet.Note.{Note}
-use Rattle.picture_sheet.specs.Notes.{is_spoken_of, line_of, lines_of}
+use Rattle.run_picture.specs.declared.columns.Note.{Note}
+use Rattle.run_plan.specs.Notes.{is_spoken_of, line_of, lines_of}
 use Rattle.picture_svg.specs.Nesting.{Drawn, told}
 
 -- a drawing whose lines are these

@@ -2,12 +2,12 @@
 use Rattle.std.specs.Prelude.{◌≡◌, ℕ, ◌==◌, nat_lt, Bool, false, ◌&&◌, if◌then◌else◌, List, [], ◌∷◌, ◌++◌, map, filter, count_by, take}
 use Rattle.std.specs.List.{flat_map}
 use Rattle.drive_pictures.specs.declared.requests.Request.{Request}
-use Rattle.picture_sheet.specs.declared.sheet.Note.{Note}
-use Rattle.picture_sheet.specs.declared.sheet.Sheet.{Sheet}
-use Rattle.picture_sheet.specs.Notes.{lines_shown}
-use Rattle.picture_sheet.specs.Requests.{is_few, listed, shown_count}
-use Rattle.picture_sheet.specs.Units.{is_drawn, units_shown}
-use Rattle.picture_sheet.specs.Window.{title_of}
+use Rattle.run_picture.specs.declared.columns.Note.{Note}
+use Rattle.run_plan.specs.declared.sheet.Sheet.{Sheet}
+use Rattle.run_plan.specs.Notes.{lines_shown}
+use Rattle.run_plan.specs.Requests.{is_few, listed, shown_count}
+use Rattle.run_plan.specs.Units.{is_drawn, units_shown}
+use Rattle.run_plan.specs.Window.{title_of}
 use Rattle.picture_svg.specs.declared.scene.Lane.{Lane}
 use Rattle.picture_svg.specs.Legend.{explained}
 use Rattle.picture_svg.specs.Nesting.{Drawn}

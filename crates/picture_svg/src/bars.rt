@@ -8,10 +8,9 @@ use crate::pieces::{Element, Piece, Route, at, extent};
 use crate::scene::{Lane, Scene, Stretch, part_of};
 use crate::stretches::{Track, held_by, is_on, lead_in, positioning, stretches};
 use crate::tips::{begin_count, begin_span, begin_words};
-use drive_pictures::{Letter, Tally, plus};
-use picture_sheet::{LETTERS, count_of, letter_sign};
+use drive_pictures::{Letter, Tally, all_letters, letter_sign, letter_word, plus};
 use run_picture::Column;
-use run_plan::letter_word;
+use run_plan::count_of;
 use std::alloc::{AllocError, Global};
 
 /// The letters from below, if a column is several events.
@@ -175,7 +174,7 @@ fn put_letters(
     ensures { OnOk result (out.new ≡ out.old) }
 {
     let mut first = true;
-    for letter in LETTERS.iter() {
+    for letter in all_letters().iter() {
         let count = count_of(tally, events, *letter);
         if count > 0 {
             let between = if first { ": " } else { ", " };

@@ -1,7 +1,7 @@
 //! A drive over the columns, and its adapter above it.
 
 ghost use Rattle.std.specs.Prelude.{◌≡◌, ◌≤◌, OnOk};
-ghost use Rattle.picture_sheet.specs.Notes.{lines_shown};
+ghost use Rattle.run_plan.specs.Notes.{lines_shown};
 ghost use Rattle.picture_svg.specs.Nesting.{started, told};
 ghost use Rattle.picture_svg.specs.declared.pieces.Element.TheVariants.{Group};
 
@@ -13,7 +13,7 @@ use crate::pieces::{Element, Piece, Route, at, extent};
 use crate::scene::{LABEL, LEFT, Lane, Scene, width_of};
 use crate::stretches::Track;
 use drive_pictures::{Drive, Outcome, Request, plus};
-use picture_sheet::is_shown;
+use run_plan::is_shown;
 use std::alloc::{AllocError, Global};
 
 /// A number and what it counts, beside a drive.

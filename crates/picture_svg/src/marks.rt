@@ -1,7 +1,7 @@
 //! What happened at a drive: the marks, and the signals below them. A mark that is no trouble is drawn if columns have room for it.
 
 ghost use Rattle.std.specs.Prelude.{◌≡◌, ◌≤◌, ◌||◌, true, length, OnOk};
-ghost use Rattle.picture_sheet.specs.Notes.{is_spoken_of, line_of, lines_of, lines_shown};
+ghost use Rattle.run_plan.specs.Notes.{is_spoken_of, line_of, lines_of, lines_shown};
 ghost use Rattle.picture_svg.specs.Nesting.{is_innermost, told};
 ghost use Rattle.picture_svg.specs.declared.pieces.Element.TheVariants.{Title};
 
@@ -9,8 +9,8 @@ use crate::markup::Markup;
 use crate::pieces::{Element, Piece, Route, Sign, at, extent};
 use crate::scene::{Scene, Stretch};
 use crate::tips::begin_span;
-use drive_pictures::{Cell, Mark};
-use picture_sheet::{Note, mark_sign};
+use drive_pictures::{Cell, Mark, mark_sign};
+use run_picture::Note;
 use std::alloc::AllocError;
 
 /// How a mark or a signal is drawn.

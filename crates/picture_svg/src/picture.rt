@@ -12,7 +12,7 @@ use crate::scene::{Frame, Lane, Scene, lanes_of};
 use crate::script::{draw_events, draw_script};
 use crate::table::draw_table;
 use crate::tips::{front, put_sentences, text_sentences};
-use picture_sheet::{Sentence, Sheet, Shown, scale_of, sentences};
+use run_plan::{Sentence, Sheet, Shown, scale_of, sentences};
 use std::alloc::{AllocError, Global};
 
 /// Where the adapters begin.

@@ -1,13 +1,13 @@
 //! What is drawn, and where.
 
 ghost use Rattle.std.specs.Prelude.{◌≡◌, ◌≤◌, map, IfOk};
-ghost use Rattle.picture_sheet.specs.Units.{units_shown};
+ghost use Rattle.run_plan.specs.Units.{units_shown};
 ghost use Rattle.picture_svg.specs.Pictures.{unit_of};
 
 use drive_pictures::{Cell, Request};
 use itoa::Buffer;
-use picture_sheet::{Sheet, Shown, cell_at, is_shown, top_of};
 use run_picture::{Column, Head};
+use run_plan::{Sheet, Shown, cell_at, is_shown, top_of};
 use std::alloc::{AllocError, Global};
 
 /// The left edge of the columns.

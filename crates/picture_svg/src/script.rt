@@ -168,7 +168,7 @@ fn draw_event(
     if x < free {
         return Ok(free);
     }
-    let event = plus(scene.sheet.head(column), 1);
+    let event = plus(scene.sheet.window.edge(column), 1);
     out.text_number("m q", at(x, y), event)?;
     Ok(x + 48)
 }

@@ -1,9 +1,9 @@
 //! Stretches of columns in which the same holds.
 
 use crate::scene::{Lane, Scene, Stretch};
-use drive_pictures::{Cell, Letter};
-use picture_sheet::{LETTERS, cell_at, count_of, holding, lead};
+use drive_pictures::{Cell, Letter, all_letters};
 use run_picture::Column;
+use run_plan::{cell_at, count_of, holding, lead};
 use std::alloc::{AllocError, Global};
 
 /// What is drawn of columns.
@@ -54,7 +54,7 @@ fn is_same_done(column: &Column, next: &Column, unit: u8) -> bool {
     let there = cell_at(next, unit).tally;
     let (events, others) = (column.head.events, next.head.events);
     events == others
-        && LETTERS.iter().all(|letter| count_of(&here, events, *letter)
+        && all_letters().iter().all(|letter| count_of(&here, events, *letter)
             == count_of(&there, others, *letter))
 }
 

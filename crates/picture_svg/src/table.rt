@@ -9,8 +9,7 @@ use crate::markup::Markup;
 use crate::pieces::{Element, Piece, Route, Start, at, extent};
 use crate::scene::{LABEL, LEFT, Scene};
 use crate::stretches::Track;
-use drive_pictures::{Outcome, Request};
-use picture_sheet::outcome_word;
+use drive_pictures::{Outcome, Request, outcome_word};
 use std::alloc::{AllocError, Global};
 
 /// Where the numbers of a request end, and what they are called.

@@ -7,7 +7,7 @@ ghost use Rattle.picture_svg.specs.declared.pieces.Element.TheVariants.{Group, T
 use crate::markup::Markup;
 use crate::pieces::{Element, Piece, Start, at};
 use crate::scene::{Scene, Stretch};
-use picture_sheet::{Phrase, Sentence};
+use run_plan::{Phrase, Sentence};
 use std::alloc::AllocError;
 
 /// The front of a text, as far as there is room.
@@ -48,8 +48,8 @@ pub fn begin_span(
 {
     let line = u64::from(scene.head(stretch.from).line);
     let last_line = u64::from(scene.head(stretch.to.saturating_sub(1)).last_line);
-    let first = scene.sheet.head(stretch.from).saturating_add(1);
-    let last = scene.sheet.head(stretch.to);
+    let first = scene.sheet.window.edge(stretch.from).saturating_add(1);
+    let last = scene.sheet.window.edge(stretch.to);
     out.begin_tip()?;
     put_range(out, "event ", "events ", first, last)?;
     put_range(out, " (line ", " (lines ", line, last_line)?;

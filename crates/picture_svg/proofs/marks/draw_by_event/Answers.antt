@@ -1,5 +1,5 @@
 use Rattle.std.proofs.Common.{◌+◌, arith}
-use Rattle.picture_sheet.specs.Notes.{line_of}
+use Rattle.run_plan.specs.Notes.{line_of}
 use Rattle.picture_svg.proofs.Telling.{tell_all, tell_range, fits_in, le_more}
 use Rattle.picture_svg.proofs.marks.draw_by_event.Goals as goal
 

@@ -1,6 +1,6 @@
 use Rattle.std.proofs.Common.{◌≡◌, ◌≤◌, length, drop}
 use Rattle.picture_svg.specs.Nesting.{told}
-use Rattle.picture_sheet.specs.Notes.{lines_of}
+use Rattle.run_plan.specs.Notes.{lines_of}
 use Rattle.picture_svg.proofs.marks.draw_by_event.Given as goal
 
 abbrev pub invariant-loop-column : goal.invariant-loop-column

@@ -1,4 +1,4 @@
-use Rattle.picture_sheet.specs.Notes.{line_of}
+use Rattle.run_plan.specs.Notes.{line_of}
 use Rattle.picture_svg.proofs.Telling.{tell_none}
 use Rattle.picture_svg.proofs.marks.tell.Goals as goal
 

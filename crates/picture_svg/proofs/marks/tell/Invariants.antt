@@ -1,7 +1,7 @@
 use Rattle.std.proofs.Common.{◌≡◌, take}
 use Rattle.std.specs.List.{flat_map}
 use Rattle.picture_svg.specs.Nesting.{told}
-use Rattle.picture_sheet.specs.Notes.{line_of}
+use Rattle.run_plan.specs.Notes.{line_of}
 use Rattle.picture_svg.proofs.marks.tell.Given as goal
 
 abbrev pub invariant-loop-note : goal.invariant-loop-note

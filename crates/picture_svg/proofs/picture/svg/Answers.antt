@@ -1,7 +1,7 @@
 use Rattle.std.proofs.Common.{arith, length, ap}
 use Rattle.std.proofs.lemmas.List.{length-map}
 use Rattle.std.proofs.lemmas.Result.{IfOk-weaker}
-use Rattle.picture_sheet.specs.Requests.{is_few, shown_count}
+use Rattle.run_plan.specs.Requests.{is_few, shown_count}
 use Rattle.picture_svg.specs.Pictures.{unit_of}
 use Rattle.picture_svg.proofs.Whole.{few_units, few_listed, picture_is, picture_of}
 use Rattle.picture_svg.proofs.picture.svg.Goals as goal
