@@ -5,7 +5,7 @@ ghost use Rattle.run_plan.specs.Window.{no_caption, title_of, column_of, arm_bef
 ghost use Rattle.run_plan.specs.Units.{has_request, is_drawn, unit_drawn, units_shown};
 
 use drive_pictures::{Request, kind_word};
-use run_picture::{Column, Run, Window};
+use run_picture::{Column, Note, Run, Window};
 use std::alloc::{AllocError, Global};
 
 /// A run as a picture shows it.
