@@ -196,11 +196,8 @@ pub fn svg(alloc: Global, sheet: &Sheet<'_>) -> Result<Vec<u8>, AllocError>
         scale: scale_of(sheet, units.as_slice()),
         shown: &shown,
     };
-    let mut drawing = Drawing {
-        out: Markup::new(alloc),
-        scene,
-        alloc,
-    };
+    let out = Markup::new(alloc);
+    let mut drawing = Drawing { out, scene, alloc };
     drawing.draw()?;
     drawing.out.finish(alloc)
 }
