@@ -156,8 +156,9 @@ impl<'s, 'a> Drawing<'s, 'a> {
         requires line { is_innermost Line self.old.out.within ≡ true }
         ensures { OnOk result (self.new ≡ self.old) }
     {
+        let x = self.scene.frame.x(column);
         match self.scene.cell(lane.unit, column).path {
-            Some(path) => self.put_path(lane, path, self.scene.frame.x(column), y),
+            Some(path) => self.put_path(lane, path, x, y),
             None => Ok(()),
         }
     }

@@ -304,6 +304,7 @@ impl<'s, 'a> Drawing<'s, 'a> {
         requires { y ≤ 19000 }
         ensures { OnOk result (self.new ≡ self.old) }
     {
-        self.draw_bars(track, 0, self.scene.columns().len(), y)
+        let count = self.scene.columns().len();
+        self.draw_bars(track, 0, count, y)
     }
 }

@@ -86,16 +86,13 @@ impl<'s, 'a> Drawing<'s, 'a> {
     {
         let from = at(LEFT, y + 17);
         let to = at(self.scene.frame.right(), y + 40);
+        let held = all_held(self.scene.columns(), self.scene.lanes, adapter);
         self.out
             .text_with("b", at(16, y + 13), "adapter ", u64::from(adapter))?;
         self.out.text("q e", at(LABEL, y + 13), "held by unit")?;
         self.out.text("q e", at(LABEL, y + 36), "positioning")?;
         self.out.path("g", Route::TwoAcross { from, to })?;
-        self.draw_total(
-            y + 13,
-            all_held(self.scene.columns(), self.scene.lanes, adapter),
-            "events held",
-        )?;
+        self.draw_total(y + 13, held, "events held")?;
         self.draw_all_bars(Track::Held(adapter), y)?;
         self.draw_all_bars(Track::Positioning(adapter), y)
     }
