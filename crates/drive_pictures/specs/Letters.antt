@@ -1,7 +1,11 @@
 -- What the letters of a drive say.
-use Rattle.std.specs.Prelude.{Bool, true, false}
+use Rattle.std.specs.Prelude.{Bool, true, false, List, [], ◌∷◌}
 use Rattle.drive_pictures.specs.declared.letters.Letter.{Letter}
-use Rattle.drive_pictures.specs.declared.letters.Letter.TheVariants.{Seeks, Turns, Recalibrates, Offsets, Arrived, Ready, Moves, Retries, Replaces, Moved}
+use Rattle.drive_pictures.specs.declared.letters.Letter.TheVariants.{Idle, Seeks, Turns, Recalibrates, Offsets, Arrived, Ready, Moves, Retries, Replaces, Moved}
+
+-- ALL OF THEM, each once, in the order in which a legend says what they mean
+abbrev pub all_letters : List Letter
+all_letters = Idle ∷ Seeks ∷ Turns ∷ Recalibrates ∷ Offsets ∷ Arrived ∷ Ready ∷ Moves ∷ Retries ∷ Replaces ∷ Moved ∷ []
 
 -- a seek, a search, a recalibration or an offset is under way
 abbrev pub is_positioning : Letter → Bool

@@ -7,5 +7,6 @@ pub mod Trials
 pub mod Drives
 pub mod Events
 pub mod Requests
+pub mod Words
 pub use Rattle.script_lines.specs.declared.statement.Request
 pub use Rattle.trace_lines.specs.declared.telling.Told

@@ -1,7 +1,7 @@
 //! The letters of a drive: what it does after an event, until the next event.
 
 ghost use Rattle.std.specs.Prelude.{◌≡◌};
-ghost use Rattle.drive_pictures.specs.Letters.{is_positioning, is_on_its_way, is_holding, is_moving};
+ghost use Rattle.drive_pictures.specs.Letters.{all_letters, is_positioning, is_on_its_way, is_holding, is_moving};
 
 /// What a drive does after an event, until the next event.
 #[derive(Clone, Copy, PartialEq, Eq)]
@@ -28,6 +28,28 @@ pub enum Letter {
     Replaces,
     /// Its sectors have moved, and its interrupt is up.
     Moved,
+}
+
+/// All letters.
+static ALL: [Letter; 11] = [
+    Letter::Idle,
+    Letter::Seeks,
+    Letter::Turns,
+    Letter::Recalibrates,
+    Letter::Offsets,
+    Letter::Arrived,
+    Letter::Ready,
+    Letter::Moves,
+    Letter::Retries,
+    Letter::Replaces,
+    Letter::Moved,
+];
+
+/// All letters, each once, in the order of a legend.
+pub fn all_letters() -> &'static [Letter]
+    ensures { result.now ≡ all_letters }
+{
+    &ALL
 }
 
 impl Letter {

@@ -14,15 +14,17 @@ mod marks;
 mod moments;
 mod requests;
 mod trials;
+mod words;
 
 pub use arms::{Arm, Path};
 pub use cells::{Cell, Tally};
 pub use counts::plus;
 pub use drives::{Change, Drive, Queue, Seen, Times, cylinder_blocks};
-pub use letters::Letter;
+pub use letters::{Letter, all_letters};
 pub use marks::Mark;
 pub use moments::{Moment, Play, begins, is_idle, line_of};
 pub use requests::{Outcome, Request};
 pub use script_lines::Request as Asked;
 pub use trace_lines::Told;
 pub use trials::Trial;
+pub use words::{kind_word, letter_sign, letter_word, mark_sign, outcome_word};

@@ -3,7 +3,7 @@ use Rattle.std.specs.Prelude.{◌≡◌, ◌⊎◌, ℕ, ◌≤◌, ◌-◌, Boo
 use Rattle.outside_traits.specs.Causes.{Rose}
 use Rattle.outside_traits.specs.Puts.{TakesFront}
 use Rattle.picture_chart.specs.Pages.{IsChartOf}
-use Rattle.picture_sheet.specs.declared.sheet.Sheet.{Sheet}
+use Rattle.run_plan.specs.declared.sheet.Sheet.{Sheet}
 use Rattle.picture_svg.specs.Pictures.{IsPicture}
 use Rattle.run_plan.specs.declared.plan.Plan.{Plan}
 use Rattle.run_plan.specs.Events.{events_of}

@@ -7,9 +7,8 @@ ghost use Rattle.run_view.specs.Captions.{caption_of as caption_in};
 use crate::load::{Loaded, ViewFault};
 use crate::words::{Command, Form};
 use picture_chart::chart;
-use picture_sheet::Sheet;
 use picture_svg::svg;
-use run_plan::{events_text, plan_of, requests_text, summary_text};
+use run_plan::{Sheet, events_text, plan_of, requests_text, summary_text};
 use run_view::{View, caption_of, script_law, view_run};
 use std::alloc::{AllocError, Global};
 

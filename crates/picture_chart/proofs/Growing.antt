@@ -6,10 +6,10 @@ use Rattle.std.proofs.Math.Seq.{take-suc}
 use Rattle.drive_pictures.specs.declared.requests.Request.{Request}
 use Rattle.picture_chart.specs.Charts.{text_of, IsChart}
 use Rattle.picture_chart.specs.Pages.{head_of, Grows, HasLane, Lanes, HasPanel, Panels, panel_columns, panels_of, IsRow, AreRows, HasRows, left_out, legend, legend_second, legend_third, IsChartOf}
-use Rattle.picture_sheet.specs.declared.sheet.Sheet.{Sheet}
-use Rattle.picture_sheet.specs.declared.summary.Sentence.{Sentence}
-use Rattle.picture_sheet.specs.Requests.{is_few, listed, shown_count}
-use Rattle.picture_sheet.specs.Sentences.{SumUp}
+use Rattle.run_plan.specs.declared.sheet.Sheet.{Sheet}
+use Rattle.run_plan.specs.declared.summary.Sentence.{Sentence}
+use Rattle.run_plan.specs.Requests.{is_few, listed, shown_count}
+use Rattle.run_plan.specs.Sentences.{SumUp}
 use Rattle.run_picture.specs.declared.columns.Column.{Column}
 
 pub grows_none : (page : List (List ℕ)) → Grows page page

@@ -4,17 +4,17 @@ use Rattle.drive_pictures.specs.declared.letters.Letter.{Letter}
 use Rattle.drive_pictures.specs.declared.letters.Letter.TheVariants as letter
 use Rattle.drive_pictures.specs.declared.requests.Request.{Request}
 use Rattle.picture_chart.specs.Charts.{with_text, line_of, at_left, at_right, text_of, IsChart}
-use Rattle.picture_sheet.specs.declared.sheet.Sheet.{Sheet}
-use Rattle.picture_sheet.specs.declared.summary.Phrase.{Phrase}
-use Rattle.picture_sheet.specs.declared.summary.Sentence.{Sentence}
-use Rattle.picture_sheet.specs.Requests.{is_few, listed, shown_count}
-use Rattle.picture_sheet.specs.Sentences.{SumUp}
-use Rattle.picture_sheet.specs.Units.{units_shown}
-use Rattle.picture_sheet.specs.Window.{kind_of, title_of}
-use Rattle.picture_sheet.specs.Words.{letter_sign, outcome_word}
+use Rattle.run_plan.specs.declared.sheet.Sheet.{Sheet}
+use Rattle.run_plan.specs.declared.summary.Phrase.{Phrase}
+use Rattle.run_plan.specs.declared.summary.Sentence.{Sentence}
+use Rattle.run_plan.specs.Requests.{is_few, listed, shown_count}
+use Rattle.run_plan.specs.Sentences.{SumUp}
+use Rattle.run_plan.specs.Units.{units_shown}
+use Rattle.run_plan.specs.Window.{kind_of, title_of}
+use Rattle.drive_pictures.specs.Words.{letter_sign, outcome_word}
 use Rattle.run_picture.specs.declared.columns.Column.{Column}
 use Rattle.run_plan.specs.Lanes.{letter_at}
-use Rattle.run_plan.specs.Words.{letter_word}
+use Rattle.drive_pictures.specs.Words.{letter_word}
 
 -- A SENTENCE: words, and the number behind them
 abbrev pub with_phrase : List ℕ → Phrase → List ℕ

@@ -2,7 +2,7 @@
 
 ghost use Rattle.std.specs.Prelude.{◌≡◌, ◌<◌, ◌++◌, ◌∷◌, [], length, take, slice_range, codes, IfOk, OnOk};
 ghost use Rattle.picture_chart.specs.Charts.{line_of};
-ghost use Rattle.picture_sheet.specs.Units.{units_shown};
+ghost use Rattle.run_plan.specs.Units.{units_shown};
 ghost use Rattle.picture_chart.specs.Pages.{with_phrase, with_third, with_sentence, head_of, panel_columns, panels_of, title_line, legend_line, legend, legend_second, legend_third, Grows, Panels, IsChartOf};
 
 use crate::line::{WIDEST, line_of};
@@ -10,10 +10,9 @@ use crate::panel::{Drives, put_panel};
 use crate::rows::put_line;
 use crate::table::{put_left_out, put_names, put_requests};
 use crate::{ChartLine, text_of};
-use drive_pictures::Letter;
-use picture_sheet::{Phrase, Sentence, Sheet, Shown, letter_sign, scale_of, sentences};
+use drive_pictures::{Letter, letter_sign, letter_word};
 use run_picture::Column;
-use run_plan::letter_word;
+use run_plan::{Phrase, Sentence, Sheet, Shown, scale_of, sentences};
 use std::alloc::{AllocError, Global};
 
 /// The columns of a panel.

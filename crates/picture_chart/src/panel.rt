@@ -1,18 +1,17 @@
 //! A panel of a chart: some columns.
 
 ghost use Rattle.std.specs.Prelude.{◌≡◌, ◌<◌, length, OnOk};
-ghost use Rattle.picture_sheet.specs.Units.{units_shown};
+ghost use Rattle.run_plan.specs.Units.{units_shown};
 ghost use Rattle.run_plan.specs.Lanes.{letter_at};
 ghost use Rattle.picture_chart.specs.Pages.{lane_line, unit_label, Grows, HasLane, HasPanel, Lanes};
 
 use crate::ChartLine;
 use crate::rows::{LABEL, put_line, put_rows};
 use crate::strip::{adapter_rows, line_rows, unit_rows};
-use drive_pictures::plus;
+use drive_pictures::{letter_sign, plus};
 use itoa::Buffer;
-use picture_sheet::{Sheet, letter_sign};
 use run_picture::Column;
-use run_plan::letter_at;
+use run_plan::{Sheet, letter_at};
 use std::alloc::AllocError;
 
 /// How many columns the number of an event has.
@@ -108,7 +107,7 @@ fn event_line(sheet: &Sheet<'_>, from: usize, count: usize) -> ChartLine {
     line.put_left(b"event", LABEL);
     for place in 0..count {
         if place % STEP == 0 {
-            let event = plus(sheet.head(from.saturating_add(place)), 1);
+            let event = plus(sheet.window.edge(from.saturating_add(place)), 1);
             let mut buffer = Buffer::new();
             line.put_left(buffer.format(event).as_bytes(), STEP);
         }

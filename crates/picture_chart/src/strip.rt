@@ -3,9 +3,9 @@
 use crate::ChartLine;
 use crate::line::{line_of, line_with};
 use crate::rows::Row;
-use drive_pictures::Cell;
-use picture_sheet::{cell_at, holding, mark_sign};
+use drive_pictures::{Cell, mark_sign};
 use run_picture::Column;
+use run_plan::{cell_at, holding};
 
 /// What a strip shows.
 #[derive(Clone, Copy)]

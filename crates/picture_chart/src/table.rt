@@ -6,9 +6,8 @@ ghost use Rattle.picture_chart.specs.Pages.{left_out, Grows, HasRows, IsRow};
 use crate::ChartLine;
 use crate::line::{line_of, line_with};
 use crate::rows::put_line;
-use drive_pictures::Request;
+use drive_pictures::{Request, outcome_word};
 use itoa::Buffer;
-use picture_sheet::outcome_word;
 use std::alloc::AllocError;
 
 /// What was asked: whether to write, the unit, the cylinder if the request joined, and the lines of the script that asked and were answered.

@@ -9,11 +9,11 @@ use Rattle.drive_pictures.specs.declared.letters.Letter.{Letter}
 use Rattle.drive_pictures.specs.declared.letters.Letter.TheVariants as letter
 use Rattle.drive_pictures.specs.declared.requests.Request.{Request}
 use Rattle.run_picture.specs.declared.columns.Column.{Column}
-use Rattle.picture_sheet.specs.declared.sheet.Sheet.{Sheet}
-use Rattle.picture_sheet.specs.Requests.{is_shown, shown_count, is_listed, listed_with, listed_all}
-use Rattle.picture_sheet.specs.Units.{units_shown}
-use Rattle.picture_sheet.specs.Window.{kind_of}
-use Rattle.picture_sheet.specs.Words.{letter_sign}
+use Rattle.run_plan.specs.declared.sheet.Sheet.{Sheet}
+use Rattle.run_plan.specs.Requests.{is_shown, shown_count, is_listed, listed_with, listed_all}
+use Rattle.run_plan.specs.Units.{units_shown}
+use Rattle.run_plan.specs.Window.{kind_of}
+use Rattle.drive_pictures.specs.Words.{letter_sign}
 use Rattle.picture_chart.specs.Charts.{front, with_text, at_left}
 use Rattle.picture_chart.specs.Pages.{unit_label, lane_line, Grows, HasLane, Lanes, HasPanel, AreRows, HasRows}
 use Rattle.picture_rows.specs.Charted.{PanelDropsAColumn, RowOfAnotherUnit, LaneLeftOut, ShownNotListed, RowLeftOut, LetterNotOnceInTheLegend}

@@ -1,3 +1,4 @@
 mod Outcomes
 mod Charted
 mod Planned
+mod Placed

@@ -8,8 +8,8 @@ use Rattle.drive_pictures.specs.declared.drives.Drive.{Drive}
 use Rattle.drive_pictures.specs.declared.letters.Letter.{Letter}
 use Rattle.run_picture.specs.Columns.{together}
 use Rattle.run_picture.specs.Positioning.{positioning, positions}
-use Rattle.picture_sheet.specs.Letters.{count_of, oftener}
-use Rattle.picture_sheet.specs.Requests.{is_shown}
+use Rattle.run_plan.specs.Letters.{count_of, oftener}
+use Rattle.run_plan.specs.Requests.{is_shown}
 use Rattle.picture_svg.specs.declared.pieces.Element.{Element}
 use Rattle.picture_svg.specs.declared.pieces.Element.TheVariants.{Group, Title}
 use Rattle.picture_svg.specs.declared.pieces.Point.{Point}

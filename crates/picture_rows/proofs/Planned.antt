@@ -1,22 +1,22 @@
 -- The words of plans and captions refuse these outcomes.
-use Rattle.std.proofs.Common.{◌≡◌, ℕ, ◌+◌, ◌<◌, ◌≤◌, ◌==◌, min, if◌then◌else◌, Bool, true, List, [], ◌∷◌, get_or, map, sym, ap, ◌∙◌, refl, arith}
-use Rattle.std.proofs.Math.Nat.{mul-le-mul_left}
+use Rattle.std.proofs.Common.{◌≡◌, ℕ, suc, ◌+◌, ◌==◌, if◌then◌else◌, Bool, true, List, [], ◌∷◌, length, get_or, map, sym, ap, ◌∙◌, refl, arith}
+use Rattle.std.proofs.lemmas.List.{length-map}
 use Rattle.std.specs.Prelude.{filter}
 use Rattle.drive_pictures.specs.declared.letters.Letter.{Letter}
 use Rattle.drive_pictures.specs.declared.letters.Letter.TheVariants as letter
 use Rattle.drive_pictures.specs.declared.requests.Request.{Request}
 use Rattle.run_picture.specs.declared.columns.Column.{Column}
-use Rattle.picture_sheet.specs.declared.sheet.Sheet.{Sheet}
-use Rattle.picture_sheet.specs.Requests.{is_shown}
-use Rattle.picture_sheet.specs.Units.{units_shown}
+use Rattle.run_plan.specs.declared.sheet.Sheet.{Sheet}
+use Rattle.run_plan.specs.Requests.{is_shown}
+use Rattle.run_plan.specs.Units.{units_shown}
 use Rattle.run_plan.specs.declared.bars.Bar.{Bar}
 use Rattle.run_plan.specs.declared.lanes.Lane.{Lane}
 use Rattle.run_plan.specs.declared.plan.Plan.{Plan}
 use Rattle.run_plan.specs.Bars.{Lettered, numbered, columns_of}
 use Rattle.run_plan.specs.Lanes.{Told, told, lane_in, letter_at}
 use Rattle.run_plan.specs.Plans.{Plans}
-use Rattle.run_plan.specs.Words.{letter_word}
-use Rattle.picture_rows.specs.Planned.{RequestLeftOut, ColumnLeftOut, SliceOfAnotherUnit, CaptionOfAnotherRun, ScaleTurnedRound, LegendWithoutALetter}
+use Rattle.drive_pictures.specs.Words.{letter_word}
+use Rattle.picture_rows.specs.Planned.{RequestLeftOut, ColumnLeftOut, BarOfAnotherUnit, CaptionOfAnotherRun, LegendWithoutALetter}
 
 one_kept : (p : Request → Bool) (r : Request) → p r ≡ true → filter p (r ∷ []) ≡ r ∷ []
 one_kept p r shown = rw (shown) refl
@@ -32,38 +32,39 @@ first_columns : List Told → List Lettered
 first_columns [] = []
 first_columns (lane ∷ lanes) = lane.columns
 
-columns_are : (sheet : Sheet) (plan : Plan) (lane : Lane) (column : Column) (unit : ℕ) → Plans sheet plan → units_shown sheet ≡ unit ∷ []
-    → sheet.run.now.columns ≡ column ∷ [] → plan.lanes.items ≡ lane ∷ [] → columns_of lane.bars.items ≡ record { column = 0; letter = letter_at unit column } ∷ []
+columns_told : (sheet : Sheet) (plan : Plan) (lane : Lane) (unit : ℕ) → Plans sheet plan → units_shown sheet ≡ unit ∷ [] → plan.lanes.items ≡ lane ∷ []
+    → columns_of lane.bars.items ≡ numbered 0 (map (letter_at unit) sheet.run.now.columns)
 unfolding first_columns
-columns_are sheet plan lane column unit plans units columns lanes =
+columns_told sheet plan lane unit plans units lanes =
     ap (λ (ls : List Lane). first_columns (map told ls)) (sym lanes) ∙ ap first_columns plans.lanes
     ∙ ap (λ (us : List ℕ). first_columns (map (lane_in sheet) us)) units
-    ∙ ap (λ (cs : List Column). numbered 0 (map (letter_at unit) cs)) columns
+
+as_many : (n : ℕ) (letters : List Letter) → length (numbered n letters) ≡ length letters
+as_many n [] = refl
+as_many n (l ∷ ls) = ap suc (as_many (suc n) ls)
 
 pub column_left_out : ColumnLeftOut
-column_left_out sheet plan lane column unit plans units columns lanes none =
-    some (ap columns_of (sym none) ∙ columns_are sheet plan lane column unit plans units columns lanes)
-  where
-    some : {l : Lettered} → ◌≡◌ {A = List Lettered} [] (l ∷ []) → ⊥
-    some is = cc is
+column_left_out sheet plan lane unit plans units lanes fewer =
+    omega (
+      arith,
+      fewer,
+      ap length (columns_told sheet plan lane unit plans units lanes),
+      as_many 0 (map (letter_at unit) sheet.run.now.columns),
+      length-map sheet.run.now.columns (letter_at unit),
+    )
 
 first_letter : List Lettered → Letter
 first_letter [] = letter.Idle
 first_letter (l ∷ ls) = l.letter
 
-pub slice_of_another_unit : SliceOfAnotherUnit
+pub bar_of_another_unit : BarOfAnotherUnit
 unfolding first_letter
-slice_of_another_unit sheet plan lane column unit other plans units columns lanes differs is =
-    differs (ap (λ (bars : List Bar). first_letter (columns_of bars)) (sym is) ∙ ap first_letter (columns_are sheet plan lane column unit plans units columns lanes))
+bar_of_another_unit sheet plan lane column unit other plans units columns lanes differs is =
+    differs (ap (λ (bars : List Bar). first_letter (columns_of bars)) (sym is) ∙ ap first_letter (columns_told sheet plan lane unit plans units lanes)
+    ∙ ap (λ (cs : List Column). first_letter (numbered 0 (map (letter_at unit) cs))) columns)
 
 pub caption_of_another_run : CaptionOfAnotherRun
 caption_of_another_run form text other picture view d differs is = differs (sym is ∙ d.caption_is)
-
-pub scale_turned_round : ScaleTurnedRound
-scale_turned_round window column later le less = turned window.first window.last _ _ (mul-le-mul_left window.per le) less
-  where
-    turned : (first last m n : ℕ) → m ≤ n → min (first + n) last < min (first + m) last → ⊥
-    turned first last m n le less = omega (arith, le, less)
 
 -- a letter is known by the first three bytes of what it says
 first_three : List ℕ → ℕ

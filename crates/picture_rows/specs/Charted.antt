@@ -5,15 +5,15 @@ use Rattle.drive_pictures.specs.declared.letters.Letter.{Letter}
 use Rattle.drive_pictures.specs.declared.letters.Letter.TheVariants.{Idle, Seeks}
 use Rattle.drive_pictures.specs.declared.requests.Request.{Request}
 use Rattle.run_picture.specs.declared.columns.Column.{Column}
-use Rattle.picture_sheet.specs.declared.sheet.Sheet.{Sheet}
-use Rattle.picture_sheet.specs.Window.{kind_of}
-use Rattle.picture_sheet.specs.Words.{letter_sign}
+use Rattle.run_plan.specs.declared.sheet.Sheet.{Sheet}
+use Rattle.run_plan.specs.Window.{kind_of}
+use Rattle.drive_pictures.specs.Words.{letter_sign}
 use Rattle.run_plan.specs.Lanes.{letter_at}
-use Rattle.run_plan.specs.Words.{legend_letters}
+use Rattle.drive_pictures.specs.Letters.{all_letters}
 use Rattle.picture_chart.specs.Charts.{with_text, at_left}
 use Rattle.picture_chart.specs.Pages.{first_letters, second_letters, third_letters, lane_line, unit_label, panel_columns, HasPanel, HasRows}
-use Rattle.picture_sheet.specs.Requests.{is_shown, shown_count, is_few, listed}
-use Rattle.picture_sheet.specs.Units.{units_shown}
+use Rattle.run_plan.specs.Requests.{is_shown, shown_count, is_few, listed}
+use Rattle.run_plan.specs.Units.{units_shown}
 
 -- a panel has 71 columns, though 72 are left
 abbrev pub PanelDropsAColumn : Type 0
@@ -42,4 +42,4 @@ abbrev pub stands : Letter → List Letter → ℕ
 stands l letters = length (filter (λ other. bytes_eq (letter_sign l) (letter_sign other)) letters)
 
 abbrev pub LetterNotOnceInTheLegend : Type 0
-LetterNotOnceInTheLegend = (l : Letter) → (stands l legend_letters ≡ 1) × (stands l (first_letters ++ second_letters ++ third_letters) ≡ 1)
+LetterNotOnceInTheLegend = (l : Letter) → (stands l all_letters ≡ 1) × (stands l (first_letters ++ second_letters ++ third_letters) ≡ 1)

@@ -1,8 +1,8 @@
 -- What wrong bodies would leave open in a drawing, or tell of another drive, never or twice, refused by the words of elements and lines.
 use Rattle.std.specs.Prelude.{◌≡◌, ℕ, ◌<◌, [], ◌∷◌, length}
-use Rattle.picture_sheet.specs.declared.sheet.Note.{Note}
-use Rattle.picture_sheet.specs.declared.sheet.Sheet.{Sheet}
-use Rattle.picture_sheet.specs.Notes.{lines_of, lines_shown}
+use Rattle.run_picture.specs.declared.columns.Note.{Note}
+use Rattle.run_plan.specs.declared.sheet.Sheet.{Sheet}
+use Rattle.run_plan.specs.Notes.{lines_of, lines_shown}
 use Rattle.picture_svg.specs.declared.pieces.Element.TheVariants.{Group, Text, Title}
 use Rattle.picture_svg.specs.declared.scene.Lane.{Lane}
 use Rattle.picture_svg.specs.Nesting.{Drawn, started, ended, told}

@@ -7,11 +7,11 @@ use Rattle.drive_pictures.specs.declared.requests.Request.{Request}
 use Rattle.run_picture.specs.declared.columns.Head.{Head}
 use Rattle.run_picture.specs.Columns.{headed, together, window_of}
 use Rattle.run_picture.specs.Positioning.{positioning, positions}
-use Rattle.picture_sheet.specs.declared.sheet.Note.{Note}
-use Rattle.picture_sheet.specs.declared.sheet.Sheet.{Sheet}
-use Rattle.picture_sheet.specs.Letters.{count_of, oftener}
-use Rattle.picture_sheet.specs.Notes.{lines_of}
-use Rattle.picture_sheet.specs.Requests.{is_shown}
+use Rattle.run_picture.specs.declared.columns.Note.{Note}
+use Rattle.run_plan.specs.declared.sheet.Sheet.{Sheet}
+use Rattle.run_plan.specs.Letters.{count_of, oftener}
+use Rattle.run_plan.specs.Notes.{lines_of}
+use Rattle.run_plan.specs.Requests.{is_shown}
 use Rattle.picture_svg.specs.declared.pieces.Element.{Element}
 use Rattle.picture_svg.specs.declared.pieces.Element.TheVariants.{Group, Title}
 use Rattle.picture_svg.specs.declared.pieces.Point.{Point}

@@ -7,7 +7,8 @@ ghost use Rattle.picture_rows.specs.Outcomes.{ColumnDropsAnEvent, IdleEventLeftO
 ghost use Rattle.picture_rows.specs.Nested.{GroupLeftOpen, LettersLeftOpen, ScriptLineLeftOpen, MarksOfAnotherUnit, LinesDropped, DriveDrawnTwice};
 ghost use Rattle.picture_rows.specs.Charted.{PanelDropsAColumn, RowOfAnotherUnit, LaneLeftOut, ShownNotListed, RowLeftOut, LetterNotOnceInTheLegend};
 ghost use Rattle.picture_rows.specs.Runs.{LastPlayNotSeen, PlayedBehindItsLines, LineInAColumnLate, TryCountedTwice, WindowOneEventEarly, NoMemoryTakenForUsage, SecondFaultRefused, TwoEndsOfOneRequest};
-ghost use Rattle.picture_rows.specs.Planned.{RequestLeftOut, ColumnLeftOut, SliceOfAnotherUnit, CaptionOfAnotherRun, ScaleTurnedRound, LegendWithoutALetter};
+ghost use Rattle.picture_rows.specs.Planned.{RequestLeftOut, ColumnLeftOut, BarOfAnotherUnit, CaptionOfAnotherRun, LegendWithoutALetter};
+ghost use Rattle.picture_rows.specs.Placed.{ScaleTurnedRound, ColumnsTurnedRound, CylindersTurnedRound, BottomOffItsBound, TopOffItsBound, EventsLeftOut, HeldAtAnotherAdapter};
 
 #[cfg(test)]
 mod ends;
@@ -71,8 +72,18 @@ pub fn runs_law()
 pub fn plan_law()
     ensures request_left_out { RequestLeftOut }
     ensures column_left_out { ColumnLeftOut }
-    ensures slice_of_another_unit { SliceOfAnotherUnit }
+    ensures bar_of_another_unit { BarOfAnotherUnit }
     ensures caption_of_another_run { CaptionOfAnotherRun }
-    ensures scale_turned_round { ScaleTurnedRound }
     ensures legend_without_a_letter { LegendWithoutALetter }
+{}
+
+/// Refused outcomes of where columns and cylinders stand, and of which events are counted.
+pub fn placed_law()
+    ensures scale_turned_round { ScaleTurnedRound }
+    ensures columns_turned_round { ColumnsTurnedRound }
+    ensures cylinders_turned_round { CylindersTurnedRound }
+    ensures bottom_off_its_bound { BottomOffItsBound }
+    ensures top_off_its_bound { TopOffItsBound }
+    ensures events_left_out { EventsLeftOut }
+    ensures held_at_another_adapter { HeldAtAnotherAdapter }
 {}

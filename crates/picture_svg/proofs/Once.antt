@@ -6,10 +6,10 @@ use Rattle.std.proofs.lemmas.Grind.{flat_map-append}
 use Rattle.std.proofs.lemmas.List.{append-nil}
 use Rattle.std.proofs.lemmas.List.Sums.{sum_by-append}
 use Rattle.std.proofs.lemmas.Bool.Decides.{leb_tells, eqb_tells}
-use Rattle.picture_sheet.specs.declared.sheet.Note.{Note}
-use Rattle.picture_sheet.specs.declared.sheet.Sheet.{Sheet}
-use Rattle.picture_sheet.specs.Notes.{lines_of}
-use Rattle.picture_sheet.specs.Units.{is_drawn, unit_drawn, units_below, units_shown}
+use Rattle.run_picture.specs.declared.columns.Note.{Note}
+use Rattle.run_plan.specs.declared.sheet.Sheet.{Sheet}
+use Rattle.run_plan.specs.Notes.{lines_of}
+use Rattle.run_plan.specs.Units.{is_drawn, unit_drawn, units_below, units_shown}
 use Rattle.picture_svg.specs.Pictures.{lines_of_units, names_drawn, text_of, lines_seen}
 
 one : Bool → ℕ

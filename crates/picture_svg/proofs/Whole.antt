@@ -5,10 +5,10 @@ use Rattle.std.proofs.lemmas.Bool.{leb-true}
 use Rattle.std.proofs.lemmas.List.{append-nil, append_assoc}
 use Rattle.drive_pictures.specs.declared.letters.Letter.{Letter}
 use Rattle.drive_pictures.specs.declared.requests.Request.{Request}
-use Rattle.picture_sheet.specs.declared.sheet.Sheet.{Sheet}
-use Rattle.picture_sheet.specs.Notes.{lines_shown}
-use Rattle.picture_sheet.specs.Requests.{is_few, is_listed, listed_with, listed_all, listed, shown_count}
-use Rattle.picture_sheet.specs.Units.{is_drawn, unit_drawn, units_below, units_shown}
+use Rattle.run_plan.specs.declared.sheet.Sheet.{Sheet}
+use Rattle.run_plan.specs.Notes.{lines_shown}
+use Rattle.run_plan.specs.Requests.{is_few, is_listed, listed_with, listed_all, listed, shown_count}
+use Rattle.run_plan.specs.Units.{is_drawn, unit_drawn, units_below, units_shown}
 use Rattle.picture_svg.specs.declared.pieces.Element.TheVariants.{Svg}
 use Rattle.picture_svg.specs.declared.scene.Lane.{Lane}
 use Rattle.picture_svg.specs.Nesting.{Drawn, blank, started, ended, captioned, told, with_letter, with_row}

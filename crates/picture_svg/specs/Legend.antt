@@ -2,7 +2,7 @@
 use Rattle.std.specs.Prelude.{ℕ, List, drop, codes}
 use Rattle.drive_pictures.specs.declared.letters.Letter.{Letter}
 use Rattle.drive_pictures.specs.declared.letters.Letter.TheVariants as letter
-use Rattle.run_plan.specs.Words.{legend_letters}
+use Rattle.drive_pictures.specs.Letters.{all_letters}
 
 abbrev pub pattern_of : Letter → List ℕ
 pattern_of letter.Idle = codes "."
@@ -19,4 +19,4 @@ pattern_of letter.Moved = codes "i"
 
 -- the letters of the legend, each once: all but that of an idle drive, which is not drawn
 abbrev pub explained : List Letter
-explained = drop 1 legend_letters
+explained = drop 1 all_letters

@@ -1,5 +1,7 @@
+pub mod Holders
 pub mod Legend
 pub mod Nesting
 pub mod Pictures
 pub mod Places
+pub mod Scales
 pub mod Texts

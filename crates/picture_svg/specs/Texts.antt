@@ -3,7 +3,7 @@ use Rattle.std.specs.Prelude.{◌≡◌, ℕ, ◌==◌, nat_le, Bool, ◌&&◌, 
 use denote.Ref.{Bor}
 use Rattle.drive_pictures.specs.declared.letters.Letter.{Letter}
 use Rattle.drive_pictures.specs.declared.requests.Request.{Request}
-use Rattle.picture_sheet.specs.Words.{outcome_word}
+use Rattle.drive_pictures.specs.Words.{outcome_word}
 use Rattle.picture_svg.specs.declared.pieces.Element.{Element}
 use Rattle.picture_svg.specs.declared.pieces.Element.TheVariants as element
 use Rattle.picture_svg.specs.declared.pieces.Start.{Start}
@@ -19,7 +19,7 @@ use Rattle.picture_svg.specs.declared.pieces.Piece.TheVariants as piece
 use Rattle.picture_svg.specs.declared.render.Part.{Part}
 use Rattle.picture_svg.specs.declared.render.Part.TheVariants as part
 use Rattle.picture_svg.specs.declared.style.TheConstants.{STYLE}
-use Rattle.run_plan.specs.Words.{letter_word}
+use Rattle.drive_pictures.specs.Words.{letter_word}
 use Rattle.picture_svg.specs.Legend.{pattern_of}
 use Rattle.picture_svg.specs.Nesting.{Drawn, drawn}
 

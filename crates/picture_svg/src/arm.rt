@@ -7,7 +7,7 @@ ghost use Rattle.picture_svg.specs.declared.pieces.Element.TheVariants.{Line};
 
 use crate::markup::Markup;
 use crate::pieces::{Element, Piece, Point, Route, Start, at};
-use crate::scene::{LABEL, LEFT, Lane, Scene, part_of, width_of};
+use crate::scene::{Drawing, LABEL, LEFT, Lane, Scene, part_of, width_of};
 use drive_pictures::{Path, Request};
 use std::alloc::{AllocError, Global};
 
@@ -52,162 +52,6 @@ fn asked_at(scene: &Scene<'_, '_>, lane: &Lane, request: &Request, y: u32) -> Po
     at(scene.at(request.asked), level_of(scene, lane, y, request))
 }
 
-/// A line from a request to the one that came after it, if the later one waits.
-fn draw_link(
-    out: &mut Markup<'_>,
-    scene: &Scene<'_, '_>,
-    lane: &Lane,
-    other: &Request,
-    request: &Request,
-    y: u32,
-) -> Result<(), AllocError>
-    requires { y ≤ 19000 }
-    ensures { OnOk result (out.new ≡ out.old) }
-{
-    if request.queued() == 0 || !is_asked_here(scene, other) {
-        return Ok(());
-    }
-    let from = asked_at(scene, lane, other, y);
-    let to = asked_at(scene, lane, request, y);
-    out.path("z", Route::Line { from, to })
-}
-
-/// The order in which requests that wait came.
-fn draw_order(
-    out: &mut Markup<'_>,
-    scene: &Scene<'_, '_>,
-    lane: &Lane,
-    known: &[Request],
-    y: u32,
-) -> Result<(), AllocError>
-    requires { y ≤ 19000 }
-    ensures { OnOk result (out.new ≡ out.old) }
-{
-    for place in 1..known.len() {
-        draw_link(out, scene, lane, &known[place - 1], &known[place], y)?;
-    }
-    Ok(())
-}
-
-/// A request that waits, as a line at its cylinder, with a circle where it was asked for.
-fn draw_wait(
-    out: &mut Markup<'_>,
-    scene: &Scene<'_, '_>,
-    lane: &Lane,
-    request: &Request,
-    y: u32,
-) -> Result<(), AllocError>
-    requires { y ≤ 19000 }
-    ensures { OnOk result (out.new ≡ out.old) }
-{
-    let from = asked_at(scene, lane, request, y);
-    if request.queued() > 0 {
-        let to = at(scene.hand(request), y);
-        out.path("w", Route::Across { from, to })?;
-    }
-    if is_asked_here(scene, request) {
-        out.dot("u", from)?;
-    }
-    Ok(())
-}
-
-/// The requests that wait.
-fn draw_waits(
-    out: &mut Markup<'_>,
-    scene: &Scene<'_, '_>,
-    lane: &Lane,
-    known: &[Request],
-    y: u32,
-) -> Result<(), AllocError>
-    requires { y ≤ 19000 }
-    ensures { OnOk result (out.new ≡ out.old) }
-{
-    for request in known.iter() {
-        draw_wait(out, scene, lane, request, y)?;
-    }
-    Ok(())
-}
-
-/// Puts the points of the arm's way in a column: the first cylinder, and the lowest, the highest and the last if it moved.
-fn put_path(
-    out: &mut Markup<'_>,
-    scene: &Scene<'_, '_>,
-    lane: &Lane,
-    path: Path,
-    x: u32,
-    y: u32,
-) -> Result<(), AllocError>
-    requires across { x ≤ 2000 }
-    requires down { y ≤ 19000 }
-    requires line { is_innermost Line out.old.within ≡ true }
-    ensures { OnOk result (out.new ≡ out.old) }
-{
-    out.corner(at(x, level(scene, lane, y, path.first)))?;
-    if path.lowest < path.highest {
-        out.corner(at(x, level(scene, lane, y, path.lowest)))?;
-        out.corner(at(x, level(scene, lane, y, path.highest)))?;
-        out.corner(at(x, level(scene, lane, y, path.last)))?;
-    }
-    Ok(())
-}
-
-/// Puts the points of the arm's way in a column, if the arm was seen in it.
-fn put_column(
-    out: &mut Markup<'_>,
-    scene: &Scene<'_, '_>,
-    lane: &Lane,
-    column: usize,
-    y: u32,
-) -> Result<(), AllocError>
-    requires down { y ≤ 19000 }
-    requires line { is_innermost Line out.old.within ≡ true }
-    ensures { OnOk result (out.new ≡ out.old) }
-{
-    match scene.cell(lane.unit, column).path {
-        Some(path) => put_path(out, scene, lane, path, scene.frame.x(column), y),
-        None => Ok(()),
-    }
-}
-
-/// Puts the points of the arm's way in all columns.
-fn put_columns(
-    out: &mut Markup<'_>,
-    scene: &Scene<'_, '_>,
-    lane: &Lane,
-    y: u32,
-) -> Result<(), AllocError>
-    requires down { y ≤ 19000 }
-    requires line { is_innermost Line out.old.within ≡ true }
-    ensures { OnOk result (out.new ≡ out.old) }
-{
-    for column in 0..scene.columns().len() {
-        put_column(out, scene, lane, column, y)?;
-    }
-    Ok(())
-}
-
-/// The way of the arm.
-fn draw_path(
-    out: &mut Markup<'_>,
-    scene: &Scene<'_, '_>,
-    lane: &Lane,
-    y: u32,
-) -> Result<(), AllocError>
-    requires { y ≤ 19000 }
-    ensures { OnOk result (out.new ≡ out.old) }
-{
-    let place = at(LEFT, level(scene, lane, y, lane.before));
-    let last = scene.columns().len().saturating_sub(1);
-    let end = level(scene, lane, y, scene.cell(lane.unit, last).cylinder);
-    out.put(Piece::Start(Start::Line {
-        class: "p",
-        at: place,
-    }))?;
-    put_columns(out, scene, lane, y)?;
-    out.corner(at(scene.frame.right(), end))?;
-    out.end(Element::Line)
-}
-
 /// The requests in the order of their turns.
 fn by_turn(alloc: Global, known: &[Request]) -> Result<Vec<Request>, AllocError> {
     let mut served = Vec::new(alloc);
@@ -228,81 +72,195 @@ fn place_of_turn(served: &[Request], turn: u64) -> usize
     }
 }
 
-/// The id of a request where it was served, if there is room. The result is from where there is room after it.
-fn draw_id(
-    out: &mut Markup<'_>,
-    scene: &Scene<'_, '_>,
-    lane: &Lane,
-    request: &Request,
-    y: u32,
-    free: u32,
-) -> Result<u32, AllocError>
-    requires { y ≤ 19000 }
-    ensures { OnOk result (out.new ≡ out.old) }
-{
-    let x = scene.end(request);
-    let id = u64::from(request.id);
-    let is_served = request.turn > 0 && request.ended.unwrap_or(0) < scene.sheet.window.last;
-    if !is_served || x < free.saturating_add(width_of(id)) {
-        return Ok(free);
+impl<'s, 'a> Drawing<'s, 'a> {
+    /// A line from a request to the one that came after it, if the later one waits.
+    fn draw_link(
+        &mut self,
+        lane: &Lane,
+        other: &Request,
+        request: &Request,
+        y: u32,
+    ) -> Result<(), AllocError>
+        requires { y ≤ 19000 }
+        ensures { OnOk result (self.new ≡ self.old) }
+    {
+        if request.queued() == 0 || !is_asked_here(&self.scene, other) {
+            return Ok(());
+        }
+        let from = asked_at(&self.scene, lane, other, y);
+        let to = asked_at(&self.scene, lane, request, y);
+        self.out.path("z", Route::Line { from, to })
     }
-    let place = at(x, level_of(scene, lane, y, request).saturating_sub(4));
-    out.text_number("m e", place, id)?;
-    Ok(x + 2)
-}
 
-/// The ids of the requests that were served, in the order of their turns, as far as there is room.
-fn draw_served(
-    out: &mut Markup<'_>,
-    scene: &Scene<'_, '_>,
-    lane: &Lane,
-    served: &[Request],
-    y: u32,
-) -> Result<(), AllocError>
-    requires { y ≤ 19000 }
-    ensures { OnOk result (out.new ≡ out.old) }
-{
-    let mut free = 0;
-    for request in served.iter() {
-        free = draw_id(out, scene, lane, request, y, free)?;
+    /// The order in which requests that wait came.
+    fn draw_order(&mut self, lane: &Lane, known: &[Request], y: u32) -> Result<(), AllocError>
+        requires { y ≤ 19000 }
+        ensures { OnOk result (self.new ≡ self.old) }
+    {
+        for place in 1..known.len() {
+            self.draw_link(lane, &known[place - 1], &known[place], y)?;
+        }
+        Ok(())
     }
-    Ok(())
-}
 
-/// The bounds of the drawing, and their cylinders.
-fn draw_bounds(
-    out: &mut Markup<'_>,
-    scene: &Scene<'_, '_>,
-    lane: &Lane,
-    y: u32,
-) -> Result<(), AllocError>
-    requires { y ≤ 19000 }
-    ensures { OnOk result (out.new ≡ out.old) }
-{
-    let lower = y + u32::from(lane.chart);
-    let from = at(LEFT, y);
-    let to = at(scene.frame.right(), lower);
-    out.path("g", Route::TwoAcross { from, to })?;
-    out.text_with("q e", at(LABEL, y + 4), "cylinder ", u64::from(scene.scale))?;
-    out.text_number("q e", at(LABEL, lower + 3), 0)
-}
+    /// A request that waits, as a line at its cylinder, with a circle where it was asked for.
+    fn draw_wait_line(&mut self, lane: &Lane, request: &Request, y: u32) -> Result<(), AllocError>
+        requires { y ≤ 19000 }
+        ensures { OnOk result (self.new ≡ self.old) }
+    {
+        let from = asked_at(&self.scene, lane, request, y);
+        if request.queued() > 0 {
+            let to = at(self.scene.hand(request), y);
+            self.out.path("w", Route::Across { from, to })?;
+        }
+        if is_asked_here(&self.scene, request) {
+            self.out.dot("u", from)?;
+        }
+        Ok(())
+    }
 
-/// The arm of a drive.
-pub fn draw_arm(
-    alloc: Global,
-    out: &mut Markup<'_>,
-    scene: &Scene<'_, '_>,
-    lane: &Lane,
-    y: u32,
-) -> Result<(), AllocError>
-    requires { y ≤ 19000 }
-    ensures { OnOk result (out.new ≡ out.old) }
-{
-    let known = known_of(alloc, scene, lane.unit)?;
-    let served = by_turn(alloc, known.as_slice())?;
-    draw_bounds(out, scene, lane, y)?;
-    draw_order(out, scene, lane, known.as_slice(), y)?;
-    draw_waits(out, scene, lane, known.as_slice(), y)?;
-    draw_path(out, scene, lane, y)?;
-    draw_served(out, scene, lane, served.as_slice(), y)
+    /// The requests that wait.
+    fn draw_waits(&mut self, lane: &Lane, known: &[Request], y: u32) -> Result<(), AllocError>
+        requires { y ≤ 19000 }
+        ensures { OnOk result (self.new ≡ self.old) }
+    {
+        for request in known.iter() {
+            self.draw_wait_line(lane, request, y)?;
+        }
+        Ok(())
+    }
+
+    /// Puts the points of the arm's way in a column: the first cylinder, and the lowest, the highest and the last if it moved.
+    fn put_path(&mut self, lane: &Lane, path: Path, x: u32, y: u32) -> Result<(), AllocError>
+        requires across { x ≤ 2000 }
+        requires down { y ≤ 19000 }
+        requires line { is_innermost Line self.old.out.within ≡ true }
+        ensures { OnOk result (self.new ≡ self.old) }
+    {
+        self.out
+            .corner(at(x, level(&self.scene, lane, y, path.first)))?;
+        if path.lowest < path.highest {
+            self.out
+                .corner(at(x, level(&self.scene, lane, y, path.lowest)))?;
+            self.out
+                .corner(at(x, level(&self.scene, lane, y, path.highest)))?;
+            self.out
+                .corner(at(x, level(&self.scene, lane, y, path.last)))?;
+        }
+        Ok(())
+    }
+
+    /// Puts the points of the arm's way in a column, if the arm was seen in it.
+    fn put_column(&mut self, lane: &Lane, column: usize, y: u32) -> Result<(), AllocError>
+        requires down { y ≤ 19000 }
+        requires line { is_innermost Line self.old.out.within ≡ true }
+        ensures { OnOk result (self.new ≡ self.old) }
+    {
+        let x = self.scene.frame.x(column);
+        match self.scene.cell(lane.unit, column).path {
+            Some(path) => self.put_path(lane, path, x, y),
+            None => Ok(()),
+        }
+    }
+
+    /// Puts the points of the arm's way in all columns.
+    fn put_columns(&mut self, lane: &Lane, y: u32) -> Result<(), AllocError>
+        requires down { y ≤ 19000 }
+        requires line { is_innermost Line self.old.out.within ≡ true }
+        ensures { OnOk result (self.new ≡ self.old) }
+    {
+        for column in 0..self.scene.columns().len() {
+            self.put_column(lane, column, y)?;
+        }
+        Ok(())
+    }
+
+    /// The way of the arm.
+    fn draw_path(&mut self, lane: &Lane, y: u32) -> Result<(), AllocError>
+        requires { y ≤ 19000 }
+        ensures { OnOk result (self.new ≡ self.old) }
+    {
+        let place = at(LEFT, level(&self.scene, lane, y, lane.before));
+        let last = self.scene.columns().len().saturating_sub(1);
+        let end = level(
+            &self.scene,
+            lane,
+            y,
+            self.scene.cell(lane.unit, last).cylinder,
+        );
+        self.out.put(Piece::Start(Start::Line {
+            class: "p",
+            at: place,
+        }))?;
+        self.put_columns(lane, y)?;
+        self.out.corner(at(self.scene.frame.right(), end))?;
+        self.out.end(Element::Line)
+    }
+
+    /// The id of a request where it was served, if there is room. The result is from where there is room after it.
+    fn draw_id(
+        &mut self,
+        lane: &Lane,
+        request: &Request,
+        y: u32,
+        free: u32,
+    ) -> Result<u32, AllocError>
+        requires { y ≤ 19000 }
+        ensures { OnOk result (self.new ≡ self.old) }
+    {
+        let x = self.scene.end(request);
+        let id = u64::from(request.id);
+        let is_served = request.turn > 0
+            && request.ended.unwrap_or(0) < self.scene.sheet.window.last;
+        if !is_served || x < free.saturating_add(width_of(id)) {
+            return Ok(free);
+        }
+        let place = at(x, level_of(&self.scene, lane, y, request).saturating_sub(4));
+        self.out.text_number("m e", place, id)?;
+        Ok(x + 2)
+    }
+
+    /// The ids of the requests that were served, in the order of their turns, as far as there is room.
+    fn draw_served(&mut self, lane: &Lane, served: &[Request], y: u32) -> Result<(), AllocError>
+        requires { y ≤ 19000 }
+        ensures { OnOk result (self.new ≡ self.old) }
+    {
+        let mut free = 0;
+        for request in served.iter() {
+            free = self.draw_id(lane, request, y, free)?;
+        }
+        Ok(())
+    }
+
+    /// The bounds of the drawing, and their cylinders.
+    fn draw_bounds(&mut self, lane: &Lane, y: u32) -> Result<(), AllocError>
+        requires { y ≤ 19000 }
+        ensures { OnOk result (self.new ≡ self.old) }
+    {
+        let lower = y + u32::from(lane.chart);
+        let from = at(LEFT, y);
+        let to = at(self.scene.frame.right(), lower);
+        self.out.path("g", Route::TwoAcross { from, to })?;
+        self.out.text_with(
+            "q e",
+            at(LABEL, y + 4),
+            "cylinder ",
+            u64::from(self.scene.scale),
+        )?;
+        self.out.text_number("q e", at(LABEL, lower + 3), 0)
+    }
+
+    /// The arm of a drive.
+    pub fn draw_arm(&mut self, lane: &Lane, y: u32) -> Result<(), AllocError>
+        requires { y ≤ 19000 }
+        ensures { OnOk result (self.new ≡ self.old) }
+    {
+        let known = known_of(self.alloc, &self.scene, lane.unit)?;
+        let served = by_turn(self.alloc, known.as_slice())?;
+        self.draw_bounds(lane, y)?;
+        self.draw_order(lane, known.as_slice(), y)?;
+        self.draw_waits(lane, known.as_slice(), y)?;
+        self.draw_path(lane, y)?;
+        self.draw_served(lane, served.as_slice(), y)
+    }
 }

@@ -1,110 +1,19 @@
 //! A drive over the columns, and its adapter above it.
 
 ghost use Rattle.std.specs.Prelude.{◌≡◌, ◌≤◌, OnOk};
-ghost use Rattle.picture_sheet.specs.Notes.{lines_shown};
-ghost use Rattle.picture_svg.specs.Nesting.{started, told};
+ghost use Rattle.run_plan.specs.Notes.{lines_shown};
+ghost use Rattle.picture_svg.specs.Nesting.{started};
+ghost use Rattle.picture_svg.specs.Pictures.{telling};
 ghost use Rattle.picture_svg.specs.declared.pieces.Element.TheVariants.{Group};
 
-use crate::arm::draw_arm;
-use crate::bars::{draw_all_bars, held};
-use crate::marks::draw_marks;
+use crate::holders::all_held;
 use crate::markup::Markup;
 use crate::pieces::{Element, Piece, Route, at, extent};
-use crate::scene::{LABEL, LEFT, Lane, Scene, width_of};
+use crate::scene::{Drawing, LABEL, LEFT, Lane, Scene, width_of};
 use crate::stretches::Track;
 use drive_pictures::{Drive, Outcome, Request, plus};
-use picture_sheet::is_shown;
-use std::alloc::{AllocError, Global};
-
-/// A number and what it counts, beside a drive.
-fn draw_total(
-    out: &mut Markup<'_>,
-    scene: &Scene<'_, '_>,
-    y: u32,
-    number: u64,
-    word: &'static str,
-) -> Result<(), AllocError>
-    requires { y ≤ 19500 }
-    ensures { OnOk result (out.new ≡ out.old) }
-{
-    let beside = scene.frame.beside();
-    out.text_number("m e", at(beside + 36, y), number)?;
-    out.text("q", at(beside + 44, y), word)
-}
-
-/// After how many of the events that are shown a drive of the adapter holds it.
-fn all_held(scene: &Scene<'_, '_>, adapter: u8) -> u64 {
-    let mut sum: u64 = 0;
-    for column in scene.columns().iter() {
-        sum = plus(sum, held(column, scene.lanes, adapter));
-    }
-    sum
-}
-
-/// An adapter, above its drives.
-pub fn draw_adapter(
-    alloc: Global,
-    out: &mut Markup<'_>,
-    scene: &Scene<'_, '_>,
-    adapter: u8,
-    y: u32,
-) -> Result<(), AllocError>
-    requires { y ≤ 18500 }
-    ensures { OnOk result (out.new ≡ out.old) }
-{
-    let from = at(LEFT, y + 17);
-    let to = at(scene.frame.right(), y + 40);
-    out.text_with("b", at(16, y + 13), "adapter ", u64::from(adapter))?;
-    out.text("q e", at(LABEL, y + 13), "held by unit")?;
-    out.text("q e", at(LABEL, y + 36), "positioning")?;
-    out.path("g", Route::TwoAcross { from, to })?;
-    draw_total(out, scene, y + 13, all_held(scene, adapter), "events held")?;
-    draw_all_bars(alloc, out, scene, Track::Held(adapter), y)?;
-    draw_all_bars(alloc, out, scene, Track::Positioning(adapter), y)
-}
-
-/// The time of a request in hand as a bracket, and its id if there is room.
-fn draw_time(
-    out: &mut Markup<'_>,
-    scene: &Scene<'_, '_>,
-    request: &Request,
-    y: u32,
-) -> Result<(), AllocError>
-    requires { y ≤ 19000 }
-    ensures { OnOk result (out.new ≡ out.old) }
-{
-    let x = scene.hand(request);
-    let width = scene.end(request).saturating_sub(x);
-    let id = u64::from(request.id);
-    if width > 0 {
-        let from = at(x, y + 11);
-        let size = extent(width.saturating_sub(2), 0);
-        out.path("k", Route::Bracket { from, size })?;
-    }
-    if width >= width_of(id).saturating_add(4) {
-        out.text_number("m", at(x + 2, y + 5), id)?;
-    }
-    Ok(())
-}
-
-/// The requests in hand, if a column is one event.
-fn draw_in_hand(
-    out: &mut Markup<'_>,
-    scene: &Scene<'_, '_>,
-    unit: u8,
-    y: u32,
-) -> Result<(), AllocError>
-    requires { y ≤ 19000 }
-    ensures { OnOk result (out.new ≡ out.old) }
-{
-    out.text("q e", at(LABEL, y + 8), "in hand")?;
-    for request in scene.sheet.run.requests().iter() {
-        if request.unit == unit && is_shown(scene.sheet, request) {
-            draw_time(out, scene, request, y)?;
-        }
-    }
-    Ok(())
-}
+use run_plan::is_shown;
+use std::alloc::AllocError;
 
 /// How many requests of a unit wait in a column, at most.
 fn most_waiting(scene: &Scene<'_, '_>, unit: u8) -> u64 {
@@ -113,25 +22,6 @@ fn most_waiting(scene: &Scene<'_, '_>, unit: u8) -> u64 {
         most = most.max(scene.cell(unit, column).waiting);
     }
     most
-}
-
-/// The requests of a drive: those in hand, or how many wait if a column is several events.
-fn draw_requests(
-    alloc: Global,
-    out: &mut Markup<'_>,
-    scene: &Scene<'_, '_>,
-    unit: u8,
-    y: u32,
-) -> Result<(), AllocError>
-    requires { y ≤ 19000 }
-    ensures { OnOk result (out.new ≡ out.old) }
-{
-    if scene.sheet.is_by_event() {
-        return draw_in_hand(out, scene, unit, y);
-    }
-    let most = most_waiting(scene, unit);
-    out.text_with("q e", at(LABEL, y + 8), "asked for, most ", most)?;
-    draw_all_bars(alloc, out, scene, Track::Waiting(unit, most), y)
 }
 
 /// How many requests of a unit were answered ok, of how many.
@@ -160,72 +50,6 @@ fn longest_wait(requests: &[Request], unit: u8) -> u64 {
     longest
 }
 
-/// What a drive did in the whole run.
-fn draw_times(
-    out: &mut Markup<'_>,
-    scene: &Scene<'_, '_>,
-    drive: &Drive,
-    y: u32,
-) -> Result<(), AllocError>
-    requires { y ≤ 19000 }
-    ensures { OnOk result (out.new ≡ out.old) }
-{
-    draw_total(out, scene, y, drive.all.way, "events on its way")?;
-    draw_total(out, scene, y + 13, drive.all.ready, "ready, adapter busy")?;
-    draw_total(out, scene, y + 26, drive.all.trans, "transferring")?;
-    draw_total(out, scene, y + 39, drive.arm.travel, "cylinders moved over")?;
-    draw_total(
-        out,
-        scene,
-        y + 52,
-        drive.queue.as_asked,
-        "in the order asked",
-    )
-}
-
-/// The totals of a drive, beside it.
-fn draw_totals(
-    out: &mut Markup<'_>,
-    scene: &Scene<'_, '_>,
-    unit: u8,
-    y: u32,
-) -> Result<(), AllocError>
-    requires { y ≤ 18900 }
-    ensures { OnOk result (out.new ≡ out.old) }
-{
-    let requests = scene.sheet.run.requests();
-    let (ok, all) = count_answers(requests, unit);
-    let longest = longest_wait(requests, unit);
-    let beside = scene.frame.beside();
-    out.text_number("m e", at(beside + 36, y), ok)?;
-    out.text_with("q", at(beside + 44, y), "ok, of ", all)?;
-    draw_total(out, scene, y + 13, longest, "events queued at most")?;
-    match scene.sheet.run.drives().get(usize::from(unit)) {
-        Some(drive) => draw_times(out, scene, drive, y + 26),
-        None => Ok(()),
-    }
-}
-
-/// The requests of a drive, what it does, and its condition.
-fn draw_deeds(
-    alloc: Global,
-    out: &mut Markup<'_>,
-    scene: &Scene<'_, '_>,
-    unit: u8,
-    y: u32,
-) -> Result<(), AllocError>
-    requires { y ≤ 18500 }
-    ensures { OnOk result (out.new ≡ out.old) }
-{
-    let from = at(LEFT, y + 30);
-    let to = at(scene.frame.right(), y + 30);
-    draw_requests(alloc, out, scene, unit, y)?;
-    out.path("g", Route::Across { from, to })?;
-    draw_all_bars(alloc, out, scene, Track::Letters(unit), y + 12)?;
-    draw_all_bars(alloc, out, scene, Track::Offline(unit), y + 33)?;
-    draw_all_bars(alloc, out, scene, Track::Locked(unit), y + 33)
-}
-
 /// The group of a drive begins, with its tooltip and its name.
 fn begin_lane(out: &mut Markup<'_>, lane: &Lane, y: u32) -> Result<(), AllocError>
     requires { y ≤ 18500 }
@@ -244,23 +68,138 @@ fn begin_lane(out: &mut Markup<'_>, lane: &Lane, y: u32) -> Result<(), AllocErro
     out.text("q", at(66, y + 25), lane.kind)
 }
 
-/// A drive over the columns.
-pub fn draw_lane<'a>(
-    alloc: Global,
-    out: &mut Markup<'a>,
-    scene: &Scene<'_, 'a>,
-    lane: &Lane,
-    y: u32,
-) -> Result<(), AllocError>
-    requires { y ≤ 18500 }
-    ensures { OnOk result (out.new ≡ told (lines_shown scene.now.sheet.now lane.now.unit) out.old) }
-{
-    begin_lane(out, lane, y)?;
-    draw_deeds(alloc, out, scene, lane.unit, y)?;
-    draw_marks(out, scene, lane.unit, y + 35)?;
-    draw_totals(out, scene, lane.unit, y + 9)?;
-    if lane.top > 0 {
-        draw_arm(alloc, out, scene, lane, y + 71)?;
+impl<'s, 'a> Drawing<'s, 'a> {
+    /// A number and what it counts, beside a drive.
+    fn draw_total(&mut self, y: u32, number: u64, word: &'static str) -> Result<(), AllocError>
+        requires { y ≤ 19500 }
+        ensures { OnOk result (self.new ≡ self.old) }
+    {
+        let beside = self.scene.frame.beside();
+        self.out.text_number("m e", at(beside + 36, y), number)?;
+        self.out.text("q", at(beside + 44, y), word)
     }
-    out.end(Element::Group)
+
+    /// An adapter, above its drives.
+    pub fn draw_adapter(&mut self, adapter: u8, y: u32) -> Result<(), AllocError>
+        requires { y ≤ 18500 }
+        ensures { OnOk result (self.new ≡ self.old) }
+    {
+        let from = at(LEFT, y + 17);
+        let to = at(self.scene.frame.right(), y + 40);
+        let held = all_held(self.scene.columns(), self.scene.lanes, adapter);
+        self.out
+            .text_with("b", at(16, y + 13), "adapter ", u64::from(adapter))?;
+        self.out.text("q e", at(LABEL, y + 13), "held by unit")?;
+        self.out.text("q e", at(LABEL, y + 36), "positioning")?;
+        self.out.path("g", Route::TwoAcross { from, to })?;
+        self.draw_total(y + 13, held, "events held")?;
+        self.draw_all_bars(Track::Held(adapter), y)?;
+        self.draw_all_bars(Track::Positioning(adapter), y)
+    }
+
+    /// The time of a request in hand as a bracket, and its id if there is room.
+    fn draw_time(&mut self, request: &Request, y: u32) -> Result<(), AllocError>
+        requires { y ≤ 19000 }
+        ensures { OnOk result (self.new ≡ self.old) }
+    {
+        let x = self.scene.hand(request);
+        let width = self.scene.end(request).saturating_sub(x);
+        let id = u64::from(request.id);
+        if width > 0 {
+            let from = at(x, y + 11);
+            let size = extent(width.saturating_sub(2), 0);
+            self.out.path("k", Route::Bracket { from, size })?;
+        }
+        if width >= width_of(id).saturating_add(4) {
+            self.out.text_number("m", at(x + 2, y + 5), id)?;
+        }
+        Ok(())
+    }
+
+    /// The requests in hand, if a column is one event.
+    fn draw_in_hand(&mut self, unit: u8, y: u32) -> Result<(), AllocError>
+        requires { y ≤ 19000 }
+        ensures { OnOk result (self.new ≡ self.old) }
+    {
+        self.out.text("q e", at(LABEL, y + 8), "in hand")?;
+        for request in self.scene.sheet.run.requests().iter() {
+            if request.unit == unit && is_shown(self.scene.sheet, request) {
+                self.draw_time(request, y)?;
+            }
+        }
+        Ok(())
+    }
+
+    /// The requests of a drive: those in hand, or how many wait if a column is several events.
+    fn draw_requests(&mut self, unit: u8, y: u32) -> Result<(), AllocError>
+        requires { y ≤ 19000 }
+        ensures { OnOk result (self.new ≡ self.old) }
+    {
+        if self.scene.sheet.is_by_event() {
+            return self.draw_in_hand(unit, y);
+        }
+        let most = most_waiting(&self.scene, unit);
+        self.out
+            .text_with("q e", at(LABEL, y + 8), "asked for, most ", most)?;
+        self.draw_all_bars(Track::Waiting(unit, most), y)
+    }
+
+    /// What a drive did in the whole run.
+    fn draw_times(&mut self, drive: &Drive, y: u32) -> Result<(), AllocError>
+        requires { y ≤ 19000 }
+        ensures { OnOk result (self.new ≡ self.old) }
+    {
+        self.draw_total(y, drive.all.way, "events on its way")?;
+        self.draw_total(y + 13, drive.all.ready, "ready, adapter busy")?;
+        self.draw_total(y + 26, drive.all.trans, "transferring")?;
+        self.draw_total(y + 39, drive.arm.travel, "cylinders moved over")?;
+        self.draw_total(y + 52, drive.queue.as_asked, "in the order asked")
+    }
+
+    /// The totals of a drive, beside it.
+    fn draw_totals(&mut self, unit: u8, y: u32) -> Result<(), AllocError>
+        requires { y ≤ 18900 }
+        ensures { OnOk result (self.new ≡ self.old) }
+    {
+        let requests = self.scene.sheet.run.requests();
+        let (ok, all) = count_answers(requests, unit);
+        let longest = longest_wait(requests, unit);
+        let beside = self.scene.frame.beside();
+        self.out.text_number("m e", at(beside + 36, y), ok)?;
+        self.out.text_with("q", at(beside + 44, y), "ok, of ", all)?;
+        self.draw_total(y + 13, longest, "events queued at most")?;
+        match self.scene.sheet.run.drives().get(usize::from(unit)) {
+            Some(drive) => self.draw_times(drive, y + 26),
+            None => Ok(()),
+        }
+    }
+
+    /// The requests of a drive, what it does, and its condition.
+    fn draw_deeds(&mut self, unit: u8, y: u32) -> Result<(), AllocError>
+        requires { y ≤ 18500 }
+        ensures { OnOk result (self.new ≡ self.old) }
+    {
+        let from = at(LEFT, y + 30);
+        let to = at(self.scene.frame.right(), y + 30);
+        self.draw_requests(unit, y)?;
+        self.out.path("g", Route::Across { from, to })?;
+        self.draw_all_bars(Track::Letters(unit), y + 12)?;
+        self.draw_all_bars(Track::Offline(unit), y + 33)?;
+        self.draw_all_bars(Track::Locked(unit), y + 33)
+    }
+
+    /// A drive over the columns.
+    pub fn draw_lane(&mut self, lane: &Lane, y: u32) -> Result<(), AllocError>
+        requires { y ≤ 18500 }
+        ensures { OnOk result (self.new ≡ telling (lines_shown self.old.scene.sheet.now lane.now.unit) self.old) }
+    {
+        begin_lane(&mut self.out, lane, y)?;
+        self.draw_deeds(lane.unit, y)?;
+        self.draw_marks(lane.unit, y + 35)?;
+        self.draw_totals(lane.unit, y + 9)?;
+        if lane.top > 0 {
+            self.draw_arm(lane, y + 71)?;
+        }
+        self.out.end(Element::Group)
+    }
 }

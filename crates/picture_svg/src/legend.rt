@@ -6,8 +6,7 @@ ghost use Rattle.picture_svg.specs.Nesting.{with_letter};
 
 use crate::markup::Markup;
 use crate::pieces::{Route, Sign, at, extent};
-use drive_pictures::Letter;
-use picture_sheet::letter_sign;
+use drive_pictures::{Letter, letter_sign};
 use std::alloc::AllocError;
 
 /// The letters, in two rows.

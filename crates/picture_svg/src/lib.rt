@@ -10,6 +10,7 @@
 
 mod arm;
 mod bars;
+mod holders;
 mod lane;
 mod legend;
 mod marks;

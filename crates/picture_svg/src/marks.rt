@@ -1,16 +1,16 @@
 //! What happened at a drive: the marks, and the signals below them. A mark that is no trouble is drawn if columns have room for it.
 
 ghost use Rattle.std.specs.Prelude.{◌≡◌, ◌≤◌, ◌||◌, true, length, OnOk};
-ghost use Rattle.picture_sheet.specs.Notes.{is_spoken_of, line_of, lines_of, lines_shown};
-ghost use Rattle.picture_svg.specs.Nesting.{is_innermost, told};
+ghost use Rattle.run_plan.specs.Notes.{is_spoken_of, line_of, lines_of, lines_shown};
+ghost use Rattle.picture_svg.specs.Nesting.{is_innermost};
+ghost use Rattle.picture_svg.specs.Pictures.{telling};
 ghost use Rattle.picture_svg.specs.declared.pieces.Element.TheVariants.{Title};
 
 use crate::markup::Markup;
 use crate::pieces::{Element, Piece, Route, Sign, at, extent};
-use crate::scene::{Scene, Stretch};
-use crate::tips::begin_span;
-use drive_pictures::{Cell, Mark};
-use picture_sheet::{Note, mark_sign};
+use crate::scene::{Drawing, Stretch};
+use drive_pictures::{Cell, Mark, mark_sign};
+use run_picture::Note;
 use std::alloc::AllocError;
 
 /// How a mark or a signal is drawn.
@@ -116,33 +116,6 @@ fn draw_shape(
     }
 }
 
-/// The marks of a column, and the area over which its tooltip is shown.
-fn draw_shapes(
-    out: &mut Markup<'_>,
-    scene: &Scene<'_, '_>,
-    cell: &Cell,
-    column: usize,
-    roomy: bool,
-    y: u32,
-) -> Result<(), AllocError>
-    requires { y ≤ 19000 }
-    ensures { OnOk result (out.new ≡ out.old) }
-{
-    let x = scene.frame.x(column);
-    let width = scene.frame.column.min(40);
-    draw_shape(out, mark_shape(cell.mark, roomy), cell, width >= 14, x, y)?;
-    draw_shape(
-        out,
-        signal_shape(cell.signal, roomy),
-        cell,
-        width >= 14,
-        x,
-        y,
-    )?;
-    let corner = at(x.saturating_sub(width / 2), y);
-    out.rect("o", corner, extent(width, 22), None)
-}
-
 /// Whether something is drawn for a column.
 fn has_shape(cell: &Cell, roomy: bool) -> bool {
     !matches!(mark_shape(cell.mark, roomy), Shape::Nothing)
@@ -173,58 +146,6 @@ fn put_feed(out: &mut Markup<'_>, first: bool) -> Result<(), AllocError>
     if first { Ok(()) } else { out.put(Piece::Feed) }
 }
 
-/// A line, if it speaks of the unit, below another one or as the first. The result is whether the next one is the first.
-fn tell_note<'a>(
-    out: &mut Markup<'a>,
-    first: bool,
-    note: &Note<'a>,
-    unit: u8,
-) -> Result<bool, AllocError>
-    requires { is_innermost Title out.old.within ≡ true }
-    ensures { OnOk result (out.new ≡ told (line_of unit note.now) out.old) }
-{
-    if note.unit == unit {
-        put_feed(out, first)?;
-        out.told(note.text)?;
-        Ok(false)
-    } else {
-        Ok(first)
-    }
-}
-
-/// The lines that speak of a unit, one below another.
-fn tell<'a>(out: &mut Markup<'a>, notes: &[Note<'a>], unit: u8) -> Result<(), AllocError>
-    requires { is_innermost Title out.old.within ≡ true }
-    ensures { OnOk result (out.new ≡ told (lines_of unit notes.now) out.old) }
-{
-    let mut first = true;
-    for note in notes.iter() {
-        first = tell_note(out, first, note, unit)?;
-    }
-    Ok(())
-}
-
-/// The marks of an event with its tooltip.
-fn draw_tip<'a>(
-    out: &mut Markup<'a>,
-    scene: &Scene<'_, 'a>,
-    unit: u8,
-    column: usize,
-    notes: &[Note<'a>],
-    y: u32,
-) -> Result<(), AllocError>
-    requires { y ≤ 19000 }
-    ensures { OnOk result (out.new ≡ told (lines_of unit notes.now) out.old) }
-{
-    let roomy = scene.frame.column >= 6;
-    let cell = scene.cell(unit, column);
-    out.begin_tip()?;
-    tell(out, notes, unit)?;
-    out.end(Element::Title)?;
-    draw_shapes(out, scene, &cell, column, roomy, y)?;
-    out.end(Element::Group)
-}
-
 /// Whether a column has a tooltip: it tells lines, or shows marks.
 fn has_tip(tells: bool, shows: bool) -> bool
     ensures { result ≡ (tells || shows) }
@@ -232,102 +153,161 @@ fn has_tip(tells: bool, shows: bool) -> bool
     tells || shows
 }
 
-/// The marks of an event, with the lines that speak of the drive.
-fn draw_event<'a>(
-    out: &mut Markup<'a>,
-    scene: &Scene<'_, 'a>,
-    unit: u8,
-    column: usize,
-    notes: &[Note<'a>],
-    y: u32,
-) -> Result<(), AllocError>
-    requires { y ≤ 19000 }
-    ensures { OnOk result (out.new ≡ told (lines_of unit notes.now) out.old) }
-{
-    let tells = speaks_of(notes, unit);
-    let shows = has_shape(&scene.cell(unit, column), scene.frame.column >= 6);
-    if has_tip(tells, shows) {
-        draw_tip(out, scene, unit, column, notes, y)
-    } else {
+impl<'s, 'a> Drawing<'s, 'a> {
+    /// The marks of a column, and the area over which its tooltip is shown.
+    fn draw_shapes(
+        &mut self,
+        cell: &Cell,
+        column: usize,
+        roomy: bool,
+        y: u32,
+    ) -> Result<(), AllocError>
+        requires { y ≤ 19000 }
+        ensures { OnOk result (self.new ≡ self.old) }
+    {
+        let x = self.scene.frame.x(column);
+        let width = self.scene.frame.column.min(40);
+        draw_shape(
+            &mut self.out,
+            mark_shape(cell.mark, roomy),
+            cell,
+            width >= 14,
+            x,
+            y,
+        )?;
+        draw_shape(
+            &mut self.out,
+            signal_shape(cell.signal, roomy),
+            cell,
+            width >= 14,
+            x,
+            y,
+        )?;
+        let corner = at(x.saturating_sub(width / 2), y);
+        self.out.rect("o", corner, extent(width, 22), None)
+    }
+
+    /// A line, if it speaks of the unit, below another one or as the first. The result is whether the next one is the first.
+    fn tell_note(&mut self, first: bool, note: &Note<'a>, unit: u8) -> Result<bool, AllocError>
+        requires { is_innermost Title self.old.out.within ≡ true }
+        ensures { OnOk result (self.new ≡ telling (line_of unit note.now) self.old) }
+    {
+        if note.unit == unit {
+            put_feed(&mut self.out, first)?;
+            self.out.told(note.text)?;
+            Ok(false)
+        } else {
+            Ok(first)
+        }
+    }
+
+    /// The lines that speak of a unit, one below another.
+    fn tell(&mut self, notes: &[Note<'a>], unit: u8) -> Result<(), AllocError>
+        requires { is_innermost Title self.old.out.within ≡ true }
+        ensures { OnOk result (self.new ≡ telling (lines_of unit notes.now) self.old) }
+    {
+        let mut first = true;
+        for note in notes.iter() {
+            first = self.tell_note(first, note, unit)?;
+        }
         Ok(())
     }
-}
 
-/// The marks of a column of several events, if it has some.
-fn draw_column(
-    out: &mut Markup<'_>,
-    scene: &Scene<'_, '_>,
-    unit: u8,
-    column: usize,
-    y: u32,
-) -> Result<(), AllocError>
-    requires { y ≤ 19000 }
-    ensures { OnOk result (out.new ≡ out.old) }
-{
-    let cell = scene.cell(unit, column);
-    if !has_shape(&cell, false) {
-        return Ok(());
+    /// The marks of an event with its tooltip.
+    fn draw_tip(
+        &mut self,
+        unit: u8,
+        column: usize,
+        notes: &[Note<'a>],
+        y: u32,
+    ) -> Result<(), AllocError>
+        requires { y ≤ 19000 }
+        ensures { OnOk result (self.new ≡ telling (lines_of unit notes.now) self.old) }
+    {
+        let roomy = self.scene.frame.column >= 6;
+        let cell = self.scene.cell(unit, column);
+        self.out.begin_tip()?;
+        self.tell(notes, unit)?;
+        self.out.end(Element::Title)?;
+        self.draw_shapes(&cell, column, roomy, y)?;
+        self.out.end(Element::Group)
     }
-    let stretch = Stretch {
-        from: column,
-        to: column.saturating_add(1),
-    };
-    begin_span(out, scene, stretch)?;
-    out.end(Element::Title)?;
-    draw_shapes(out, scene, &cell, column, false, y)?;
-    out.end(Element::Group)
-}
 
-/// The marks of each event. The last has all lines that are left.
-fn draw_by_event<'a>(
-    out: &mut Markup<'a>,
-    scene: &Scene<'_, 'a>,
-    unit: u8,
-    y: u32,
-) -> Result<(), AllocError>
-    requires { y ≤ 19000 }
-    ensures { OnOk result (out.new ≡ told (lines_of unit scene.now.sheet.now.notes.now) out.old) }
-{
-    let notes = scene.sheet.notes;
-    let last = scene.columns().len().saturating_sub(1);
-    let mut from: usize = 0;
-    for column in 0..last {
-        let to = from + count_to(&notes[from..], column);
-        draw_event(out, scene, unit, column, &notes[from..to], y)?;
-        from = to;
+    /// The marks of an event, with the lines that speak of the drive.
+    fn draw_event_marks(
+        &mut self,
+        unit: u8,
+        column: usize,
+        notes: &[Note<'a>],
+        y: u32,
+    ) -> Result<(), AllocError>
+        requires { y ≤ 19000 }
+        ensures { OnOk result (self.new ≡ telling (lines_of unit notes.now) self.old) }
+    {
+        let tells = speaks_of(notes, unit);
+        let shows = has_shape(&self.scene.cell(unit, column), self.scene.frame.column >= 6);
+        if has_tip(tells, shows) {
+            self.draw_tip(unit, column, notes, y)
+        } else {
+            Ok(())
+        }
     }
-    draw_event(out, scene, unit, last, &notes[from..], y)
-}
 
-/// The marks of each column of several events.
-fn draw_by_column(
-    out: &mut Markup<'_>,
-    scene: &Scene<'_, '_>,
-    unit: u8,
-    y: u32,
-) -> Result<(), AllocError>
-    requires { y ≤ 19000 }
-    ensures { OnOk result (out.new ≡ out.old) }
-{
-    for column in 0..scene.columns().len() {
-        draw_column(out, scene, unit, column, y)?;
+    /// The marks of a column of several events, if it has some.
+    fn draw_column(&mut self, unit: u8, column: usize, y: u32) -> Result<(), AllocError>
+        requires { y ≤ 19000 }
+        ensures { OnOk result (self.new ≡ self.old) }
+    {
+        let cell = self.scene.cell(unit, column);
+        if !has_shape(&cell, false) {
+            return Ok(());
+        }
+        let stretch = Stretch {
+            from: column,
+            to: column.saturating_add(1),
+        };
+        self.begin_span(stretch)?;
+        self.out.end(Element::Title)?;
+        self.draw_shapes(&cell, column, false, y)?;
+        self.out.end(Element::Group)
     }
-    Ok(())
-}
 
-/// The marks of a drive.
-pub fn draw_marks<'a>(
-    out: &mut Markup<'a>,
-    scene: &Scene<'_, 'a>,
-    unit: u8,
-    y: u32,
-) -> Result<(), AllocError>
-    requires { y ≤ 19000 }
-    ensures { OnOk result (out.new ≡ told (lines_shown scene.now.sheet.now unit) out.old) }
-{
-    if scene.sheet.is_by_event() {
-        draw_by_event(out, scene, unit, y)
-    } else {
-        draw_by_column(out, scene, unit, y)
+    /// The marks of each event. The last has all lines that are left.
+    fn draw_by_event(&mut self, unit: u8, y: u32) -> Result<(), AllocError>
+        requires { y ≤ 19000 }
+        ensures { OnOk result (self.new ≡ telling (lines_of unit self.old.scene.sheet.now.notes.now) self.old) }
+    {
+        let notes = self.scene.sheet.notes;
+        let last = self.scene.columns().len().saturating_sub(1);
+        let mut from: usize = 0;
+        for column in 0..last {
+            let to = from + count_to(&notes[from..], column);
+            self.draw_event_marks(unit, column, &notes[from..to], y)?;
+            from = to;
+        }
+        self.draw_event_marks(unit, last, &notes[from..], y)
+    }
+
+    /// The marks of each column of several events.
+    fn draw_by_column(&mut self, unit: u8, y: u32) -> Result<(), AllocError>
+        requires { y ≤ 19000 }
+        ensures { OnOk result (self.new ≡ self.old) }
+    {
+        for column in 0..self.scene.columns().len() {
+            self.draw_column(unit, column, y)?;
+        }
+        Ok(())
+    }
+
+    /// The marks of a drive.
+    pub fn draw_marks(&mut self, unit: u8, y: u32) -> Result<(), AllocError>
+        requires { y ≤ 19000 }
+        ensures { OnOk result (self.new ≡ telling (lines_shown self.old.scene.sheet.now unit) self.old) }
+    {
+        if self.scene.sheet.is_by_event() {
+            self.draw_by_event(unit, y)
+        } else {
+            self.draw_by_column(unit, y)
+        }
     }
 }

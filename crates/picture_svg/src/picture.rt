@@ -1,18 +1,15 @@
 //! The whole picture.
 
-ghost use Rattle.std.specs.Prelude.{◌≡◌, ◌≤◌, ◌+◌, ◌*◌, fold, length, IfOk, OnOk};
-ghost use Rattle.picture_svg.specs.Nesting.{captioned, told};
-ghost use Rattle.picture_svg.specs.Pictures.{caption_of, lines_of_lane, lines_of_lanes, with_all, IsPicture};
+ghost use Rattle.std.specs.Prelude.{◌≡◌, ◌≤◌, ◌+◌, length, IfOk, OnOk};
+ghost use Rattle.picture_svg.specs.Nesting.{captioned};
+ghost use Rattle.picture_svg.specs.Pictures.{caption_of, lines_of_lane, lines_of_lanes, telling, with_all, IsPicture};
 
-use crate::lane::{draw_adapter, draw_lane};
 use crate::legend::draw_legend;
 use crate::markup::Markup;
 use crate::pieces::{Element, Piece, Start, at, extent};
-use crate::scene::{Frame, Lane, Scene, lanes_of};
-use crate::script::{draw_events, draw_script};
-use crate::table::draw_table;
+use crate::scene::{Drawing, Frame, Lane, Scene, lanes_of};
 use crate::tips::{front, put_sentences, text_sentences};
-use picture_sheet::{Sentence, Sheet, Shown, scale_of, sentences};
+use run_plan::{Sentence, Sheet, Shown, scale_of, sentences};
 use std::alloc::{AllocError, Global};
 
 /// Where the adapters begin.
@@ -91,7 +88,7 @@ fn bottom_of(lanes: &[Lane]) -> u32
 }
 
 /// The title and the sentences of the drawing, which are not visible.
-fn draw_names<'a>(
+fn draw_title<'a>(
     out: &mut Markup<'a>,
     sheet: &Sheet<'a>,
     sentences: &[Sentence; 4],
@@ -135,62 +132,54 @@ fn draw_head<'a>(
     text_sentences(out, 64, third, fourth)
 }
 
-/// A drive, below its adapter if it is the first one of that adapter. The result is where the next drive stands.
-fn draw_drive<'a>(
-    alloc: Global,
-    out: &mut Markup<'a>,
-    scene: &Scene<'_, 'a>,
-    place: Place,
-    lane: &Lane,
-) -> Result<Place, AllocError>
-    requires { place.y ≤ 18000 }
-    ensures told { OnOk result (out.new ≡ told (lines_of_lane scene.now.sheet.now lane.now) out.old) }
-    ensures below { IfOk result (λ next. next.y ≤ place.y + 401) }
-{
-    if place.is_first(lane) {
-        draw_adapter(alloc, out, scene, lane.unit / 8, place.y)?;
+impl<'s, 'a> Drawing<'s, 'a> {
+    /// A drive, below its adapter if it is the first one of that adapter. The result is where the next drive stands.
+    fn draw_drive(&mut self, place: Place, lane: &Lane) -> Result<Place, AllocError>
+        requires { place.y ≤ 18000 }
+        ensures told { OnOk result (self.new ≡ telling (lines_of_lane self.old.scene.sheet.now lane.now) self.old) }
+        ensures below { IfOk result (λ next. next.y ≤ place.y + 401) }
+    {
+        if place.is_first(lane) {
+            self.draw_adapter(lane.unit / 8, place.y)?;
+        }
+        self.draw_lane(lane, place.top(lane))?;
+        Ok(place.below(lane))
     }
-    draw_lane(alloc, out, scene, lane, place.top(lane))?;
-    Ok(place.below(lane))
-}
 
-/// The drives.
-fn draw_drives<'a>(
-    alloc: Global,
-    out: &mut Markup<'a>,
-    scene: &Scene<'_, 'a>,
-) -> Result<(), AllocError>
-    requires { length scene.now.lanes.now ≤ 32 }
-    ensures { OnOk result (out.new ≡ told (lines_of_lanes scene.now.sheet.now scene.now.lanes.now) out.old) }
-{
-    let mut place = FIRST;
-    for lane in scene.lanes.iter() {
-        place = draw_drive(alloc, out, scene, place, lane)?;
+    /// The drives.
+    fn draw_drives(&mut self) -> Result<(), AllocError>
+        requires { length self.old.scene.lanes.now ≤ 32 }
+        ensures { OnOk result (self.new ≡ telling (lines_of_lanes self.old.scene.sheet.now self.old.scene.lanes.now) self.old) }
+    {
+        let mut place = FIRST;
+        for lane in self.scene.lanes.iter() {
+            place = self.draw_drive(place, lane)?;
+        }
+        Ok(())
     }
-    Ok(())
-}
 
-/// The drawing.
-fn draw<'a>(alloc: Global, out: &mut Markup<'a>, scene: &Scene<'_, 'a>) -> Result<(), AllocError>
-    requires lanes { length scene.now.lanes.now ≤ 32 }
-    requires few { length scene.now.shown.now.listed.items ≤ 256 }
-    ensures { OnOk result (out.new ≡ with_all scene.now.sheet.now (lines_of_lanes scene.now.sheet.now scene.now.lanes.now) scene.now.shown.now.listed.items out.old) }
-{
-    let sentences = sentences(scene.sheet);
-    let bottom = bottom_of(scene.lanes);
-    let listed = scene.shown.listed.len() as u32;
-    let height = bottom + 74 + 13 * listed;
-    let size = extent(scene.frame.width(), height);
-    out.put(Piece::Start(Start::Svg { size }))?;
-    draw_names(out, scene.sheet, &sentences)?;
-    out.put(Piece::Style)?;
-    draw_legend(out)?;
-    draw_head(out, scene.sheet, &sentences)?;
-    draw_script(alloc, out, scene, height)?;
-    draw_drives(alloc, out, scene)?;
-    draw_events(out, scene, bottom + 8)?;
-    draw_table(alloc, out, scene, bottom + 36)?;
-    out.end(Element::Svg)
+    /// The drawing.
+    fn draw(&mut self) -> Result<(), AllocError>
+        requires lanes { length self.old.scene.lanes.now ≤ 32 }
+        requires few { length self.old.scene.shown.now.listed.items ≤ 256 }
+        ensures { OnOk result (self.new.out ≡ with_all self.old.scene.sheet.now (lines_of_lanes self.old.scene.sheet.now self.old.scene.lanes.now) self.old.scene.shown.now.listed.items self.old.out) }
+    {
+        let sentences = sentences(self.scene.sheet);
+        let bottom = bottom_of(self.scene.lanes);
+        let listed = self.scene.shown.listed.len() as u32;
+        let height = bottom + 74 + 13 * listed;
+        let size = extent(self.scene.frame.width(), height);
+        self.out.put(Piece::Start(Start::Svg { size }))?;
+        draw_title(&mut self.out, self.scene.sheet, &sentences)?;
+        self.out.put(Piece::Style)?;
+        draw_legend(&mut self.out)?;
+        draw_head(&mut self.out, self.scene.sheet, &sentences)?;
+        self.draw_script(height)?;
+        self.draw_drives()?;
+        self.draw_events(bottom + 8)?;
+        self.draw_table(bottom + 36)?;
+        self.out.end(Element::Svg)
+    }
 }
 
 /// The picture of a run as SVG.
@@ -207,7 +196,8 @@ pub fn svg(alloc: Global, sheet: &Sheet<'_>) -> Result<Vec<u8>, AllocError>
         scale: scale_of(sheet, units.as_slice()),
         shown: &shown,
     };
-    let mut out = Markup::new(alloc);
-    draw(alloc, &mut out, &scene)?;
-    out.finish(alloc)
+    let out = Markup::new(alloc);
+    let mut drawing = Drawing { out, scene, alloc };
+    drawing.draw()?;
+    drawing.out.finish(alloc)
 }

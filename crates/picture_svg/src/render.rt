@@ -7,10 +7,8 @@ ghost use Rattle.picture_svg.specs.Texts.{with_byte, with_words, with_class, wit
 
 use crate::pieces::{Element, Piece, Point, Route, Sign, Size, Start};
 use crate::style::STYLE;
-use drive_pictures::{Letter, Request};
+use drive_pictures::{Letter, Request, letter_word, outcome_word};
 use itoa::Buffer;
-use picture_sheet::outcome_word;
-use run_plan::letter_word;
 use std::alloc::{AllocError, Global};
 
 /// The name of a letter's pattern.

@@ -1,13 +1,15 @@
 //! What is drawn, and where.
 
-ghost use Rattle.std.specs.Prelude.{◌≡◌, ◌≤◌, map, IfOk};
-ghost use Rattle.picture_sheet.specs.Units.{units_shown};
+ghost use Rattle.std.specs.Prelude.{◌≡◌, ◌≤◌, ◌*◌, length, decimal, map, IfOk};
+ghost use Rattle.run_plan.specs.Units.{units_shown};
 ghost use Rattle.picture_svg.specs.Pictures.{unit_of};
+ghost use Rattle.picture_svg.specs.Scales.{frame_of, place_of, part_of, column_at, cell_of};
 
+use crate::markup::Markup;
 use drive_pictures::{Cell, Request};
 use itoa::Buffer;
-use picture_sheet::{Sheet, Shown, cell_at, is_shown, top_of};
 use run_picture::{Column, Head};
+use run_plan::{Sheet, Shown, cell_at, is_shown, top_of};
 use std::alloc::{AllocError, Global};
 
 /// The left edge of the columns.
@@ -49,6 +51,14 @@ pub struct Scene<'s, 'a> {
     pub shown: &'s Shown,
 }
 
+/// A drawing under way: its pieces so far, and what is drawn.
+#[derive(Drop)]
+pub struct Drawing<'s, 'a> {
+    pub out: Markup<'a>,
+    pub scene: Scene<'s, 'a>,
+    pub alloc: Global,
+}
+
 /// A stretch of columns, from one up to another.
 #[derive(Clone, Copy)]
 pub struct Stretch {
@@ -58,7 +68,9 @@ pub struct Stretch {
 
 impl Frame {
     /// The frame of `columns` columns.
-    pub fn new(columns: usize) -> Frame {
+    pub fn new(columns: usize) -> Frame
+        ensures { result ≡ frame_of columns }
+    {
         let count = columns.min(1_000) as u32;
         Frame {
             count: columns,
@@ -68,7 +80,8 @@ impl Frame {
 
     /// The left edge of a column.
     pub fn x(&self, column: usize) -> u32
-        ensures { result ≤ 1024 }
+        ensures place { result ≡ place_of self.now column }
+        ensures inside { result ≤ 1024 }
     {
         let before = column.min(1_000) as u32;
         LEFT + before.saturating_mul(self.column).min(PLOT)
@@ -98,7 +111,8 @@ impl Frame {
 
 /// The part of a height that some events are of all events.
 pub fn part_of(height: u32, some: u64, all: u64) -> u32
-    ensures { result ≤ height }
+    ensures part { result ≡ part_of height some all }
+    ensures inside { result ≤ height }
 {
     let height = u64::from(height);
     let part = height.saturating_mul(some) / all.max(1);
@@ -106,10 +120,12 @@ pub fn part_of(height: u32, some: u64, all: u64) -> u32
 }
 
 /// How wide a number is written.
-pub fn width_of(number: u64) -> u32 {
+pub fn width_of(number: u64) -> u32
+    ensures { result ≡ length (decimal number) * 6 }
+{
     let mut buffer = Buffer::new();
     let digits = buffer.format(number).len() as u32;
-    digits.saturating_mul(6)
+    digits * 6
 }
 
 /// How many requests of a unit are shown, up to 40.
@@ -160,25 +176,26 @@ pub fn lanes_of(alloc: Global, sheet: &Sheet<'_>) -> Result<Vec<Lane>, AllocErro
 
 impl<'s, 'a> Scene<'s, 'a> {
     /// The columns.
-    pub fn columns(&self) -> &'a [Column] {
+    pub fn columns(&self) -> &'a [Column]
+        ensures { result.now ≡ self.now.sheet.now.run.now.columns }
+    {
         self.sheet.columns()
     }
 
     /// The head of a column; after the last column, a head of no event.
-    pub fn head(&self, column: usize) -> Head {
+    pub fn head(&self, column: usize) -> Head
+        ensures { result ≡ (column_at self.now.sheet.now.run.now.columns column).head }
+    {
         match self.columns().get(column) {
             Some(column) => column.head,
             None => Head::new(),
         }
     }
 
-    /// How many events a column has.
-    pub fn size(&self, column: usize) -> u64 {
-        self.head(column).events
-    }
-
     /// What is seen of a drive in a column.
-    pub fn cell(&self, unit: u8, column: usize) -> Cell {
+    pub fn cell(&self, unit: u8, column: usize) -> Cell
+        ensures { result ≡ cell_of self.now.sheet.now.run.now.columns unit column }
+    {
         match self.columns().get(column) {
             Some(column) => cell_at(column, unit),
             None => Cell::new(),

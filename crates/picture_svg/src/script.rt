@@ -6,13 +6,13 @@ ghost use Rattle.picture_svg.specs.declared.pieces.Element.TheVariants.{Group};
 
 use crate::markup::Markup;
 use crate::pieces::{Element, Piece, Route, Start, at};
-use crate::scene::{LABEL, LEFT, Scene, Stretch};
-use crate::stretches::{Track, stretches};
+use crate::scene::{Drawing, LABEL, LEFT, Scene, Stretch};
+use crate::stretches::{Track, next_stretch};
 use crate::tips::front;
 use drive_pictures::plus;
 use itoa::Buffer;
 use run_picture::Head;
-use std::alloc::{AllocError, Global};
+use std::alloc::AllocError;
 
 /// Where the script's lines end.
 const AXIS: u32 = 310;
@@ -75,23 +75,6 @@ fn words_at<'a>(scene: &Scene<'_, 'a>, column: usize) -> &'a [u8] {
     }
 }
 
-/// The columns of a line, if they are several.
-fn draw_columns(
-    out: &mut Markup<'_>,
-    scene: &Scene<'_, '_>,
-    stretch: Stretch,
-) -> Result<(), AllocError>
-    ensures { OnOk result (out.new ≡ out.old) }
-{
-    if stretch.to.saturating_sub(stretch.from) > 1 {
-        let from = at(scene.start(stretch), AXIS);
-        let to = at(scene.frame.x(stretch.to).saturating_sub(2), AXIS);
-        out.path("k", Route::Across { from, to })
-    } else {
-        Ok(())
-    }
-}
-
 /// A line of the script, upwards, with the whole line in its tooltip.
 fn draw_words<'a>(
     out: &mut Markup<'a>,
@@ -110,80 +93,82 @@ fn draw_words<'a>(
     out.end(Element::Group)
 }
 
-/// A line of the script, upwards over its first column, if there is room. The result is from where there is room after it.
-fn draw_line<'a>(
-    out: &mut Markup<'a>,
-    scene: &Scene<'_, 'a>,
-    stretch: Stretch,
-    height: u32,
-    free: u32,
-) -> Result<u32, AllocError>
-    requires { height < 20000 }
-    ensures { OnOk result (out.new ≡ out.old) }
-{
-    let x = scene.start(stretch);
-    draw_columns(out, scene, stretch)?;
-    if x < free {
-        return Ok(free);
+impl<'s, 'a> Drawing<'s, 'a> {
+    /// The columns of a line, if they are several.
+    fn draw_columns(&mut self, stretch: Stretch) -> Result<(), AllocError>
+        ensures { OnOk result (self.new ≡ self.old) }
+    {
+        if stretch.to.saturating_sub(stretch.from) > 1 {
+            let from = at(self.scene.start(stretch), AXIS);
+            let to = at(self.scene.frame.x(stretch.to).saturating_sub(2), AXIS);
+            self.out.path("k", Route::Across { from, to })
+        } else {
+            Ok(())
+        }
     }
-    let from = at(x, AXIS + 2);
-    let to = at(x, height.saturating_sub(16));
-    out.path("g", Route::Down { from, to })?;
-    let words = words_at(scene, stretch.from);
-    draw_words(out, &scene.head(stretch.from), words, x)?;
-    Ok(x + 12)
-}
 
-/// The script, written upwards over the first column of each of its lines, as far as there is room.
-pub fn draw_script<'a>(
-    alloc: Global,
-    out: &mut Markup<'a>,
-    scene: &Scene<'_, 'a>,
-    height: u32,
-) -> Result<(), AllocError>
-    requires { height < 20000 }
-    ensures { OnOk result (out.new ≡ out.old) }
-{
-    out.text("q e", at(LABEL, AXIS - 4), "line of the script")?;
-    let mut free = 0;
-    let lines = stretches(alloc, scene, 0, scene.columns().len(), Track::Script)?;
-    for stretch in lines.iter() {
-        free = draw_line(out, scene, *stretch, height, free)?;
+    /// A line of the script, upwards over its first column, if there is room. The result is from where there is room after it.
+    fn draw_line(&mut self, stretch: Stretch, height: u32, free: u32) -> Result<u32, AllocError>
+        requires { height < 20000 }
+        ensures { OnOk result (self.new ≡ self.old) }
+    {
+        let x = self.scene.start(stretch);
+        self.draw_columns(stretch)?;
+        if x < free {
+            return Ok(free);
+        }
+        let from = at(x, AXIS + 2);
+        let to = at(x, height.saturating_sub(16));
+        self.out.path("g", Route::Down { from, to })?;
+        let words = words_at(&self.scene, stretch.from);
+        draw_words(&mut self.out, &self.scene.head(stretch.from), words, x)?;
+        Ok(x + 12)
     }
-    Ok(())
-}
 
-/// The number of a column's first event, if there is room. The result is from where there is room after it.
-fn draw_event(
-    out: &mut Markup<'_>,
-    scene: &Scene<'_, '_>,
-    column: usize,
-    y: u32,
-    free: u32,
-) -> Result<u32, AllocError>
-    requires { y < 20000 }
-    ensures { OnOk result (out.new ≡ out.old) }
-{
-    let x = scene.frame.x(column);
-    if x < free {
-        return Ok(free);
+    /// The script, written upwards over the first column of each of its lines, as far as there is room.
+    pub fn draw_script(&mut self, height: u32) -> Result<(), AllocError>
+        requires { height < 20000 }
+        ensures { OnOk result (self.new ≡ self.old) }
+    {
+        self.out
+            .text("q e", at(LABEL, AXIS - 4), "line of the script")?;
+        let count = self.scene.columns().len();
+        let mut free = 0;
+        let mut from = 0;
+        'columns: while from < count {
+            let stretch = next_stretch(&self.scene, Track::Script, from, count);
+            free = self.draw_line(stretch, height, free)?;
+            from = stretch.to;
+        }
+        Ok(())
     }
-    let event = plus(scene.sheet.head(column), 1);
-    out.text_number("m q", at(x, y), event)?;
-    Ok(x + 48)
-}
 
-/// The numbers of the events, as far as there is room.
-pub fn draw_events(out: &mut Markup<'_>, scene: &Scene<'_, '_>, y: u32) -> Result<(), AllocError>
-    requires { y ≤ 19000 }
-    ensures { OnOk result (out.new ≡ out.old) }
-{
-    let words = "from left to right: the order of events, which is not time";
-    out.text("q e", at(LABEL, y), "event")?;
-    out.text("q", at(LEFT, y + 14), words)?;
-    let mut free = 0;
-    for column in 0..scene.columns().len() {
-        free = draw_event(out, scene, column, y, free)?;
+    /// The number of a column's first event, if there is room. The result is from where there is room after it.
+    fn draw_number(&mut self, column: usize, y: u32, free: u32) -> Result<u32, AllocError>
+        requires { y < 20000 }
+        ensures { OnOk result (self.new ≡ self.old) }
+    {
+        let x = self.scene.frame.x(column);
+        if x < free {
+            return Ok(free);
+        }
+        let event = plus(self.scene.sheet.window.edge(column), 1);
+        self.out.text_number("m q", at(x, y), event)?;
+        Ok(x + 48)
     }
-    Ok(())
+
+    /// The numbers of the events, as far as there is room.
+    pub fn draw_events(&mut self, y: u32) -> Result<(), AllocError>
+        requires { y ≤ 19000 }
+        ensures { OnOk result (self.new ≡ self.old) }
+    {
+        let words = "from left to right: the order of events, which is not time";
+        self.out.text("q e", at(LABEL, y), "event")?;
+        self.out.text("q", at(LEFT, y + 14), words)?;
+        let mut free = 0;
+        for column in 0..self.scene.columns().len() {
+            free = self.draw_number(column, y, free)?;
+        }
+        Ok(())
+    }
 }

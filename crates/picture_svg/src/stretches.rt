@@ -1,10 +1,12 @@
 //! Stretches of columns in which the same holds.
 
+ghost use Rattle.std.specs.Prelude.{◌≡◌, ◌<◌, ◌≤◌, get_or};
+
+use crate::holders::{held_by, is_on};
 use crate::scene::{Lane, Scene, Stretch};
-use drive_pictures::{Cell, Letter};
-use picture_sheet::{LETTERS, cell_at, count_of, holding, lead};
+use drive_pictures::all_letters;
 use run_picture::Column;
-use std::alloc::{AllocError, Global};
+use run_plan::{cell_at, count_of, letter_at};
 
 /// What is drawn of columns.
 #[derive(Clone, Copy)]
@@ -25,18 +27,10 @@ pub enum Track {
     Lead(u8),
 }
 
-/// Whether a drive is one of the adapter's.
-pub fn is_on(lane: &Lane, adapter: u8) -> bool {
-    lane.unit / 8 == adapter
-}
-
-/// After how many events of a column a drive holds its adapter.
-pub fn held_by(column: &Column, lane: &Lane) -> u64 {
-    holding(&cell_at(column, lane.unit).tally)
-}
-
 /// How many drives of an adapter position in a column, at most.
-pub fn positioning(column: &Column, adapter: u8) -> u64 {
+pub fn positioning(column: &Column, adapter: u8) -> u64
+    ensures { result ≡ get_or column.now.head.together adapter 0 }
+{
     match column.head.together.get(usize::from(adapter)) {
         Some(count) => *count as u64,
         None => 0,
@@ -54,13 +48,8 @@ fn is_same_done(column: &Column, next: &Column, unit: u8) -> bool {
     let there = cell_at(next, unit).tally;
     let (events, others) = (column.head.events, next.head.events);
     events == others
-        && LETTERS.iter().all(|letter| count_of(&here, events, *letter)
+        && all_letters().iter().all(|letter| count_of(&here, events, *letter)
             == count_of(&there, others, *letter))
-}
-
-/// The letter that leads a drive in a column.
-pub fn lead_in(column: &Column, unit: u8) -> Letter {
-    lead(&cell_at(column, unit).tally, column.head.events)
 }
 
 /// Whether the same is drawn of two columns that are side by side.
@@ -73,7 +62,7 @@ fn is_same(lanes: &[Lane], column: &Column, next: &Column, track: Track) -> bool
         Track::Offline(unit) => cell_at(column, unit).offline == cell_at(next, unit).offline,
         Track::Locked(unit) => cell_at(column, unit).locked == cell_at(next, unit).locked,
         Track::Letters(unit) => is_same_done(column, next, unit),
-        Track::Lead(unit) => lead_in(column, unit) == lead_in(next, unit),
+        Track::Lead(unit) => letter_at(column, unit) == letter_at(next, unit),
     }
 }
 
@@ -89,24 +78,19 @@ fn goes_on(scene: &Scene<'_, '_>, column: usize, track: Track) -> bool {
     }
 }
 
-/// The stretches of a track, of columns from one up to another.
-pub fn stretches(
-    alloc: Global,
-    scene: &Scene<'_, '_>,
-    from: usize,
-    to: usize,
-    track: Track,
-) -> Result<Vec<Stretch>, AllocError> {
-    let mut stretches = Vec::new(alloc);
-    let mut from = from;
-    for column in from..to {
-        if column + 1 == to || !goes_on(scene, column, track) {
-            stretches.push(Stretch {
-                from,
-                to: column + 1,
-            })?;
-            from = column + 1;
+/// The stretch of a track that begins at a column, among those up to another.
+pub fn next_stretch(scene: &Scene<'_, '_>, track: Track, from: usize, to: usize) -> Stretch
+    requires { from < to }
+    ensures begins { result.from ≡ from }
+    ensures some { from < result.to }
+    ensures inside { result.to ≤ to }
+{
+    let mut end = from + 1;
+    'columns: while end < to {
+        if !goes_on(scene, end - 1, track) {
+            return Stretch { from, to: end };
         }
+        end += 1;
     }
-    Ok(stretches)
+    Stretch { from, to: end }
 }

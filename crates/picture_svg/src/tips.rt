@@ -6,8 +6,8 @@ ghost use Rattle.picture_svg.specs.declared.pieces.Element.TheVariants.{Group, T
 
 use crate::markup::Markup;
 use crate::pieces::{Element, Piece, Start, at};
-use crate::scene::{Scene, Stretch};
-use picture_sheet::{Phrase, Sentence};
+use crate::scene::{Drawing, Stretch};
+use run_plan::{Phrase, Sentence};
 use std::alloc::AllocError;
 
 /// The front of a text, as far as there is room.
@@ -35,56 +35,6 @@ fn put_range(
         Piece::Number(first),
         Piece::Word(" to "),
         Piece::Number(last),
-    ])
-}
-
-/// A group begins with a tooltip; at the head of this are the events and the lines of a stretch of columns.
-pub fn begin_span(
-    out: &mut Markup<'_>,
-    scene: &Scene<'_, '_>,
-    stretch: Stretch,
-) -> Result<(), AllocError>
-    ensures { OnOk result (out.new ≡ started Title (started Group out.old)) }
-{
-    let line = u64::from(scene.head(stretch.from).line);
-    let last_line = u64::from(scene.head(stretch.to.saturating_sub(1)).last_line);
-    let first = scene.sheet.head(stretch.from).saturating_add(1);
-    let last = scene.sheet.head(stretch.to);
-    out.begin_tip()?;
-    put_range(out, "event ", "events ", first, last)?;
-    put_range(out, " (line ", " (lines ", line, last_line)?;
-    out.put(Piece::Word(")"))
-}
-
-/// A group begins; its tooltip has the events and the lines of a stretch, and words.
-pub fn begin_words(
-    out: &mut Markup<'_>,
-    scene: &Scene<'_, '_>,
-    stretch: Stretch,
-    words: &'static str,
-) -> Result<(), AllocError>
-    ensures { OnOk result (out.new ≡ started Group out.old) }
-{
-    begin_span(out, scene, stretch)?;
-    out.put_all(&[Piece::Word(words), Piece::End(Element::Title)])
-}
-
-/// A group begins; its tooltip has the events and the lines of a stretch, a count, and the words for what is counted.
-pub fn begin_count(
-    out: &mut Markup<'_>,
-    scene: &Scene<'_, '_>,
-    stretch: Stretch,
-    count: u64,
-    words: &'static str,
-) -> Result<(), AllocError>
-    ensures { OnOk result (out.new ≡ started Group out.old) }
-{
-    begin_span(out, scene, stretch)?;
-    out.put_all(&[
-        Piece::Word(": "),
-        Piece::Number(count),
-        Piece::Word(words),
-        Piece::End(Element::Title),
     ])
 }
 
@@ -145,4 +95,47 @@ pub fn text_sentences(
     }))?;
     put_sentences(out, first, second)?;
     out.end(Element::Text)
+}
+
+impl<'s, 'a> Drawing<'s, 'a> {
+    /// A group begins with a tooltip; at the head of this are the events and the lines of a stretch of columns.
+    pub fn begin_span(&mut self, stretch: Stretch) -> Result<(), AllocError>
+        ensures { OnOk result (self.new ≡ record self.old { out = started Title (started Group self.old.out) }) }
+    {
+        let line = u64::from(self.scene.head(stretch.from).line);
+        let last_line = u64::from(self.scene.head(stretch.to.saturating_sub(1)).last_line);
+        let first = self.scene.sheet.window.edge(stretch.from).saturating_add(1);
+        let last = self.scene.sheet.window.edge(stretch.to);
+        self.out.begin_tip()?;
+        put_range(&mut self.out, "event ", "events ", first, last)?;
+        put_range(&mut self.out, " (line ", " (lines ", line, last_line)?;
+        self.out.put(Piece::Word(")"))
+    }
+
+    /// A group begins; its tooltip has the events and the lines of a stretch, and words.
+    pub fn begin_words(&mut self, stretch: Stretch, words: &'static str) -> Result<(), AllocError>
+        ensures { OnOk result (self.new ≡ record self.old { out = started Group self.old.out }) }
+    {
+        self.begin_span(stretch)?;
+        self.out
+            .put_all(&[Piece::Word(words), Piece::End(Element::Title)])
+    }
+
+    /// A group begins; its tooltip has the events and the lines of a stretch, a count, and the words for what is counted.
+    pub fn begin_count(
+        &mut self,
+        stretch: Stretch,
+        count: u64,
+        words: &'static str,
+    ) -> Result<(), AllocError>
+        ensures { OnOk result (self.new ≡ record self.old { out = started Group self.old.out }) }
+    {
+        self.begin_span(stretch)?;
+        self.out.put_all(&[
+            Piece::Word(": "),
+            Piece::Number(count),
+            Piece::Word(words),
+            Piece::End(Element::Title),
+        ])
+    }
 }

@@ -17,6 +17,10 @@ window_of events first last = record {
   per = per_column (min last events - min first (min last events));
 }
 
+-- the event at which a column begins, and at which the one before it ends
+abbrev pub edge_of : Window → ℕ → ℕ
+edge_of window column = min (window.first + window.per * column) window.last
+
 -- an event is one of them; or is the last before them
 abbrev pub is_inside : Window → ℕ → Bool
 is_inside window event = nat_le window.first event && nat_lt event window.last

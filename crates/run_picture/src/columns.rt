@@ -2,7 +2,7 @@
 
 ghost use Rattle.std.specs.Prelude.{◌≡◌, ◌<◌, map};
 ghost use Rattle.drive_pictures.specs.Drives.{cleared};
-ghost use Rattle.run_picture.specs.Columns.{window_of, new_head, headed, adapter_drives, together, is_inside, is_full, is_before};
+ghost use Rattle.run_picture.specs.Columns.{window_of, edge_of, new_head, headed, adapter_drives, together, is_inside, is_full, is_before};
 
 use crate::acts::positioning;
 use drive_pictures::{Drive, plus};
@@ -36,6 +36,17 @@ pub struct Column {
     pub drives: [Drive; 32],
 }
 
+/// A line of the script or of the trace that speaks of a drive, in a column of one event.
+#[derive(Clone, Copy)]
+pub struct Note<'a> {
+    /// Its column, from 0.
+    pub column: usize,
+    /// The drive.
+    pub unit: u8,
+    /// Its text, without its end.
+    pub text: &'a [u8],
+}
+
 impl Window {
     /// The events from `first` up to `last` of a run of `events` events, in at most 216 columns.
     pub fn new(events: u64, first: u64, last: u64) -> Window
@@ -49,6 +60,14 @@ impl Window {
             last,
             per: (shown / WIDEST + (shown % WIDEST).min(1)).max(1),
         }
+    }
+
+    /// The event at which a column begins, and at which the column before it ends.
+    pub fn edge(&self, column: usize) -> u64
+        ensures { result ≡ edge_of self.now column }
+    {
+        let events = self.per.saturating_mul(column as u64);
+        self.first.saturating_add(events).min(self.last)
     }
 
     /// Whether an event is one of the window's.

@@ -11,5 +11,5 @@ mod places;
 mod run;
 
 pub use acts::Glance;
-pub use columns::{Column, Head, Window};
+pub use columns::{Column, Head, Note, Window};
 pub use run::Run;

@@ -5,14 +5,13 @@ use Rattle.drive_pictures.specs.declared.letters.Letter.TheVariants.{Idle}
 use Rattle.drive_pictures.specs.declared.requests.Request.{Request}
 use Rattle.drive_pictures.specs.Requests.{queued}
 use Rattle.run_picture.specs.declared.columns.Window.{Window}
-use Rattle.picture_sheet.specs.Words.{outcome_word}
+use Rattle.drive_pictures.specs.Words.{letter_word, outcome_word}
 use Rattle.run_plan.specs.declared.bars.Bar.{Bar}
 use Rattle.run_plan.specs.declared.lanes.Lane.{Lane}
 use Rattle.run_plan.specs.declared.lanes.Point.{Point}
 use Rattle.run_plan.specs.declared.plan.Plan.{Plan}
-use Rattle.run_plan.specs.Plans.{edge_of}
+use Rattle.run_picture.specs.Columns.{edge_of}
 use Rattle.run_plan.specs.Rows.{op_word}
-use Rattle.run_plan.specs.Words.{letter_word}
 
 -- THE START OF AN EVENT: its phase; its process, the adapter; its thread, the drive; its time, in events of the run
 unfoldable pub with_head : List ℕ → ℕ → ℕ → List ℕ → List ℕ

@@ -3,9 +3,9 @@ use Rattle.std.specs.Prelude.{ℕ, List, map}
 use Rattle.drive_pictures.specs.declared.letters.Letter.{Letter}
 use Rattle.run_picture.specs.declared.columns.Column.{Column}
 use Rattle.run_picture.specs.Fold.{drive_at}
-use Rattle.picture_sheet.specs.declared.sheet.Sheet.{Sheet}
-use Rattle.picture_sheet.specs.Letters.{lead_of}
-use Rattle.picture_sheet.specs.Window.{kind_of}
+use Rattle.run_plan.specs.declared.sheet.Sheet.{Sheet}
+use Rattle.run_plan.specs.Letters.{lead_of}
+use Rattle.run_plan.specs.Window.{kind_of}
 use Rattle.run_plan.specs.declared.lanes.Lane.{Lane}
 use Rattle.run_plan.specs.declared.lanes.Point.{Point}
 use Rattle.run_plan.specs.Bars.{Lettered, numbered, columns_of}

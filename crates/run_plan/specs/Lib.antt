@@ -1,4 +1,9 @@
-pub mod Words
+pub mod Letters
+pub mod Notes
+pub mod Requests
+pub mod Sentences
+pub mod Units
+pub mod Window
 pub mod Bars
 pub mod Fields
 pub mod Rows

@@ -1,15 +1,10 @@
 -- A PLAN of what a sheet shows.
-use Rattle.std.specs.Prelude.{◌≡◌, ℕ, ◌+◌, ◌*◌, min, filter, map}
-use Rattle.run_picture.specs.declared.columns.Window.{Window}
-use Rattle.picture_sheet.specs.declared.sheet.Sheet.{Sheet}
-use Rattle.picture_sheet.specs.Requests.{is_shown}
-use Rattle.picture_sheet.specs.Units.{units_shown}
+use Rattle.std.specs.Prelude.{◌≡◌, filter, map}
+use Rattle.run_plan.specs.declared.sheet.Sheet.{Sheet}
+use Rattle.run_plan.specs.Requests.{is_shown}
+use Rattle.run_plan.specs.Units.{units_shown}
 use Rattle.run_plan.specs.declared.plan.Plan.{Plan}
 use Rattle.run_plan.specs.Lanes.{told, lane_in}
-
--- the event at which a column begins, and at which the one before it ends
-abbrev pub edge_of : Window → ℕ → ℕ
-edge_of window column = min (window.first + window.per * column) window.last
 
 -- IT IS OF THE SHEET: each request that is shown is a row, as the run has it; each drive that is shown is a lane
 pub record Plans (sheet : Sheet) (plan : Plan) : Type 0 where

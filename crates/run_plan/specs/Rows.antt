@@ -2,7 +2,7 @@
 use Rattle.std.specs.Prelude.{ℕ, Bool, true, false, List, [], ◌∷◌, Option, Some, None, fold, codes, decimal}
 use Rattle.drive_pictures.specs.declared.requests.Request.{Request}
 use Rattle.drive_pictures.specs.Requests.{queued}
-use Rattle.picture_sheet.specs.Words.{outcome_word}
+use Rattle.drive_pictures.specs.Words.{outcome_word}
 use Rattle.run_plan.specs.Fields.{with_fields}
 
 -- the names of their fields

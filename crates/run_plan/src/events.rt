@@ -8,9 +8,7 @@ use crate::fields::{put, put_number};
 use crate::lanes::{Lane, Point};
 use crate::plan::Plan;
 use crate::rows::op_word;
-use crate::words::letter_word;
-use drive_pictures::{Letter, Request};
-use picture_sheet::outcome_word;
+use drive_pictures::{Letter, Request, letter_word, outcome_word};
 use std::alloc::{AllocError, Global};
 
 /// Puts the start of an event: its phase, its process, which is the adapter, its thread, which is the drive, and its time, which is
@@ -90,8 +88,8 @@ fn put_bar(out: &mut Vec<u8>, plan: &Plan, unit: u8, bar: &Bar) -> Result<(), Al
         put_slice(
             out,
             unit,
-            plan.edge(bar.from),
-            plan.edge(bar.to),
+            plan.window.edge(bar.from),
+            plan.window.edge(bar.to),
             letter_word(bar.letter),
         )
     }
@@ -156,7 +154,12 @@ fn put_points(out: &mut Vec<u8>, plan: &Plan, unit: u8, points: &[Point]) -> Res
     ensures { OnOk result (out.new.items ≡ with_points plan.now.window unit points.now out.old.items) }
 {
     for column in 0..points.len() {
-        put_point(out, unit, plan.edge(column), &point_in(points, column))?;
+        put_point(
+            out,
+            unit,
+            plan.window.edge(column),
+            &point_in(points, column),
+        )?;
     }
     Ok(())
 }

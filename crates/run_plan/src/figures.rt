@@ -40,14 +40,14 @@ fn was_ok(request: &Request) -> bool
 }
 
 /// How many requests were answered ok.
-fn count_ok(rows: &[Request]) -> usize
+pub(crate) fn count_ok(rows: &[Request]) -> usize
     ensures { result ≡ count_by was_ok rows.now }
 {
     rows.iter().filter(|request| was_ok(request)).count()
 }
 
 /// How many requests were served out of the order asked.
-fn count_turned(rows: &[Request]) -> usize
+pub(crate) fn count_turned(rows: &[Request]) -> usize
     ensures { result ≡ count_by is_out_of_order rows.now }
 {
     rows.iter()

@@ -5,8 +5,9 @@ ghost use Rattle.run_picture.specs.Fold.{drive_at};
 ghost use Rattle.run_plan.specs.Lanes.{letter_at, point_at, told, lane_in};
 
 use crate::bars::{Bar, bars_of};
+use crate::cells::{cell_at, lead};
+use crate::sheet::Sheet;
 use drive_pictures::{Drive, Letter};
-use picture_sheet::{Sheet, cell_at, lead};
 use run_picture::Column;
 use std::alloc::{AllocError, Global};
 

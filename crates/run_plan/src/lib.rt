@@ -1,24 +1,33 @@
 //! The plan of a run: what a picture or a table shows of the run, as data, and the tables and trace events that are written from it.
 //!
-//! What is proved: `plan_of`: a request is a row exactly if it meets the events that are shown, with the answer that the run gave to
-//! that request. A drive is a lane exactly if it has requests. The bars of a lane are, column for column, what the drive did, none twice
-//! and none left out; its points are where its arm was and how many requests waited. `requests_text` and `summary_text`: which
-//! fields stand on each line. `events_text`: which event is written for each bar, point and request. A call fails only if there is
-//! no memory.
+//! What is proved: `Sheet`: its title, its columns, in which column an event is, and the drives that are shown, which are those that
+//! have requests, by their number; `Shown`: which requests are listed; `top_of`: the highest cylinder of a unit; `scale_of`: the
+//! highest cylinder of some units; after how many of a column's events a letter stands, and which letter leads; `sentences`: which
+//! words and numbers they say. `plan_of`: a request is a row exactly if it meets the events that are shown, with the answer that the
+//! run gave to that request. A drive is a lane exactly if it has requests. The bars of a lane are, column for column, what the drive
+//! did, none twice and none left out; its points are where its arm was and how many requests waited. `requests_text` and
+//! `summary_text`: which fields stand on each line. `events_text`: which event is written for each bar, point and request. A call
+//! fails only if there is no memory.
 #![tactic(auto)]
 
 mod bars;
+mod cells;
 mod events;
 mod fields;
 mod figures;
 mod lanes;
 mod plan;
 mod rows;
-mod words;
+mod sheet;
+mod shown;
+mod summary;
 
 pub use bars::Bar;
+pub use cells::{cell_at, count_of, holding, lead};
 pub use events::events_text;
 pub use figures::Figures;
 pub use lanes::{Lane, Point, letter_at};
 pub use plan::{Plan, plan_of, requests_text, summary_text};
-pub use words::{legend_letters, letter_word};
+pub use sheet::Sheet;
+pub use shown::{Shown, is_shown, scale_of, top_of};
+pub use summary::{Phrase, Sentence, sentences};

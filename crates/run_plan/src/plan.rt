@@ -1,19 +1,19 @@
 //! The plan of a run, and its tables.
 
 ghost use Rattle.std.specs.Prelude.{◌≡◌, map, IfOk, OnOk};
-ghost use Rattle.picture_sheet.specs.Units.{units_shown};
+ghost use Rattle.run_plan.specs.Units.{units_shown};
 ghost use Rattle.run_plan.specs.Fields.{field_text, with_fields};
 ghost use Rattle.run_plan.specs.Figures.{names, with_figures, Sums, IsSummary};
 ghost use Rattle.run_plan.specs.Lanes.{told, lane_in};
-ghost use Rattle.run_plan.specs.Plans.{edge_of, Plans};
+ghost use Rattle.run_plan.specs.Plans.{Plans};
 ghost use Rattle.run_plan.specs.Rows.{requests_of};
 
 use crate::fields::{Field, put_line};
 use crate::figures::{Figures, figures_of, of_unit};
 use crate::lanes::{Lane, lane_of};
 use crate::rows::{put_names, put_row, rows_of};
+use crate::sheet::Sheet;
 use drive_pictures::{Request, plus};
-use picture_sheet::Sheet;
 use run_picture::Window;
 use std::alloc::{AllocError, Global};
 
@@ -59,19 +59,6 @@ pub fn plan_of(alloc: Global, sheet: &Sheet<'_>) -> Result<Plan, AllocError>
         rows,
         lanes,
     })
-}
-
-impl Plan {
-    /// The event at which a column begins, and at which the column before it ends.
-    pub fn edge(&self, column: usize) -> u64
-        ensures { result ≡ edge_of self.now.window column }
-    {
-        let events = self.window.per.saturating_mul(column as u64);
-        self.window
-            .first
-            .saturating_add(events)
-            .min(self.window.last)
-    }
 }
 
 /// The requests of a plan as a table: a line with the names of the fields, and then a line for each request, with tabs between fields:

@@ -1,13 +1,14 @@
 //! The requests of a plan, and their lines.
 
 ghost use Rattle.std.specs.Prelude.{◌≡◌, filter, IfOk, OnOk};
-ghost use Rattle.picture_sheet.specs.Requests.{is_shown};
+ghost use Rattle.run_plan.specs.Requests.{is_shown};
 ghost use Rattle.run_plan.specs.Fields.{field_text, with_fields};
 ghost use Rattle.run_plan.specs.Rows.{names, op_word, cylinder_text, with_row};
 
 use crate::fields::{Field, put_line};
-use drive_pictures::Request;
-use picture_sheet::{Sheet, is_shown, outcome_word};
+use crate::sheet::Sheet;
+use crate::shown::is_shown;
+use drive_pictures::{Request, outcome_word};
 use std::alloc::{AllocError, Global};
 
 /// The requests that meet the events that are shown, in the order in which they were asked for.

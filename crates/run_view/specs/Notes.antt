@@ -4,7 +4,7 @@ use Rattle.drive_pictures.specs.declared.moments.Moment.{Moment}
 use Rattle.run_view.specs.Saids.{Said}
 use Rattle.run_picture.specs.declared.columns.Window.{Window}
 use Rattle.run_picture.specs.Columns.{is_inside}
-use Rattle.picture_sheet.specs.declared.sheet.Note.{Note}
+use Rattle.run_picture.specs.declared.columns.Note.{Note}
 use Rattle.run_view.specs.Events.{event_at}
 
 -- a line of a column, the drive that it names, and its text

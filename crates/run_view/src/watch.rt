@@ -3,8 +3,7 @@
 use crate::counter::Counter;
 use crate::{Seen, Watcher};
 use pack_geometry::DriveKind;
-use picture_sheet::Note;
-use run_picture::{Run, Window};
+use run_picture::{Note, Run, Window};
 use std::alloc::{AllocError, Global};
 use std::marker::Model;
 

@@ -1,8 +1,8 @@
 use Rattle.std.proofs.Common.{◌≡◌, ℕ, ◌<◌, List, [], ◌∷◌, ◌++◌, length, refl, ap, arith, length-append}
 use Rattle.std.proofs.lemmas.Bool.{eq-eqb, ne_eqb}
 use Rattle.std.proofs.lemmas.List.{append_cancel_left}
-use Rattle.picture_sheet.specs.declared.sheet.Note.{Note}
-use Rattle.picture_sheet.specs.Notes.{lines_of, lines_shown}
+use Rattle.run_picture.specs.declared.columns.Note.{Note}
+use Rattle.run_plan.specs.Notes.{lines_of, lines_shown}
 use Rattle.picture_svg.specs.Nesting.{Drawn, told}
 use Rattle.picture_svg.specs.Pictures.{lines_of_lane}
 use Rattle.picture_rows.proofs.nested_law.Goals as goal

@@ -30,7 +30,7 @@ use Rattle.trace_replay.specs.Script.{Script, drives_of}
 use Rattle.drive_pictures.specs.declared.moments.Moment.TheVariants as seen
 use Rattle.drive_pictures.specs.declared.requests.Outcome.TheVariants as outcome
 use Rattle.pack_geometry.specs.declared.DriveKind.{DriveKind}
-use Rattle.picture_sheet.specs.Words.{outcome_word}
+use Rattle.drive_pictures.specs.Words.{outcome_word}
 use Rattle.trace_replay.specs.requests.ServiceOrder.{Waiting}
 use Rattle.trace_replay.specs.Causes.{AskSome}
 use Rattle.trace_replay.specs.Events.{Wish, Refusal}

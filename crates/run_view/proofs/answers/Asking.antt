@@ -16,7 +16,7 @@ use Rattle.drive_pictures.specs.Requests.{new_request}
 use Rattle.pack_geometry.specs.declared.DriveKind.{DriveKind}
 use Rattle.partitions.specs.declared.Admission.{Admission}
 use Rattle.partitions.specs.declared.Admission.TheVariants as meets
-use Rattle.picture_sheet.specs.Words.{outcome_word}
+use Rattle.drive_pictures.specs.Words.{outcome_word}
 use Rattle.run_view.proofs.answers.Drives.{set_length, is_same, keeps_set}
 use Rattle.run_view.proofs.answers.Listening.{found_more}
 use Rattle.run_view.specs.Answers.{answer_word}

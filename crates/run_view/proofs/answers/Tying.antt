@@ -9,7 +9,7 @@ use Rattle.drive_pictures.specs.declared.requests.Outcome.{Outcome}
 use Rattle.drive_pictures.specs.declared.requests.Request.{Request}
 use Rattle.drive_pictures.specs.declared.trials.Trial.{Trial}
 use Rattle.pack_geometry.specs.declared.DriveKind.{DriveKind}
-use Rattle.picture_sheet.specs.Words.{outcome_word}
+use Rattle.drive_pictures.specs.Words.{outcome_word}
 use Rattle.run_view.proofs.answers.Hears.{at_moment}
 use Rattle.run_view.proofs.answers.Listening.{one_id}
 use Rattle.run_view.proofs.answers.OwnLines.{HasHeard}

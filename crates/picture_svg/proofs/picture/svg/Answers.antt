@@ -1,7 +1,7 @@
 use Rattle.std.proofs.Common.{arith, length, ap}
 use Rattle.std.proofs.lemmas.List.{length-map}
 use Rattle.std.proofs.lemmas.Result.{IfOk-weaker}
-use Rattle.picture_sheet.specs.Requests.{is_few, shown_count}
+use Rattle.run_plan.specs.Requests.{is_few, shown_count}
 use Rattle.picture_svg.specs.Pictures.{unit_of}
 use Rattle.picture_svg.proofs.Whole.{few_units, few_listed, picture_is, picture_of}
 use Rattle.picture_svg.proofs.picture.svg.Goals as goal
@@ -16,8 +16,8 @@ draw-requires-clause-few c =
 
 pub returns : goal.returns
 returns c =
-    let d = picture_is c.args.sheet.now c.in_ok-lanes.lanes.items c.as_slice.result.now c.in_ok-shown.shown.listed.items c.new-out.result c.draw.new.out
+    let d = picture_is c.args.sheet.now c.in_ok-lanes.lanes.items c.as_slice.result.now c.in_ok-shown.shown.listed.items c.new-out.result c.draw.new.self.out
     c.as_slice.ensures.value c.in_ok-lanes.ensures c.new-out.ensures c.in_ok-draw.ensures in
     IfOk-weaker c.finish.result _ _
-    (λ text written. picture_of c.args.sheet.now c.in_ok-shown.shown.listed.items c.draw.new.out text.items c.in_ok-shown.ensures.listed d written)
+    (λ text written. picture_of c.args.sheet.now c.in_ok-shown.shown.listed.items c.draw.new.self.out text.items c.in_ok-shown.ensures.listed d written)
     c.finish.ensures

@@ -1,6 +1,0 @@
-use Rattle.std.proofs.Common.{◌≡◌}
-use Rattle.picture_sheet.specs.Units.{units_below}
-use Rattle.picture_sheet.proofs.sheet.Sheet.units.Given as goal
-
-abbrev pub invariant-loop-unit : goal.invariant-loop-unit
-invariant-loop-unit l = l.units.items ≡ units_below l.unit l.self

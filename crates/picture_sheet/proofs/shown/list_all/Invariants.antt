@@ -1,6 +1,0 @@
-use Rattle.std.proofs.Common.{◌≡◌, take, fold}
-use Rattle.picture_sheet.specs.Requests.{listed_with}
-use Rattle.picture_sheet.proofs.shown.list_all.Given as goal
-
-abbrev pub invariant-loop-request : goal.invariant-loop-request
-invariant-loop-request l = l.listed.items ≡ fold (listed_with l.sheet l.few l.first) l.initial.listed.items (take l.request-index l.sheet.run.now.requests)

@@ -1,7 +1,0 @@
-use Rattle.std.proofs.Common.{◌≡◌, take, fold}
-use Rattle.picture_sheet.specs.Requests.{with_column, with_request}
-use Rattle.picture_sheet.specs.Window.{arm_before}
-use Rattle.picture_sheet.proofs.shown.top_of.Given as goal
-
-abbrev pub invariant-loop-request : goal.invariant-loop-request
-invariant-loop-request l = l.top ≡ fold (with_request l.sheet l.unit) (fold (with_column l.unit) (arm_before l.sheet l.unit) l.sheet.run.now.columns) (take l.request-index l.sheet.run.now.requests)

@@ -1,9 +1,0 @@
-use Rattle.std.proofs.Common.{◌≡◌, ◌≤◌, length}
-use Rattle.picture_sheet.specs.Units.{units_below}
-use Rattle.picture_sheet.proofs.summary.count_drives.Given as goal
-
-abbrev pub invariant-loop-unit : goal.invariant-loop-unit
-invariant-loop-unit l = record {
-  counted : l.count ≡ length (units_below l.unit l.sheet);
-  few : l.count ≤ l.unit;
-}

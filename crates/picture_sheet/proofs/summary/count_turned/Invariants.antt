@@ -1,9 +1,0 @@
-use Rattle.std.proofs.Common.{◌≡◌, ◌≤◌, take, count_by}
-use Rattle.picture_sheet.specs.Sentences.{was_turned}
-use Rattle.picture_sheet.proofs.summary.count_turned.Given as goal
-
-abbrev pub invariant-loop-request : goal.invariant-loop-request
-invariant-loop-request l = record {
-  counted : l.count ≡ count_by (was_turned) (take l.request-index l.requests);
-  few : l.count ≤ l.request-index;
-}

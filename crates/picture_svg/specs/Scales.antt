@@ -1,0 +1,33 @@
+-- PLACES: where columns, events and cylinders stand. They rise, and 0 and the top meet their bounds.
+use Rattle.std.specs.Prelude.{ℕ, ◌+◌, ◌-◌, ◌*◌, ◌/◌, ◌^◌, min, max, List, get_or, []}
+use Rattle.drive_pictures.specs.declared.cells.Cell.{Cell}
+use Rattle.run_picture.specs.declared.columns.Column.{Column}
+use Rattle.run_picture.specs.Columns.{new_head}
+use Rattle.run_picture.specs.Fold.{drive_at}
+use Rattle.picture_svg.specs.declared.scene.Frame.{Frame}
+
+-- so many columns, each as wide as there is room, and at most 40
+abbrev pub frame_of : ℕ → Frame
+frame_of columns = record { count = columns; column = min 40 (864 / max (min columns 1000) 1) }
+
+-- the left edge of a column
+abbrev pub place_of : Frame → ℕ → ℕ
+place_of frame column = 160 + min (min column 1000 * frame.column) 864
+
+-- the part of a height that some events, or cylinders, are of all
+abbrev pub part_of : ℕ → ℕ → ℕ → ℕ
+part_of height some all = min (min (height * some) (2 ^ 64 - 1) / max all 1) height
+
+-- where a cylinder stands in a chart so high whose upper edge is y
+abbrev pub level_of : ℕ → ℕ → ℕ → ℕ → ℕ
+level_of chart scale y cylinder = y + chart - part_of chart cylinder scale
+
+-- a column by its number, and what is seen of a drive in it; behind the last column there is no event
+abbrev pub no_column : Column
+no_column = record { head = new_head; drives = [] }
+
+abbrev pub column_at : List Column → ℕ → Column
+column_at columns column = get_or columns column no_column
+
+abbrev pub cell_of : List Column → ℕ → ℕ → Cell
+cell_of columns unit column = (drive_at (column_at columns column).drives unit).cell
