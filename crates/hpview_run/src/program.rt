@@ -5,7 +5,7 @@ ghost use Rattle.hpview_run.specs.Words.{command_of as the_command};
 
 use crate::trace_source::TraceSource;
 use crate::{Status, view};
-use outside_files::failure::{Deed, PackNotes};
+use outside_files::failure::PackNotes;
 use outside_files::streams::{StdSink, StdSource};
 use outside_traits::traits::{Sink, Source};
 use reasons::ending::{Ending, Program};
@@ -74,7 +74,7 @@ pub fn end_status<R: Read + Drop, T: Read + Drop, W: Write + Drop, E: Write>(
         status,
         script: script.notes(),
         packs: PackNotes::new(),
-        trace: trace.first_error().map(|error| (Deed::Read, error)),
+        trace: trace.first_failure(),
         out: text.as_slice(),
         output: out.notes(),
     };

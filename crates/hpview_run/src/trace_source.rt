@@ -1,7 +1,9 @@
-ghost use Rattle.std.specs.Prelude.{◌≡◌, ◌≤◌, ◌++◌, ℕ, List, [], IsTrue, false, take, length, IfOk, OnErr};
-ghost use Rattle.outside_traits.specs.Causes.{HasCause};
+ghost use Rattle.std.specs.Prelude.{◌≡◌, ◌≤◌, ◌++◌, ℕ, List, [], IsTrue, false, take, length, None, Err, IsSome, IfOk, IfErr, OnErr, OnOk};
+ghost use Rattle.std.specs.Io.KnownBytes.{ReadConsumes};
+ghost use Rattle.outside_files.specs.Notes.{first_failure};
+ghost use Rattle.outside_traits.specs.Causes.{HandsOn, HasCause};
 
-use outside_files::streams::StdSource;
+use outside_files::failure::{Deed, Failures};
 use outside_traits::traits::{Source, SourceFailed};
 use std::io;
 use std::io::Read;
@@ -11,41 +13,39 @@ use std::io::Read;
 #[derive(Drop)]
 pub(crate) struct TraceSource<R: Read> {
     file: io::Result<R>,
-    faults: u64,
-    first: Option<io::Error>,
+    failures: Failures<Deed>,
 }
 
 impl<R: Read + Drop> TraceSource<R> {
-    /// A source that reads from this file. Its count of faults begins at 0.
-    pub(crate) fn new(file: io::Result<R>) -> TraceSource<R> {
+    /// A source that reads from this file. No call has failed.
+    pub(crate) fn new(file: io::Result<R>) -> TraceSource<R>
+        ensures file { result.file ≡ file }
+        ensures count { result.failures.count ≡ 0 }
+        ensures first { result.failures.first ≡ None }
+    {
         TraceSource {
             file,
-            faults: 0,
-            first: None,
+            failures: Failures::new(),
         }
     }
 
-    /// The first error of the file.
-    pub(crate) fn first_error(&self) -> Option<io::Error> {
-        self.first
+    /// The first call that failed, with its error.
+    pub(crate) fn first_failure(&self) -> Option<(Deed, io::Error)>
+        ensures { result ≡ self.now.failures.first }
+    {
+        self.failures.first
     }
 
-    fn give(&mut self, into: &mut [u8]) -> Result<usize, SourceFailed>
+    /// Reads the next bytes of the file. If the file could not be opened, the error is that of the opening.
+    fn give(&mut self, into: &mut [u8]) -> io::Result<usize>
         ensures bound { IfOk result (λ n. n ≤ length into.old) }
-        ensures faults { self.new.faults ≡ self.old.faults }
+        ensures bytes { IfOk self.old.file (λ old. IfOk self.new.file (λ new. ReadConsumes (R.remaining old) (R.remaining new) result into.new)) }
+        ensures unopened { IfErr self.old.file (λ error. result ≡ Err error) }
+        ensures failures { self.new.failures ≡ self.old.failures }
     {
-        let answer = match &mut self.file {
+        match &mut self.file {
             Ok(file) => file.read(into),
             Err(error) => Err(*error),
-        };
-        match answer {
-            Ok(count) => Ok(count),
-            Err(error) => {
-                if self.first.is_none() {
-                    self.first = Some(error);
-                }
-                Err(SourceFailed)
-            }
         }
     }
 }
@@ -55,18 +55,20 @@ impl<R: Read + Drop> Source for TraceSource<R> {
 
     ghost left = { λ _. [] };
 
-    ghost faults = { λ s. s.faults };
+    ghost faults = { λ s. s.failures.count };
 
     fn read(&mut self, into: &mut [u8]) -> Result<usize, SourceFailed>
         ensures bound { IfOk result (λ n. n ≤ length into.old) }
         ensures bytes { IfOk result (λ n. IsTrue false → ◌≡◌ {A = List ℕ} [] (take n into.new ++ [])) }
         ensures err { OnErr result (IsTrue false → ◌≡◌ {A = List ℕ} [] []) }
-        ensures cause { HasCause self.old.faults self.new.faults result }
+        ensures cause { HasCause self.old.failures.count self.new.failures.count result }
+        // The source gives the bytes of the file in their order. An error is kept unless an earlier one is.
+        ensures given { IfOk self.old.file (λ old. IfOk self.new.file (λ new. ReadConsumes (R.remaining old) (R.remaining new) result into.new)) }
+        ensures kept { IsSome self.old.failures.first → self.new.failures.first ≡ self.old.failures.first }
+        ensures served { OnOk result (self.new.failures.first ≡ self.old.failures.first) }
+        ensures noted { OnErr result (IsSome self.new.failures.first) }
     {
         let answer = self.give(into);
-        if answer.is_err() {
-            self.faults = self.faults.saturating_add(1);
-        }
-        answer
+        self.failures.counted(answer, Deed::Read, SourceFailed)
     }
 }
