@@ -55,8 +55,10 @@ whole_of height all some fits =
   where
     room : (n : ℕ) → n < 2 ^ 64 → min n (2 ^ 64 - 1) ≡ n
     room n fits = omega (arith, fits)
+
     one : (n : ℕ) → 0 < n → max n 1 ≡ n
     one n some = omega (arith, some)
+
     both : (n : ℕ) → min n n ≡ n
     both n = omega arith
 
