@@ -1,6 +1,6 @@
 -- What stays from call to call of a driver that is ready, and what each of them keeps.
-use Rattle.std.proofs.Common.{◌≡◌, ℕ, ◌+◌, ◌-◌, ◌^◌, ◌≤◌, min, Bool, IsTrue, List, length, Option, None, Some, refl, sym, ap, ◌∙◌, subst, arith}
-use Rattle.std.specs.Prelude.{Result, Ok, Err, OnErr, IsErrAnd, unwrap_or}
+use Rattle.std.proofs.Common.{◌≡◌, ℕ, ◌+◌, ◌-◌, ◌^◌, ◌≤◌, min, List, length, Option, None, Some, refl, sym, ap, ◌∙◌, subst, arith}
+use Rattle.std.specs.Prelude.{unwrap_or}
 use Rattle.std.proofs.lemmas.Option.{none-some, same_Some}
 use Rattle.pack_geometry.specs.declared.DriveKind.{DriveKind}
 use Rattle.pack_geometry.specs.declared.DriveKind.TheVariants.{Rp06}
@@ -15,12 +15,10 @@ use Rattle.driver_laws.proofs.rules.MachineRuns.{home_marks}
 use Rattle.driver_machine.specs.World.{World, unit_at}
 use Rattle.driver_machine.specs.Guards.{IsSetUp}
 use Rattle.driver_laws.specs.declared.answers.outcome.Stop.{Stop}
-use Rattle.driver_laws.specs.declared.answers.outcome.Stop.TheVariants.{Store, Sink}
-use Rattle.driver_laws.specs.answers.Outcome.{stop_in}
 use Rattle.driver_laws.specs.rules.Waited.{map_of, with_packs}
-use Rattle.blocking_io.specs.FrontsPasses.{HasCauses, IsReady, Stage, State, kind_if, setup_at, setup_of}
+use Rattle.blocking_io.specs.FrontsPasses.{HasCauses, Stage, kind_if, setup_at, setup_of}
 use Rattle.blocking_io.specs.Fronts.{OthersStay}
-use Rattle.blocking_io.specs.Sites.{IsUnchanged, IsUntouched, Keeps, kind_at, left_map}
+use Rattle.blocking_io.specs.Sites.{IsUnchanged, IsUntouched, kind_at, left_map}
 
 -- ---- what is no home
 pub homes_same : (drive : Option DriveKind) (table : Option Table) (one other : model.Pack) (block : ℕ) → one.marks ≡ other.marks → home_at drive table one block ≡ home_at drive table other block
@@ -78,40 +76,6 @@ pub kind_stays : (old new : Stage) (unit : ℕ) → setup_at new ≡ with_packs 
 kind_stays old new unit same was is =
     sym (kind_is new.world new.held unit is) ∙ ap (λ z. kind_of z.drives unit) same ∙ kind_is old.world old.held unit was
 
--- ---- an error that is handed on
-pub on_err : {T E : Type 0} (result : Result T E) (P : Type 0) → P → OnErr result P
-on_err (Ok value) P holds = tt
-on_err (Err other) P holds = holds
-
-pub keeps_err : {T O Q : Type 0} (holds : Q → Bool) (packs_faults : Q → ℕ) (tells : O → Bool) (faults : O → ℕ) (old new : State) (packs packs' : Q) (trace trace' : O) (result : Result T Stop) (stop : Stop)
-    → IsErrAnd result (λ x. x ≡ stop) → new.outstanding ≡ old.outstanding → (IsTrue (holds packs') → IsTrue (holds packs)) → (IsTrue (tells trace') → IsTrue (tells trace))
-    → HasCauses (packs_faults packs) (packs_faults packs') (faults trace) (faults trace') (Some stop) → Keeps holds packs_faults tells faults old new packs packs' trace trace' (stop_in result)
-keeps_err holds packs_faults tells faults old new packs packs' trace trace' (Ok value) stop is outstanding still told causes = absurd is
-keeps_err holds packs_faults tells faults old new packs packs' trace trace' (Err other) stop is outstanding still told causes = record {
-  ready = λ e. absurd (none-some other (sym e));
-  units = λ e. absurd (none-some other (sym e));
-  outstanding = outstanding;
-  never_again = still;
-  never_again_trace = told;
-  causes = subst (λ z. HasCauses (packs_faults packs) (packs_faults packs') (faults trace) (faults trace') (Some z)) (sym is) causes;
-}
-
--- ---- nothing was called
-pub keeps_none : {O Q : Type 0} (holds : Q → Bool) (packs_faults : Q → ℕ) (tells : O → Bool) (faults : O → ℕ) (s : State) (packs : Q) (trace : O) → IsReady s → Keeps holds packs_faults tells faults s s packs packs trace trace None
-keeps_none holds packs_faults tells faults s packs trace ready = record {
-  ready = λ e. ready;
-  units = λ e u is. is;
-  outstanding = refl;
-  never_again = λ t. t;
-  never_again_trace = λ t. t;
-  causes = record {
-    later_packs = omega arith;
-    later = omega arith;
-    store = λ e. absurd (none-some Store e);
-    sink = λ e. absurd (none-some Sink e);
-  };
-}
-
 -- ---- one call behind the other
 pub causes_join : (packs packs' packs'' trace trace' trace'' : ℕ) (stop : Option Stop) → HasCauses packs packs' trace trace' None → HasCauses packs' packs'' trace' trace'' stop → HasCauses packs packs'' trace trace'' stop
 causes_join packs packs' packs'' trace trace' trace'' stop first next = record {
@@ -126,15 +90,3 @@ causes_join packs packs' packs'' trace trace' trace'' stop first next = record {
 
     rose : (a b c : ℕ) → a ≤ b → min (b + 1) (2 ^ 64 - 1) ≤ c → min (a + 1) (2 ^ 64 - 1) ≤ c
     rose a b c one two = omega (arith, one, two)
-
-pub keeps_join : {O Q : Type 0} (holds : Q → Bool) (packs_faults : Q → ℕ) (tells : O → Bool) (faults : O → ℕ) (old mid new : State) (packs packs' packs'' : Q) (trace trace' trace'' : O) (stop : Option Stop)
-    → Keeps holds packs_faults tells faults old mid packs packs' trace trace' None → Keeps holds packs_faults tells faults mid new packs' packs'' trace' trace'' stop
-    → Keeps holds packs_faults tells faults old new packs packs'' trace trace'' stop
-keeps_join holds packs_faults tells faults old mid new packs packs' packs'' trace trace' trace'' stop first next = record {
-  ready = next.ready;
-  units = λ e u is. next.units e u (first.units refl u is);
-  outstanding = next.outstanding ∙ first.outstanding;
-  never_again = λ t. first.never_again (next.never_again t);
-  never_again_trace = λ t. first.never_again_trace (next.never_again_trace t);
-  causes = causes_join (packs_faults packs) (packs_faults packs') (packs_faults packs'') (faults trace) (faults trace') (faults trace'') stop first.causes next.causes;
-}

@@ -1,6 +1,6 @@
 -- Requests one behind the other, up to one in which it stopped.
 use Rattle.std.proofs.Common.{◌≡◌, ℕ, true, List, [], ◌∷◌, ◌++◌, Option, None, Some, refl, sym, ap, ◌∙◌, subst, append_assoc}
-use Rattle.std.specs.Prelude.{Result, Ok, Err, IfErr, IsErrAnd}
+use Rattle.std.specs.Prelude.{Result, IsErrAnd}
 use Rattle.std.proofs.lemmas.List.{map-append}
 use Rattle.std.proofs.lemmas.Option.{none-some, same_Some}
 use Rattle.trace_replay.specs.requests.Requests.{Request}
@@ -101,10 +101,6 @@ flush_till stop line order slots now old mid new p rest f till still =
     (subst (λ (e : Entry). AsksTill stop line (write_backs (if_changed (Some e))) mid new) same till) still))
 
 -- ---- what stopped a call
-pub on_stop : {T : Type 0} (Q : Stop → Type 0) (result : Result T Stop) (stop : Stop) → IsErrAnd result (λ x. x ≡ stop) → Q stop → IfErr result Q
-on_stop Q (Ok value) stop is holds = tt
-on_stop Q (Err other) stop is holds = subst Q (sym is) holds
-
 pub on_stopped : {A : Type 0} (Q : Stop → Type 0) (result : Result A CacheFault) (stop : Stop) → IsErrAnd result (λ x. x ≡ fault.Stop stop) → Q stop → (other : Stop) → stop_of result ≡ Some other → Q other
 on_stopped Q result stop is holds other e = subst Q (same_Some stop other (sym (stop_is result stop is) ∙ e)) holds
 
