@@ -1,5 +1,6 @@
 -- What is transferred, as words name it.
 use Rattle.std.specs.Prelude.{ℕ, ◌<◌, ◌≤◌, ◌-◌, ◌^◌, if◌then◌else◌, Bool, true, false, List, [], ◌∷◌, Option, None, Some, codes}
+use Rattle.std.specs.Option.{option_map}
 use Rattle.std.specs.Result.{result_ok}
 use Rattle.std.specs.Str.{bytes_eq}
 use Rattle.pack_geometry.specs.declared.DriveKind.{DriveKind}
@@ -7,7 +8,7 @@ use Rattle.partitions.specs.declared.Part.{Part}
 use Rattle.mass_text.specs.Numbers.{number_of}
 use Rattle.mass_text.specs.declared.numbers.Radix.TheVariants.{Decimal}
 use Rattle.script_lines.specs.Fields.{part_field}
-use Rattle.command_parts.specs.Fields.{kind_named, unit_named}
+use Rattle.command_parts.specs.Fields.{kind_named, of_two, unit_named}
 use Rattle.command_parts.specs.declared.words.Target.{Target}
 use Rattle.command_parts.specs.declared.words.Transfer.{Transfer}
 use Rattle.command_parts.specs.declared.words.Transfer.TheVariants.{Read, Write}
@@ -26,47 +27,28 @@ size_named word = result_ok (number_of Decimal 16777216 word)
 
 -- a target, where each of its words names something
 abbrev pub target_of : Option ℕ → Option DriveKind → Option Part → Option ℕ → Option Target
-target_of None kind part at = None
-target_of (Some unit) None part at = None
-target_of (Some unit) (Some kind) None at = None
-target_of (Some unit) (Some kind) (Some part) None = None
 target_of (Some unit) (Some kind) (Some part) (Some at) = Some (record { unit = unit; kind = kind; part = part; at = at })
+target_of unit kind part at = None
 
 abbrev pub target_named : (unit kind part at : List ℕ) → Option Target
 target_named unit kind part at = target_of (unit_named unit) (kind_named kind) (part_named part) (place_named at)
 
-abbrev pub read_of : Option Target → Option ℕ → Option Transfer
-read_of None size = None
-read_of (Some target) None = None
-read_of (Some target) (Some size) = Some (Read target size)
-
-abbrev pub write_of : Option Target → Option Transfer
-write_of None = None
-write_of (Some target) = Some (Write (Raw target))
-
-abbrev pub dump_of : Option ℕ → Option DriveKind → Option Transfer
-dump_of None kind = None
-dump_of (Some unit) None = None
-dump_of (Some unit) (Some kind) = Some (Write (Dump unit kind))
-
 -- by the verb `write`, and by the verb `read`
 abbrev pub written_named : (verb unit kind part at : List ℕ) → Option Transfer
-written_named verb unit kind part at = if bytes_eq verb (codes "write") then write_of (target_named unit kind part at) else None
+written_named verb unit kind part at = if bytes_eq verb (codes "write") then option_map (λ target. Write (Raw target)) (target_named unit kind part at) else None
 
 abbrev pub sized_named : (verb unit kind part at size : List ℕ) → Option Transfer
-sized_named verb unit kind part at size = if bytes_eq verb (codes "read") then read_of (target_named unit kind part at) (size_named size) else None
+sized_named verb unit kind part at size = if bytes_eq verb (codes "read") then of_two Read (target_named unit kind part at) (size_named size) else None
 
 -- WHAT IS TRANSFERRED by `raw read U KIND PART AT LEN`, by `raw write U KIND PART AT`,
 abbrev pub raw_named : (verb unit kind : List ℕ) → List (List ℕ) → Option Transfer
-raw_named verb unit kind [] = None
-raw_named verb unit kind (part ∷ []) = None
 raw_named verb unit kind (part ∷ at ∷ []) = written_named verb unit kind part at
 raw_named verb unit kind (part ∷ at ∷ size ∷ []) = sized_named verb unit kind part at size
-raw_named verb unit kind (part ∷ at ∷ size ∷ more ∷ words) = None
+raw_named verb unit kind words = None
 
 -- and by `dump U KIND`
 abbrev pub dump_named : (unit kind : List ℕ) → Option Transfer
-dump_named unit kind = dump_of (unit_named unit) (kind_named kind)
+dump_named unit kind = of_two (λ unit kind. Write (Dump unit kind)) (unit_named unit) (kind_named kind)
 
 -- its numbers are in their ranges
 pub record IsTarget (t : Target) : Type 0 where

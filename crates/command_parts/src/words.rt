@@ -1,8 +1,11 @@
 // The words of a transfer.
 ghost use Rattle.std.specs.Prelude.{◌≡◌, ◌<◌, ◌≤◌, ◌^◌, map, IfSome};
+ghost use Rattle.std.specs.Option.{option_map};
 ghost use Rattle.std.specs.String.{string_bytes};
-ghost use Rattle.command_parts.specs.Fields.{kind_named, unit_named};
-ghost use Rattle.command_parts.specs.Words.{IsInRange, IsTarget, dump_named, part_named, place_named, raw_named, read_of, size_named, sized_named, target_of, write_of, written_named};
+ghost use Rattle.command_parts.specs.Fields.{kind_named, of_two, unit_named};
+ghost use Rattle.command_parts.specs.Words.{IsInRange, IsTarget, dump_named, part_named, place_named, raw_named, size_named, sized_named, target_of, written_named};
+ghost use Rattle.command_parts.specs.declared.words.Transfer.TheVariants.{Read as TheRead, Write as TheWrite};
+ghost use Rattle.command_parts.specs.declared.words.Writing.TheVariants.{Raw as TheRaw};
 
 use crate::fields::{kind_in, unit_in};
 use mass_text::{Radix, number};
@@ -80,7 +83,7 @@ fn target_in(unit: &str, kind: &str, part: &str, at: &str) -> Option<Target>
 
 fn read_in(target: Option<Target>, size: &str) -> Option<Transfer>
     requires { IfSome target IsTarget }
-    ensures named { result ≡ read_of target (size_named size.now) }
+    ensures named { result ≡ of_two TheRead target (size_named size.now) }
     ensures valid { IfSome result IsInRange }
 {
     let target = target?;
@@ -90,7 +93,7 @@ fn read_in(target: Option<Target>, size: &str) -> Option<Transfer>
 
 fn write_in(target: Option<Target>) -> Option<Transfer>
     requires { IfSome target IsTarget }
-    ensures named { result ≡ write_of target }
+    ensures named { result ≡ option_map (λ t. TheWrite (TheRaw t)) target }
     ensures valid { IfSome result IsInRange }
 {
     let target = target?;

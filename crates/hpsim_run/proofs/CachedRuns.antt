@@ -15,7 +15,6 @@ use Rattle.script_commands.specs.PlayFault.TheVariants as faults
 use Rattle.cached_run.specs.Stops.{Took}
 use Rattle.script_commands.specs.Lengths.{IsTooLong, NamesTooLong}
 use Rattle.command_parts.specs.Outside.{Outside}
-use Rattle.script_commands.specs.Sinks.{out_took, trace_took}
 use Rattle.command_parts.specs.Loading.{MeansCached}
 use Rattle.hpsim_run.specs.Cached.{HasCached, HasStoppedCached, RunsCached}
 use Rattle.script_commands.specs.Scripts.{RunsScript}
@@ -29,7 +28,7 @@ one_cached bytes script other means read =
     ∙ ap (λ (n : ℕ). meaning_of (record { lines = read.lines.lines; count = n })) same.1 ∙ sym read.is
 
 module _ (capacity : ℕ) (old new : Outside) (read : IsRead old new) where
-  pub cached_done : HasCached capacity new.source_tells old.left new.left new.packs_tell old.held new.held (out_took old new) (trace_took old new) → RunsCached capacity 0 old new
+  pub cached_done : HasCached capacity old new → RunsCached capacity 0 old new
   cached_done h = record {
     script = script_done _ one_cached old new read (meaning_of h.lines) (λ t. record { lines = h.lines; spelled = h.spelled t; is = refl }) h.fits;
     done = λ e. h;
@@ -38,7 +37,7 @@ module _ (capacity : ℕ) (old new : Outside) (read : IsRead old new) where
   }
 
   abbrev Stop : PlayFault → Type 0
-  Stop fault = HasStoppedCached capacity fault new.source_tells old.left new.left new.packs_tell old.held new.held new.failed_at (out_took old new) (trace_took old new)
+  Stop fault = HasStoppedCached capacity fault old new
 
   pub cached_sink : (s : Stop faults.Sink) → (IsTrue new.packs_tell → (unit n : ℕ) → ¬ (IsTooLong (meaning_of s.lines) old.held unit n))
       → Rose old.out_faults new.out_faults ⊎ Rose old.trace_faults new.trace_faults → RunsCached capacity 5 old new

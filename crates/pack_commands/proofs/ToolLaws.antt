@@ -41,8 +41,8 @@ module _ {kind : DriveKind} {unit block : ℕ} {way : AddWay} {tells : Bool} {ol
     stopped = λ e. absurd (omega (arith, e));
     silent = λ e. absurd (omega (arith, e));
     too_long = λ e. absurd (omega (arith, e));
-    unchanged = λ e. absurd (omega (arith, e));
-    refused = λ e. record { fault = f; refusal = is; why = why; same = same; told = told };
+    unchanged = λ e. same;
+    refused = λ e. record { fault = f; refusal = is; why = why; told = told };
   }
 
   pub add_fault : (f : ToolFault) → IsAddFault kind f → (IsTrue tells → IsWhy kind (old unit) block f) → (IsTrue tells → Leaves kind unit block way old new f)
@@ -64,7 +64,7 @@ module _ {kind : DriveKind} {unit block : ℕ} {way : AddWay} {tells : Bool} {ol
     stopped = λ e. left;
     silent = λ e t. nothing_more taken after faults faults_after (told t);
     too_long = λ e. absurd (omega (arith, e));
-    unchanged = λ e. absurd (omega (arith, e));
+    unchanged = λ e. absurd (elim e [ inl e ↦ omega (arith, e) | inr e ↦ omega (arith, e) ]);
     refused = λ e. absurd (omega (arith, e));
   }
   add_fault fault.Sink is why left told = absurd is
@@ -86,7 +86,7 @@ module _ {kind : DriveKind} {unit block : ℕ} {way : AddWay} {tells : Bool} {ol
     stopped = λ e. absurd (omega (arith, e));
     silent = λ e. absurd (omega (arith, e));
     too_long = λ e. absurd (omega (arith, e));
-    unchanged = λ e. absurd (omega (arith, e));
+    unchanged = λ e. absurd (elim e [ inl e ↦ omega (arith, e) | inr e ↦ omega (arith, e) ]);
     refused = λ e. absurd (omega (arith, e));
   }
 
@@ -99,7 +99,7 @@ module _ {kind : DriveKind} {unit block : ℕ} {way : AddWay} {tells : Bool} {ol
     stopped = λ e. absurd (omega (arith, e));
     silent = λ e. absurd (omega (arith, e));
     too_long = λ e. absurd (omega (arith, e));
-    unchanged = λ e. absurd (omega (arith, e));
+    unchanged = λ e. absurd (elim e [ inl e ↦ omega (arith, e) | inr e ↦ omega (arith, e) ]);
     refused = λ e. absurd (omega (arith, e));
   }
 
@@ -262,8 +262,8 @@ module _ {kind : DriveKind} {unit : ℕ} {tells : Bool} {old new : ℕ → Pack}
     stopped = λ e. absurd (omega (arith, e));
     silent = λ e. absurd (omega (arith, e));
     too_long = λ e. absurd (omega (arith, e));
-    unchanged = λ e. absurd (omega (arith, e));
-    refused = λ e. record { none = why; same = left; told = told };
+    unchanged = λ e. left;
+    refused = λ e. record { none = why; told = told };
   }
   mark_fault (fault.TooLong n) is why left told = record {
     statuses = inr (inr (inr (inl refl)));
@@ -280,7 +280,7 @@ module _ {kind : DriveKind} {unit : ℕ} {tells : Bool} {old new : ℕ → Pack}
     stopped = λ e. left;
     silent = λ e t. nothing_more taken after faults faults_after (told t);
     too_long = λ e. absurd (omega (arith, e));
-    unchanged = λ e. absurd (omega (arith, e));
+    unchanged = λ e. absurd (elim e [ inl e ↦ omega (arith, e) | inr e ↦ omega (arith, e) ]);
     refused = λ e. absurd (omega (arith, e));
   }
   mark_fault other is why left told = absurd is
@@ -301,7 +301,7 @@ module _ {kind : DriveKind} {unit : ℕ} {tells : Bool} {old new : ℕ → Pack}
     stopped = λ e. absurd (omega (arith, e));
     silent = λ e. absurd (omega (arith, e));
     too_long = λ e. absurd (omega (arith, e));
-    unchanged = λ e. absurd (omega (arith, e));
+    unchanged = λ e. absurd (elim e [ inl e ↦ omega (arith, e) | inr e ↦ omega (arith, e) ]);
     refused = λ e. absurd (omega (arith, e));
   }
 
@@ -314,6 +314,6 @@ module _ {kind : DriveKind} {unit : ℕ} {tells : Bool} {old new : ℕ → Pack}
     stopped = λ e. absurd (omega (arith, e));
     silent = λ e. absurd (omega (arith, e));
     too_long = λ e. absurd (omega (arith, e));
-    unchanged = λ e. absurd (omega (arith, e));
+    unchanged = λ e. absurd (elim e [ inl e ↦ omega (arith, e) | inr e ↦ omega (arith, e) ]);
     refused = λ e. absurd (omega (arith, e));
   }

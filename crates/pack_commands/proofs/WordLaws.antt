@@ -4,7 +4,7 @@ use Rattle.std.proofs.lemmas.List.{take_all}
 use Rattle.std.specs.Prelude.{if◌then◌else◌, codes}
 use Rattle.std.specs.Str.{bytes_eq}
 use Rattle.command_parts.specs.Fields.{kind_named, unit_named}
-use Rattle.pack_commands.specs.Commands.{add_named, bare_named, command_named, dumped_named, format_named, lone_named, long_named, numbered_named, one_more_named, pack_named, serial_named, tool_named, way_named, worded_named}
+use Rattle.pack_commands.specs.Commands.{add_named, command_named, format_named, fresh_named, long_named, tool_named, way_named, worded_named}
 use Rattle.pack_commands.specs.declared.words.Command.{Command}
 
 -- the words from one on
@@ -13,29 +13,29 @@ behind n words = take_all (length words - n) (drop n words) (omega (arith, lengt
 
 module _ {A : Type 0} (f : A → List ℕ) where
   pub lone : (word : List ℕ) (words : List A) (a : A) → 1 ≤ length words → length words < 2 → a ≡ get_or words 0 a → word ≡ f a
-      → lone_named word ≡ command_named (map f words)
+      → command_named (word ∷ []) ≡ command_named (map f words)
   lone word [] a some few first is = absurd (omega (arith, some))
-  lone word (x ∷ []) a some few first is = ap lone_named (is ∙ ap f first)
+  lone word (x ∷ []) a some few first is = ap (λ (w : List ℕ). command_named (w ∷ [])) (is ∙ ap f first)
   lone word (x ∷ y ∷ words) a some few first is = absurd (omega (arith, few))
 
   pub two : (word number : List ℕ) (words : List A) (a b : A) → 2 ≤ length words → length words < 3 → a ≡ get_or words 0 a → b ≡ get_or words 1 b
-      → word ≡ f a → number ≡ f b → numbered_named word number ≡ command_named (map f words)
+      → word ≡ f a → number ≡ f b → command_named (word ∷ number ∷ []) ≡ command_named (map f words)
   two word number [] a b some few first second is number_is = absurd (omega (arith, some))
   two word number (x ∷ []) a b some few first second is number_is = absurd (omega (arith, some))
   two word number (x ∷ y ∷ []) a b some few first second is number_is =
-      ap (λ (w : List ℕ). numbered_named w number) (is ∙ ap f first) ∙ ap (λ (n : List ℕ). numbered_named (f x) n) (number_is ∙ ap f second)
+      ap (λ (w : List ℕ). command_named (w ∷ number ∷ [])) (is ∙ ap f first) ∙ ap (λ (n : List ℕ). command_named (f x ∷ n ∷ [])) (number_is ∙ ap f second)
   two word number (x ∷ y ∷ z ∷ words) a b some few first second is number_is = absurd (omega (arith, few))
 
   pub three : (word unit kind : List ℕ) (words : List A) (a b c : A) → 3 ≤ length words → length words < 4
       → a ≡ get_or words 0 a → b ≡ get_or words 1 b → c ≡ get_or words 2 c → word ≡ f a → unit ≡ f b → kind ≡ f c
-      → dumped_named word unit kind ≡ command_named (map f words)
+      → command_named (word ∷ unit ∷ kind ∷ []) ≡ command_named (map f words)
   three word unit kind [] a b c some few first second third is unit_is kind_is = absurd (omega (arith, some))
   three word unit kind (x ∷ []) a b c some few first second third is unit_is kind_is = absurd (omega (arith, some))
   three word unit kind (x ∷ y ∷ []) a b c some few first second third is unit_is kind_is = absurd (omega (arith, some))
   three word unit kind (x ∷ y ∷ z ∷ []) a b c some few first second third is unit_is kind_is =
-      ap (λ (w : List ℕ). dumped_named w unit kind) (is ∙ ap f first)
-      ∙ ap (λ (u : List ℕ). dumped_named (f x) u kind) (unit_is ∙ ap f second)
-      ∙ ap (λ (k : List ℕ). dumped_named (f x) (f y) k) (kind_is ∙ ap f third)
+      ap (λ (w : List ℕ). command_named (w ∷ unit ∷ kind ∷ [])) (is ∙ ap f first)
+      ∙ ap (λ (u : List ℕ). command_named (f x ∷ u ∷ kind ∷ [])) (unit_is ∙ ap f second)
+      ∙ ap (λ (k : List ℕ). command_named (f x ∷ f y ∷ k ∷ [])) (kind_is ∙ ap f third)
   three word unit kind (x ∷ y ∷ z ∷ w ∷ words) a b c some few first second third is unit_is kind_is = absurd (omega (arith, few))
 
   pub four : (tool verb unit kind : List ℕ) (words rest : List A) (a b c d : A) → 4 ≤ length words
@@ -54,43 +54,43 @@ module _ {A : Type 0} (f : A → List ℕ) where
       ∙ ap (λ (k : List ℕ). long_named (f x) (f y) (f z) k (map f words)) (kind_is ∙ ap f fourth)
 
   -- the words behind the verb, the unit and the kind
-  pub one_more : (verb unit kind word : List ℕ) (words rest : List A) (a : A) → 1 ≤ length words → a ≡ get_or words 0 a → rest ≡ drop 1 words → word ≡ f a
-      → one_more_named verb unit kind word (map f rest) ≡ tool_named verb unit kind (map f words)
-  one_more verb unit kind word [] rest a some first rest_is is = absurd (omega (arith, some))
-  one_more verb unit kind word (x ∷ words) rest a some first rest_is is =
-      ap (λ (r : List A). one_more_named verb unit kind word (map f r)) rest_is
-      ∙ ap (λ (w : List ℕ). one_more_named verb unit kind w (map f words)) (is ∙ ap f first)
+  pub worded : (verb unit kind word : List ℕ) (words rest : List A) (a : A) → 1 ≤ length words → a ≡ get_or words 0 a → rest ≡ drop 1 words → word ≡ f a
+      → worded_named verb unit kind word (map f rest) ≡ tool_named verb unit kind (map f words)
+  worded verb unit kind word [] rest a some first rest_is is = absurd (omega (arith, some))
+  worded verb unit kind word (x ∷ words) rest a some first rest_is is =
+      ap (λ (r : List A). worded_named verb unit kind word (map f r)) rest_is
+      ∙ ap (λ (w : List ℕ). worded_named verb unit kind w (map f words)) (is ∙ ap f first)
 
-  pub many_more : (verb unit kind word : List ℕ) (words : List A) → 1 ≤ length words → bytes_eq verb (codes "add") ≡ false
-      → None ≡ one_more_named verb unit kind word (map f words)
-  many_more verb unit kind word [] some other = absurd (omega (arith, some))
-  many_more verb unit kind word (x ∷ words) some other =
-      sym (ap (λ (b : Bool). if b then add_named (unit_named unit) (kind_named kind) word (way_named (f x ∷ map f words)) else None) other)
+  -- of a verb that is not `add`: words behind, and none
+  pub fresh_more : (verb unit kind word : List ℕ) (words : List A) → 1 ≤ length words → ◌≡◌ {A = Option Command} None (fresh_named verb unit kind word (map f words))
+  fresh_more verb unit kind word [] some = absurd (omega (arith, some))
+  fresh_more verb unit kind word (x ∷ words) some = refl
 
-  -- no words behind
-  pub none_more : (verb unit kind word : List ℕ) (words : List A) → length words < 1 → bytes_eq verb (codes "add") ≡ false
-      → worded_named verb unit kind word ≡ one_more_named verb unit kind word (map f words)
-  none_more verb unit kind word [] few other =
-      sym (ap (λ (b : Bool). if b then add_named (unit_named unit) (kind_named kind) word (way_named []) else worded_named verb unit kind word) other)
-  none_more verb unit kind word (x ∷ words) few other = absurd (omega (arith, few))
+  pub fresh : (verb unit kind word : List ℕ) (words : List A) → length words < 1
+      → fresh_named verb unit kind word [] ≡ fresh_named verb unit kind word (map f words)
+  fresh verb unit kind word [] few = refl
+  fresh verb unit kind word (x ∷ words) few = absurd (omega (arith, few))
 
-  pub bare : (verb unit kind : List ℕ) (words : List A) → length words < 1 → bare_named verb unit kind ≡ tool_named verb unit kind (map f words)
+  pub bare : (verb unit kind : List ℕ) (words : List A) → length words < 1 → tool_named verb unit kind [] ≡ tool_named verb unit kind (map f words)
   bare verb unit kind [] few = refl
   bare verb unit kind (x ∷ words) few = absurd (omega (arith, few))
 
   pub formats : (unit kind serial : List ℕ) (words : List A) → length words < 1
-      → format_named (unit_named unit) (kind_named kind) (serial_named serial) ≡ pack_named unit kind serial (map f words)
+      → format_named unit kind serial [] ≡ format_named unit kind serial (map f words)
   formats unit kind serial [] few = refl
   formats unit kind serial (x ∷ words) few = absurd (omega (arith, few))
 
-  pub formats_none : (unit kind serial : List ℕ) (words : List A) → 1 ≤ length words → ◌≡◌ {A = Option Command} None (pack_named unit kind serial (map f words))
+  pub formats_none : (unit kind serial : List ℕ) (words : List A) → 1 ≤ length words → ◌≡◌ {A = Option Command} None (format_named unit kind serial (map f words))
   formats_none unit kind serial [] some = absurd (omega (arith, some))
   formats_none unit kind serial (x ∷ words) some = refl
 
--- a block is added, whatever words say how
+-- what is added where the verb is `add`, and what is not
 pub added : (verb unit kind word : List ℕ) (words : List (List ℕ)) → bytes_eq verb (codes "add") ≡ true
-    → add_named (unit_named unit) (kind_named kind) word (way_named words) ≡ one_more_named verb unit kind word words
-added verb unit kind word [] is =
-    sym (ap (λ (b : Bool). if b then add_named (unit_named unit) (kind_named kind) word (way_named []) else worded_named verb unit kind word) is)
-added verb unit kind word (more ∷ words) is =
-    sym (ap (λ (b : Bool). if b then add_named (unit_named unit) (kind_named kind) word (way_named (more ∷ words)) else None) is)
+    → add_named (unit_named unit) (kind_named kind) word (way_named words) ≡ worded_named verb unit kind word words
+added verb unit kind word words is =
+    sym (ap (λ (b : Bool). if b then add_named (unit_named unit) (kind_named kind) word (way_named words) else fresh_named verb unit kind word words) is)
+
+pub not_added : (verb unit kind word : List ℕ) (words : List (List ℕ)) → bytes_eq verb (codes "add") ≡ false
+    → fresh_named verb unit kind word words ≡ worded_named verb unit kind word words
+not_added verb unit kind word words is =
+    sym (ap (λ (b : Bool). if b then add_named (unit_named unit) (kind_named kind) word (way_named words) else fresh_named verb unit kind word words) is)

@@ -20,13 +20,10 @@ IsFormatCode code = (code ≡ status_code Done) ⊎ (code ≡ status_code SinkFa
 
 -- the status of a fault, and what is printed of it
 abbrev pub format_status : FormatFault → Status
-format_status (fault.TooMany number) = FormatRefused
-format_status (fault.Spare index) = FormatRefused
-format_status fault.NoCopy = FormatRefused
-format_status (fault.Differs block at wrote read) = FormatRefused
 format_status (fault.TooLong size) = TooLong
 format_status fault.Store = PacksFailed
 format_status fault.Memory = OutOfMemory
+format_status refusal = FormatRefused
 
 -- nothing is printed where the packs failed or there was no memory
 unfoldable pub format_text : ℕ → FormatFault → List ℕ
@@ -35,8 +32,7 @@ format_text unit (fault.Spare index) = codes "refused spare " ++ decimal index +
 format_text unit fault.NoCopy = codes "refused no copy" ++ 10 ∷ []
 format_text unit (fault.Differs block at wrote read) = codes "refused differs " ++ decimal block ++ 10 ∷ []
 format_text unit (fault.TooLong size) = too_long_text unit size
-format_text unit fault.Store = []
-format_text unit fault.Memory = []
+format_text unit why = []
 
 -- `formatted bad K`
 abbrev pub formatted_text : ℕ → List ℕ

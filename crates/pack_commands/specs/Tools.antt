@@ -21,14 +21,10 @@ use Rattle.command_parts.specs.Lines.{Told, too_long_text}
 
 -- the status of a fault, and what is printed of it
 abbrev pub fault_status : ToolFault → Status
-fault_status fault.NoTable = ToolRefused
-fault_status fault.Reserved = ToolRefused
-fault_status (fault.Listed i) = ToolRefused
-fault_status fault.Full = ToolRefused
-fault_status (fault.Spare j) = ToolRefused
 fault_status (fault.TooLong n) = TooLong
 fault_status fault.Store = PacksFailed
 fault_status fault.Sink = SinkFailed
+fault_status refusal = ToolRefused
 
 -- nothing further is printed where the packs or the sink failed
 unfoldable pub fault_text : ℕ → ToolFault → List ℕ
@@ -38,8 +34,7 @@ fault_text unit (fault.Listed i) = codes "refused listed " ++ decimal i ++ 10 �
 fault_text unit fault.Full = codes "refused full" ++ 10 ∷ []
 fault_text unit (fault.Spare j) = codes "refused spare " ++ decimal j ++ 10 ∷ []
 fault_text unit (fault.TooLong n) = too_long_text unit n
-fault_text unit fault.Store = []
-fault_text unit fault.Sink = []
+fault_text unit why = []
 
 -- `entry I`, `serial S`, and `marked K`
 abbrev pub entry_text : ℕ → List ℕ
@@ -76,12 +71,11 @@ pub record RunsAdded (kind : DriveKind) (unit block : ℕ) (way : AddWay) (code 
   pub told : code ≡ 0 → IsTrue out_tells → after ≡ taken ++ entry_text index
   pub front : code ≡ 5 → Rose faults faults_after × (IsTrue out_tells → TakesFront taken after (entry_text index))
 
--- the tool refused: nothing was changed, and why is printed
-pub record RunsRefused (kind : DriveKind) (unit block : ℕ) (tells : Bool) (old new : ℕ → Pack) (out_tells : Bool) (taken after : List ℕ) (faults faults_after : ℕ) : Type 0 where
+-- the tool refused, and why is printed
+pub record RunsRefused (kind : DriveKind) (unit block : ℕ) (tells : Bool) (old : ℕ → Pack) (out_tells : Bool) (taken after : List ℕ) (faults faults_after : ℕ) : Type 0 where
   pub fault : ToolFault
   pub refusal : fault_status fault ≡ ToolRefused
   pub why : IsTrue tells → IsWhy kind (old unit) block fault
-  pub same : IsTrue tells → new ≡ old
   pub told : IsTrue out_tells → Told taken after (fault_text unit fault) faults faults_after
 
 -- `bad144 add`
@@ -91,8 +85,8 @@ pub record RunsAdd (kind : DriveKind) (unit block : ℕ) (way : AddWay) (code : 
   pub stopped : code ≡ 6 → IsTrue tells → IsStopped kind unit block way old new
   pub silent : code ≡ 6 → IsTrue out_tells → after ≡ taken
   pub too_long : code ≡ 7 → RunsTooLong kind unit tells (old unit) out_tells taken after faults faults_after
-  pub unchanged : code ≡ 7 → IsTrue tells → new ≡ old
-  pub refused : code ≡ 8 → RunsRefused kind unit block tells old new out_tells taken after faults faults_after
+  pub unchanged : (code ≡ 7) ⊎ (code ≡ 8) → IsTrue tells → new ≡ old
+  pub refused : code ≡ 8 → RunsRefused kind unit block tells old out_tells taken after faults faults_after
 
 -- `bad144 fresh`: the five copies of an empty table are written, and its serial number is printed; or a front of that, where the sink failed
 pub record RunsFresh (kind : DriveKind) (unit serial code : ℕ) (tells : Bool) (old new : ℕ → Pack) (out_tells : Bool) (taken after : List ℕ) (faults faults_after : ℕ) : Type 0 where
@@ -115,10 +109,9 @@ pub record RunsMarked (kind : DriveKind) (unit code : ℕ) (tells : Bool) (old n
   pub told : code ≡ 0 → IsTrue out_tells → after ≡ taken ++ marked_text count
   pub front : code ≡ 5 → Rose faults faults_after × (IsTrue out_tells → TakesFront taken after (marked_text count))
 
--- the pack has no table: nothing was changed, and that is printed
-pub record RunsNoTable (kind : DriveKind) (unit : ℕ) (tells : Bool) (old new : ℕ → Pack) (out_tells : Bool) (taken after : List ℕ) (faults faults_after : ℕ) : Type 0 where
+-- the pack has no table, and that is printed
+pub record RunsNoTable (kind : DriveKind) (unit : ℕ) (tells : Bool) (old : ℕ → Pack) (out_tells : Bool) (taken after : List ℕ) (faults faults_after : ℕ) : Type 0 where
   pub none : IsTrue tells → HasNone kind (old unit)
-  pub same : IsTrue tells → new ≡ old
   pub told : IsTrue out_tells → Told taken after (fault_text unit fault.NoTable) faults faults_after
 
 -- `bad144 mark`
@@ -128,5 +121,5 @@ pub record RunsMark (kind : DriveKind) (unit code : ℕ) (tells : Bool) (old new
   pub stopped : code ≡ 6 → IsTrue tells → IsMarkingStopped kind unit old new
   pub silent : code ≡ 6 → IsTrue out_tells → after ≡ taken
   pub too_long : code ≡ 7 → RunsTooLong kind unit tells (old unit) out_tells taken after faults faults_after
-  pub unchanged : code ≡ 7 → IsTrue tells → new ≡ old
-  pub refused : code ≡ 8 → RunsNoTable kind unit tells old new out_tells taken after faults faults_after
+  pub unchanged : (code ≡ 7) ⊎ (code ≡ 8) → IsTrue tells → new ≡ old
+  pub refused : code ≡ 8 → RunsNoTable kind unit tells old out_tells taken after faults faults_after

@@ -1,9 +1,11 @@
-ghost use Rattle.std.specs.Prelude.{◌≡◌, ◌<◌, ◌≤◌, ◌-◌, ◌^◌, map, IfSome, Some, None};
+ghost use Rattle.std.specs.Prelude.{◌≡◌, ◌<◌, ◌≤◌, ◌-◌, ◌^◌, map, IfSome, [], ◌∷◌};
+ghost use Rattle.std.specs.Option.{option_map};
 ghost use Rattle.std.specs.String.{string_bytes};
 ghost use Rattle.pack_geometry.specs.Geometry.{block_count};
-ghost use Rattle.command_parts.specs.Fields.{kind_named, unit_named};
+ghost use Rattle.command_parts.specs.Fields.{kind_named, of_three, of_two, unit_named};
 ghost use Rattle.command_parts.specs.Words.{IsInRange};
-ghost use Rattle.pack_commands.specs.Commands.{IsValid, add_named, bare_named, block_named, both_named, one_named, cached_named, capacity_named, command_named, dumped_named, exercise_named, format_named, fresh_named, list_named, lone_named, long_named, mark_named, number_named, numbered_named, one_more_named, pack_named, serial_named, tool_named, transfer_named, way_named, worded_named};
+ghost use Rattle.pack_commands.specs.Commands.{IsValid, add_named, block_named, capacity_named, command_named, format_named, fresh_named, long_named, number_named, serial_named, tool_named, way_named, worded_named};
+ghost use Rattle.pack_commands.specs.declared.words.Command.TheVariants.{ListTable as TheList, MarkBlocks as TheMarking, FreshTable as TheFresh, FormatPack as TheFormat, Exercise as TheExercise, Cached as TheCached, TransferBytes as TheTransfer};
 
 use bad144_tool::AddWay;
 use command_parts::{Transfer, dump_in, kind_in, raw_in, unit_in};
@@ -97,7 +99,7 @@ fn capacity_in(word: &str) -> Option<u32>
 
 /// `copy` or `mark`.
 fn one_way(word: &str) -> Option<AddWay>
-    ensures { result ≡ one_named word.now }
+    ensures { result ≡ way_named (word.now ∷ []) }
 {
     if word == "copy" {
         return Some(AddWay {
@@ -116,7 +118,7 @@ fn one_way(word: &str) -> Option<AddWay>
 
 /// `copy` and then `mark`.
 fn both_ways(first: &str, second: &str) -> Option<AddWay>
-    ensures { result ≡ both_named first.now second.now }
+    ensures { result ≡ way_named (first.now ∷ second.now ∷ []) }
 {
     if first == "copy" && second == "mark" {
         return Some(AddWay {
@@ -143,7 +145,7 @@ fn way_in(words: &[String]) -> Option<AddWay>
 }
 
 fn list_command(unit: &str, kind: &str) -> Option<Command>
-    ensures named { result ≡ list_named (unit_named unit.now) (kind_named kind.now) }
+    ensures named { result ≡ of_two TheList (unit_named unit.now) (kind_named kind.now) }
     ensures valid { IfSome result IsValid }
 {
     let unit = unit_in(unit)?;
@@ -152,7 +154,7 @@ fn list_command(unit: &str, kind: &str) -> Option<Command>
 }
 
 fn mark_command(unit: &str, kind: &str) -> Option<Command>
-    ensures named { result ≡ mark_named (unit_named unit.now) (kind_named kind.now) }
+    ensures named { result ≡ of_two TheMarking (unit_named unit.now) (kind_named kind.now) }
     ensures valid { IfSome result IsValid }
 {
     let unit = unit_in(unit)?;
@@ -177,7 +179,7 @@ fn add_command(unit: &str, kind: &str, block: &str, rest: &[String]) -> Option<C
 }
 
 fn fresh_command(unit: &str, kind: &str, serial: &str) -> Option<Command>
-    ensures named { result ≡ fresh_named (unit_named unit.now) (kind_named kind.now) (serial_named serial.now) }
+    ensures named { result ≡ of_three TheFresh (unit_named unit.now) (kind_named kind.now) (serial_named serial.now) }
     ensures valid { IfSome result IsValid }
 {
     let unit = unit_in(unit)?;
@@ -187,7 +189,7 @@ fn fresh_command(unit: &str, kind: &str, serial: &str) -> Option<Command>
 }
 
 fn exercise_command(number: &str) -> Option<Command>
-    ensures named { result ≡ exercise_named (number_named number.now) }
+    ensures named { result ≡ option_map TheExercise (number_named number.now) }
     ensures valid { IfSome result IsValid }
 {
     let number = number_in(number)?;
@@ -195,7 +197,7 @@ fn exercise_command(number: &str) -> Option<Command>
 }
 
 fn cached_command(capacity: &str) -> Option<Command>
-    ensures named { result ≡ cached_named (capacity_named capacity.now) }
+    ensures named { result ≡ option_map TheCached (capacity_named capacity.now) }
     ensures valid { IfSome result IsValid }
 {
     let capacity = capacity_in(capacity)?;
@@ -204,7 +206,7 @@ fn cached_command(capacity: &str) -> Option<Command>
 
 /// A command that a number follows: `exercise` or `cached`.
 fn numbered_command(word: &str, number: &str) -> Option<Command>
-    ensures named { result ≡ numbered_named word.now number.now }
+    ensures named { result ≡ command_named (word.now ∷ number.now ∷ []) }
     ensures valid { IfSome result IsValid }
 {
     if word == "exercise" {
@@ -218,7 +220,7 @@ fn numbered_command(word: &str, number: &str) -> Option<Command>
 
 /// A command of `bad144` that no word follows: `list` or `mark`.
 fn bare_command(verb: &str, unit: &str, kind: &str) -> Option<Command>
-    ensures named { result ≡ bare_named verb.now unit.now kind.now }
+    ensures named { result ≡ tool_named verb.now unit.now kind.now [] }
     ensures valid { IfSome result IsValid }
 {
     if verb == "list" {
@@ -232,7 +234,7 @@ fn bare_command(verb: &str, unit: &str, kind: &str) -> Option<Command>
 
 /// A command of `bad144` that one word follows, and is not `add`: `fresh`.
 fn serial_command(verb: &str, unit: &str, kind: &str, serial: &str) -> Option<Command>
-    ensures named { result ≡ worded_named verb.now unit.now kind.now serial.now }
+    ensures named { result ≡ fresh_named verb.now unit.now kind.now serial.now [] }
     ensures valid { IfSome result IsValid }
 {
     if verb == "fresh" {
@@ -249,7 +251,7 @@ fn worded_command(
     word: &str,
     more: &[String],
 ) -> Option<Command>
-    ensures named { result ≡ one_more_named verb.now unit.now kind.now word.now (map string_bytes more.now) }
+    ensures named { result ≡ worded_named verb.now unit.now kind.now word.now (map string_bytes more.now) }
     ensures valid { IfSome result IsValid }
 {
     if verb == "add" {
@@ -273,7 +275,7 @@ fn tool_command(verb: &str, unit: &str, kind: &str, rest: &[String]) -> Option<C
 }
 
 fn format_command(unit: &str, kind: &str, serial: &str) -> Option<Command>
-    ensures named { result ≡ format_named (unit_named unit.now) (kind_named kind.now) (serial_named serial.now) }
+    ensures named { result ≡ of_three TheFormat (unit_named unit.now) (kind_named kind.now) (serial_named serial.now) }
     ensures valid { IfSome result IsValid }
 {
     let unit = unit_in(unit)?;
@@ -284,7 +286,7 @@ fn format_command(unit: &str, kind: &str, serial: &str) -> Option<Command>
 
 /// The command `format`, by the words after it.
 fn pack_command(unit: &str, kind: &str, serial: &str, rest: &[String]) -> Option<Command>
-    ensures named { result ≡ pack_named unit.now kind.now serial.now (map string_bytes rest.now) }
+    ensures named { result ≡ format_named unit.now kind.now serial.now (map string_bytes rest.now) }
     ensures valid { IfSome result IsValid }
 {
     match rest {
@@ -296,7 +298,7 @@ fn pack_command(unit: &str, kind: &str, serial: &str, rest: &[String]) -> Option
 /// The command that transfers these bytes, if there are any.
 fn transfer_command(transfer: Option<Transfer>) -> Option<Command>
     requires { IfSome transfer IsInRange }
-    ensures named { result ≡ transfer_named transfer }
+    ensures named { result ≡ option_map TheTransfer transfer }
     ensures valid { IfSome result IsValid }
 {
     let transfer = transfer?;
@@ -305,7 +307,7 @@ fn transfer_command(transfer: Option<Transfer>) -> Option<Command>
 
 /// The command of one word: `play`.
 fn lone_command(word: &str) -> Option<Command>
-    ensures named { result ≡ lone_named word.now }
+    ensures named { result ≡ command_named (word.now ∷ []) }
     ensures valid { IfSome result IsValid }
 {
     if word == "play" {
@@ -316,7 +318,7 @@ fn lone_command(word: &str) -> Option<Command>
 
 /// The command of three words: `dump`, a unit and a kind.
 fn dump_command(word: &str, unit: &str, kind: &str) -> Option<Command>
-    ensures named { result ≡ dumped_named word.now unit.now kind.now }
+    ensures named { result ≡ command_named (word.now ∷ unit.now ∷ kind.now ∷ []) }
     ensures valid { IfSome result IsValid }
 {
     if word == "dump" {

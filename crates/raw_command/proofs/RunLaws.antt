@@ -12,9 +12,9 @@ use Rattle.driver_laws.specs.rules.Bytes.{IsOutside}
 use Rattle.driver_laws.specs.declared.answers.outcome.Stop.TheVariants as stopped
 use Rattle.command_parts.specs.Lines.{Told}
 use Rattle.command_parts.specs.Outside.{HasItsCause, Outside}
-use Rattle.raw_command.specs.Endings.{GivesAll, GivesCut, GivesFront, IsBeyond, IsRefused, IsTooLong, IsUntouched, Ends, ReadEnds, Stays, Took, WriteEnds, bytes_for, fault_text, kind_of, limit_of, target_for, unit_of}
+use Rattle.raw_command.specs.Endings.{Gives, IsBeyond, IsRefused, IsTooLong, IsUntouched, Ends, ReadEnds, Stays, Took, WriteEnds, bytes_for, fault_text, limit_of, target_for}
 use Rattle.raw_command.specs.Faults.{Answer, IsReadCode, IsTransferCode, IsBefore, IsOfUnit, IsSilent, code_of, stop_of}
-use Rattle.raw_command.specs.Transfers.{HasRead, LeftRead, LeftWritten}
+use Rattle.raw_command.specs.Transfers.{HasRead, LeftWritten}
 use Rattle.raw_command.specs.Units.{IsFoundLong}
 use Rattle.raw_command.specs.declared.fault.TransferFault.{TransferFault}
 use Rattle.raw_command.specs.declared.fault.TransferFault.TheVariants as fault
@@ -46,7 +46,7 @@ too_long is = record {
 untouched : {unit : ℕ} {kind : DriveKind} {old new : Outside} → Faulted unit kind fault.Memory old new → IsUntouched old new
 untouched is = record { packs = is.same tt; trace = is.untraced tt; out = is.silent tt }
 
-pub write_fault : {w : Writing} {from : List ℕ} {old new : Outside} (f : TransferFault) → Took w from old new → Faulted (unit_of w) (kind_of w) f old new
+pub write_fault : {w : Writing} {from : List ℕ} {old new : Outside} (f : TransferFault) → Took w from old new → Faulted (target_for w from).unit (target_for w from).kind f old new
     → ((done : ℕ) → f ≡ fault.Unusable done → WriteEnds w (Err (fault.Unusable done)) old new)
     → (IsTrue new.packs_tell → LeftWritten f (target_for w from) new.failed_at (bytes_for w from) old.held new.held new.trace_tells old.taken new.taken) → WriteEnds w (Err f) old new
 write_fault fault.Memory took is front left = untouched is
@@ -157,32 +157,42 @@ all_taken n xs e = subst (λ (m : ℕ). take m xs ≡ xs) e (take-length xs)
 -- READS that were printed
 module _ {t : Target} {size : ℕ} {old new : Outside} (into : List ℕ) (long : length into ≡ size) (inside : ¬ (IsOutside t.kind t.part t.at size)) where
   pub gives_all : (IsTrue new.packs_tell → HasRead t size size (take size into) old.held new.held new.trace_tells old.taken new.taken)
-      → (IsTrue new.out_tells → new.said ≡ old.said ++ into) → GivesAll t size old new
+      → (IsTrue new.out_tells → new.said ≡ old.said ++ into) → Gives t size size old new (λ bytes. new.said ≡ old.said ++ bytes)
   gives_all read told = record {
     bytes = take size into;
-    gives = record { inside = inside; long = ap (λ (xs : List ℕ). length xs) (all_taken size into long) ∙ long; read = read };
+    inside = inside;
+    long = ap (λ (xs : List ℕ). length xs) (all_taken size into long) ∙ long;
+    read = read;
     told = λ is. told is ∙ ap (λ (xs : List ℕ). old.said ++ xs) (sym (all_taken size into long));
   }
 
   pub gives_cut : (IsTrue new.packs_tell → HasRead t size size (take size into) old.held new.held new.trace_tells old.taken new.taken) → Rose old.out_faults new.out_faults
-      → (IsTrue new.out_tells → TakesFront old.said new.said into) → GivesCut t size old new
-  gives_cut read rose front = record {
-    bytes = take size into;
-    gives = record { inside = inside; long = ap (λ (xs : List ℕ). length xs) (all_taken size into long) ∙ long; read = read };
-    rose = rose;
-    front = λ is. subst (λ (xs : List ℕ). TakesFront old.said new.said xs) (sym (all_taken size into long)) (front is);
-  }
+      → (IsTrue new.out_tells → TakesFront old.said new.said into) → Rose old.out_faults new.out_faults × Gives t size size old new (TakesFront old.said new.said)
+  gives_cut read rose front = (
+    rose,
+    record {
+      bytes = take size into;
+      inside = inside;
+      long = ap (λ (xs : List ℕ). length xs) (all_taken size into long) ∙ long;
+      read = read;
+      told = λ is. subst (λ (xs : List ℕ). TakesFront old.said new.said xs) (sym (all_taken size into long)) (front is);
+    },
+  )
 
   pub gives_front : {T E : Type 0} (done : ℕ) (from : List ℕ) (result : Result T E) → from ≡ take done into → done < size
       → (IsTrue new.packs_tell → HasRead t size done (take done into) old.held new.held new.trace_tells old.taken new.taken)
       → OnOk result (IsTrue new.out_tells → new.said ≡ old.said ++ from) → OnErr result (IsTrue new.out_tells → TakesFront old.said new.said from)
-      → HasCause old.out_faults new.out_faults result → GivesFront t size done old new
-  gives_front done from result e few read all front cause = record {
-    bytes = take done into;
-    some_left = few;
-    gives = record { inside = inside; long = length-take-le done into (below done size (length into) few long); read = read };
-    told = λ is. subst (λ (xs : List ℕ). Told old.said new.said xs old.out_faults new.out_faults) e (written result all front cause is);
-  }
+      → HasCause old.out_faults new.out_faults result → (done < size) × Gives t size done old new (λ bytes. Told old.said new.said bytes old.out_faults new.out_faults)
+  gives_front done from result e few read all front cause = (
+    few,
+    record {
+      bytes = take done into;
+      inside = inside;
+      long = length-take-le done into (below done size (length into) few long);
+      read = read;
+      told = λ is. subst (λ (xs : List ℕ). Told old.said new.said xs old.out_faults new.out_faults) e (written result all front cause is);
+    },
+  )
     where
       below : (n m k : ℕ) → n < m → k ≡ m → n ≤ k
       below n m k lt e = omega (arith, lt, e)
@@ -191,15 +201,6 @@ module _ {t : Target} {size : ℕ} {old new : Outside} (into : List ℕ) (long :
           → HasCause old.out_faults new.out_faults r → IsTrue new.out_tells → Told old.said new.said from old.out_faults new.out_faults
       written (Ok value) all front cause is = inl (all is)
       written (Err failed) all front cause is = inr (cause.failed, front is)
-
--- ---- THE UNIT of what is written
-pub unit_for : (w : Writing) (from : List ℕ) → (target_for w from).unit ≡ unit_of w
-unit_for (Raw t) from = refl
-unit_for (Dump unit kind) from = refl
-
-pub kind_for : (w : Writing) (from : List ℕ) → (target_for w from).kind ≡ kind_of w
-kind_for (Raw t) from = refl
-kind_for (Dump unit kind) from = refl
 
 -- ---- THE STATUSES of a read, and their causes
 pub read_status : (t : Target) (size : ℕ) (answer : Answer) (old new : Outside) → ReadEnds t size answer old new → IsReadCode (code_of answer)
@@ -216,7 +217,7 @@ no_cause : {code : ℕ} {old new : Outside} → (code ≡ 4 → ⊥) → (code �
 no_cause four five six = record { source = λ e. absurd (four e); sink = λ e. absurd (five e); store = λ e. absurd (six e) }
 
 sink_rose : (t : Target) (size : ℕ) {old new : Outside} → ReadEnds t size (Err fault.Sink) old new → Rose old.out_faults new.out_faults ⊎ Rose old.trace_faults new.trace_faults
-sink_rose t size ends = elim ends [ inl is ↦ inr is.0 | inr is ↦ inl is.rose ]
+sink_rose t size ends = elim ends [ inl is ↦ inr is.0 | inr is ↦ inl is.0 ]
 
 pub read_causes : (t : Target) (size : ℕ) (answer : Answer) {old new : Outside} → ReadEnds t size answer old new → HasItsCause (code_of answer) old new
 read_causes t size (Ok value) ends = no_cause (λ e. omega (arith, e)) (λ e. omega (arith, e)) (λ e. omega (arith, e))
@@ -230,7 +231,7 @@ read_causes t size (Err fault.Source) ends = absurd ends
 
 -- and those of a write
 written_rose : (w : Writing) {old new : Outside} → WriteEnds w (Err fault.Sink) old new → Rose old.out_faults new.out_faults ⊎ Rose old.trace_faults new.trace_faults
-written_rose w ends = elim ends [ inl is ↦ inr is.0 | inr is ↦ inl is.rose ]
+written_rose w ends = elim ends [ inl is ↦ inr is.0 | inr is ↦ inl is.0 ]
 
 pub write_causes : (w : Writing) (answer : Answer) {old new : Outside} → WriteEnds w answer old new → HasItsCause (code_of answer) old new
 write_causes w (Ok value) ends = no_cause (λ e. omega (arith, e)) (λ e. omega (arith, e)) (λ e. omega (arith, e))

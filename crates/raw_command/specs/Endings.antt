@@ -23,10 +23,7 @@ unfoldable pub fault_text : ℕ → TransferFault → List ℕ
 fault_text unit fault.Outside = codes "refused outside" ++ 10 ∷ []
 fault_text unit (fault.Unusable done) = codes "refused unusable " ++ decimal done ++ 10 ∷ []
 fault_text unit (fault.TooLong n) = too_long_text unit n
-fault_text unit fault.Memory = []
-fault_text unit fault.Source = []
-fault_text unit fault.Store = []
-fault_text unit fault.Sink = []
+fault_text unit why = []
 
 -- nothing was transferred, and nothing printed
 pub record IsUntouched (old new : Outside) : Type 0 where
@@ -46,30 +43,13 @@ pub record IsTooLong (unit : ℕ) (kind : DriveKind) (old new : Outside) (size :
   pub above : 512 * block_count kind < size
   pub is : IsTrue new.packs_tell → size ≡ length (old.held unit).image
 
--- ---- READING. So many bytes of the range were read, and these are they.
-pub record Gives (t : Target) (size done : ℕ) (bytes : List ℕ) (old new : Outside) : Type 0 where
+-- ---- READING. So many bytes of the range were read, and of these bytes the sink took what `Says` tells;
+pub record Gives (t : Target) (size done : ℕ) (old new : Outside) (Says : List ℕ → Type 0) : Type 0 where
+  pub bytes : List ℕ
   pub inside : ¬ (IsOutside t.kind t.part t.at size)
   pub long : length bytes ≡ done
   pub read : IsTrue new.packs_tell → HasRead t size done bytes old.held new.held new.trace_tells old.taken new.taken
-
--- all of them, and the sink took them; or it failed, and took a front of them;
-pub record GivesAll (t : Target) (size : ℕ) (old new : Outside) : Type 0 where
-  pub bytes : List ℕ
-  pub gives : Gives t size size bytes old new
-  pub told : IsTrue new.out_tells → new.said ≡ old.said ++ bytes
-
-pub record GivesCut (t : Target) (size : ℕ) (old new : Outside) : Type 0 where
-  pub bytes : List ℕ
-  pub gives : Gives t size size bytes old new
-  pub rose : Rose old.out_faults new.out_faults
-  pub front : IsTrue new.out_tells → TakesFront old.said new.said bytes
-
--- those before a block that can't be used;
-pub record GivesFront (t : Target) (size done : ℕ) (old new : Outside) : Type 0 where
-  pub bytes : List ℕ
-  pub some_left : done < size
-  pub gives : Gives t size done bytes old new
-  pub told : IsTrue new.out_tells → Told old.said new.said bytes old.out_faults new.out_faults
+  pub told : IsTrue new.out_tells → Says bytes
 
 -- or the trace or the packs failed.
 pub record ReadStops (why : TransferFault) (t : Target) (size : ℕ) (old new : Outside) : Type 0 where
@@ -77,14 +57,16 @@ pub record ReadStops (why : TransferFault) (t : Target) (size : ℕ) (old new : 
   pub out : new.said ≡ old.said
   pub left : IsTrue new.packs_tell → LeftRead why t new.failed_at old.held new.held new.trace_tells old.taken new.taken
 
+-- SO IT ENDS: all bytes were read, and the sink took them, or failed and took a front of them; or those before a block that can't be used; or none.
 abbrev pub ReadEnds : Target → (size : ℕ) → Answer → (old new : Outside) → Type 0
-ReadEnds t size (Ok all) old new = GivesAll t size old new
+ReadEnds t size (Ok all) old new = Gives t size size old new (λ bytes. new.said ≡ old.said ++ bytes)
 ReadEnds t size (Err fault.Outside) old new = IsOutside t.kind t.part t.at size × IsRefused t.unit fault.Outside old new
 ReadEnds t size (Err fault.Memory) old new = ¬ (IsOutside t.kind t.part t.at size) × IsUntouched old new
 ReadEnds t size (Err (fault.TooLong n)) old new = ¬ (IsOutside t.kind t.part t.at size) × IsTooLong t.unit t.kind old new n
-ReadEnds t size (Err (fault.Unusable done)) old new = GivesFront t size done old new
+ReadEnds t size (Err (fault.Unusable done)) old new = (done < size) × Gives t size done old new (λ bytes. Told old.said new.said bytes old.out_faults new.out_faults)
 ReadEnds t size (Err fault.Store) old new = Rose old.packs_faults new.packs_faults × ReadStops fault.Store t size old new
-ReadEnds t size (Err fault.Sink) old new = (Rose old.trace_faults new.trace_faults × ReadStops fault.Sink t size old new) ⊎ GivesCut t size old new
+ReadEnds t size (Err fault.Sink) old new = (Rose old.trace_faults new.trace_faults × ReadStops fault.Sink t size old new)
+    ⊎ (Rose old.out_faults new.out_faults × Gives t size size old new (TakesFront old.said new.said))
 ReadEnds t size (Err fault.Source) old new = ⊥
 
 -- ---- WRITING. How many bytes a source may have at the most, and how many are refused;
@@ -96,15 +78,7 @@ abbrev pub IsBeyond : Writing → (size : ℕ) → Type 0
 IsBeyond (Raw t) size = (16777216 < size) ⊎ IsOutside t.kind t.part t.at size
 IsBeyond (Dump unit kind) size = 8388608 < size
 
--- where they go, which bytes they become, and what is printed of them: `wrote N`, or `dumped K`.
-abbrev pub unit_of : Writing → ℕ
-unit_of (Raw t) = t.unit
-unit_of (Dump unit kind) = unit
-
-abbrev pub kind_of : Writing → DriveKind
-kind_of (Raw t) = t.kind
-kind_of (Dump unit kind) = kind
-
+-- where they go, which bytes they become, and what is printed of so many: `wrote N`, or `dumped K`.
 abbrev pub target_for : Writing → List ℕ → Target
 target_for (Raw t) from = t
 target_for (Dump unit kind) from = record { unit = unit; kind = kind; part = B; at = dump_place kind (length from) }
@@ -113,13 +87,9 @@ abbrev pub bytes_for : Writing → List ℕ → List ℕ
 bytes_for (Raw t) from = from
 bytes_for (Dump unit kind) from = dumped from
 
-abbrev pub number_for : Writing → (size : ℕ) → ℕ
-number_for (Raw t) size = size
-number_for (Dump unit kind) size = blocks_for size
-
-unfoldable pub done_text : Writing → ℕ → List ℕ
-done_text (Raw t) n = codes "wrote " ++ decimal n ++ 10 ∷ []
-done_text (Dump unit kind) n = codes "dumped " ++ decimal n ++ 10 ∷ []
+unfoldable pub done_text : Writing → (size : ℕ) → List ℕ
+done_text (Raw t) size = codes "wrote " ++ decimal size ++ 10 ∷ []
+done_text (Dump unit kind) size = codes "dumped " ++ decimal (blocks_for size) ++ 10 ∷ []
 
 -- THE SOURCE was read to its end, and its bytes are not refused.
 pub record Took (w : Writing) (from : List ℕ) (old new : Outside) : Type 0 where
@@ -131,30 +101,24 @@ pub record Writes (w : Writing) (from : List ℕ) (done : ℕ) (old new : Outsid
   pub took : Took w from old new
   pub written : IsTrue new.packs_tell → HasWritten (target_for w from) done (bytes_for w from) old.held new.held new.trace_tells old.taken new.taken
 
--- all of them, and the sink took the text; or it failed, and took a front of that;
-pub record WritesAll (w : Writing) (old new : Outside) : Type 0 where
+-- all of them, and of the text for that the sink took what `Says` tells;
+pub record WritesAll (w : Writing) (old new : Outside) (Says : List ℕ → Type 0) : Type 0 where
   pub from : List ℕ
   pub writes : Writes w from (length (bytes_for w from)) old new
-  pub told : IsTrue new.out_tells → new.said ≡ old.said ++ done_text w (number_for w (length from))
-
-pub record WritesCut (w : Writing) (old new : Outside) : Type 0 where
-  pub from : List ℕ
-  pub writes : Writes w from (length (bytes_for w from)) old new
-  pub rose : Rose old.out_faults new.out_faults
-  pub front : IsTrue new.out_tells → TakesFront old.said new.said (done_text w (number_for w (length from)))
+  pub told : IsTrue new.out_tells → Says (done_text w (length from))
 
 -- those before a block that can't be used;
 pub record WritesFront (w : Writing) (done : ℕ) (old new : Outside) : Type 0 where
   pub from : List ℕ
   pub some_left : done < length (bytes_for w from)
   pub writes : Writes w from done old new
-  pub told : IsTrue new.out_tells → Told old.said new.said (fault_text (unit_of w) (fault.Unusable done)) old.out_faults new.out_faults
+  pub told : IsTrue new.out_tells → Told old.said new.said (fault_text (target_for w from).unit (fault.Unusable done)) old.out_faults new.out_faults
 
 -- none, since the image is too long;
 pub record WritesNone (w : Writing) (size : ℕ) (old new : Outside) : Type 0 where
   pub from : List ℕ
   pub took : Took w from old new
-  pub long : IsTooLong (unit_of w) (kind_of w) old new size
+  pub long : IsTooLong (target_for w from).unit (target_for w from).kind old new size
 
 -- or the trace or the packs failed.
 pub record WriteStops (why : TransferFault) (w : Writing) (old new : Outside) : Type 0 where
@@ -163,15 +127,18 @@ pub record WriteStops (why : TransferFault) (w : Writing) (old new : Outside) : 
   pub out : new.said ≡ old.said
   pub left : IsTrue new.packs_tell → LeftWritten why (target_for w from) new.failed_at (bytes_for w from) old.held new.held new.trace_tells old.taken new.taken
 
+-- SO IT ENDS: all bytes were written, and the sink took the text for that, or failed and took a front of it; or those before a block that can't be
+-- used; or none.
 abbrev pub WriteEnds : Writing → Answer → (old new : Outside) → Type 0
-WriteEnds w (Ok all) old new = WritesAll w old new
-WriteEnds w (Err fault.Outside) old new = (IsTrue new.source_tells → IsBeyond w (length old.left)) × IsRefused (unit_of w) fault.Outside old new
+WriteEnds w (Ok all) old new = WritesAll w old new (λ text. new.said ≡ old.said ++ text)
+WriteEnds w (Err fault.Outside) old new = (IsTrue new.source_tells → IsBeyond w (length old.left)) × IsRefused (target_for w old.left).unit fault.Outside old new
 WriteEnds w (Err fault.Memory) old new = IsUntouched old new
 WriteEnds w (Err fault.Source) old new = Rose old.source_faults new.source_faults × IsUntouched old new
 WriteEnds w (Err (fault.TooLong n)) old new = WritesNone w n old new
 WriteEnds w (Err (fault.Unusable done)) old new = WritesFront w done old new
 WriteEnds w (Err fault.Store) old new = Rose old.packs_faults new.packs_faults × WriteStops fault.Store w old new
-WriteEnds w (Err fault.Sink) old new = (Rose old.trace_faults new.trace_faults × WriteStops fault.Sink w old new) ⊎ WritesCut w old new
+WriteEnds w (Err fault.Sink) old new = (Rose old.trace_faults new.trace_faults × WriteStops fault.Sink w old new)
+    ⊎ (Rose old.out_faults new.out_faults × WritesAll w old new (TakesFront old.said new.said))
 
 -- ---- THE TRANSFER. Of the source one byte more than the limit is taken at the most.
 abbrev pub Ends : Transfer → Answer → (old new : Outside) → Type 0

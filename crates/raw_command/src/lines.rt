@@ -1,6 +1,6 @@
 // The lines that transfers print.
 ghost use Rattle.std.specs.Prelude.{◌≡◌, ◌≤◌};
-ghost use Rattle.raw_command.specs.Endings.{done_text, fault_text, number_for};
+ghost use Rattle.raw_command.specs.Endings.{done_text, fault_text};
 
 use crate::fault::TransferFault;
 use command_parts::{Writing, numbered, plain, too_long};
@@ -26,7 +26,7 @@ pub(crate) fn fault_line(unit: u8, fault: TransferFault) -> LineBuf
 #[tactic(auto, unfolding(crate::specs::Endings::done_text))]
 pub(crate) fn done_line(writing: Writing, size: usize) -> LineBuf
     requires { size ≤ 16777216 }
-    ensures { result ≡ done_text writing (number_for writing size) }
+    ensures { result ≡ done_text writing size }
 {
     match writing {
         Writing::Raw { .. } => numbered("wrote ", size as u64),

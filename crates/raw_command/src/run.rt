@@ -3,7 +3,7 @@ ghost use Rattle.std.specs.Prelude.{◌≡◌, ◌↔◌, ◌⊎◌, ◌+◌, �
 ghost use Rattle.partitions.specs.Partitions.{size_of};
 ghost use Rattle.command_parts.specs.Lines.{Told};
 ghost use Rattle.command_parts.specs.Outside.{HasItsCause, outside};
-ghost use Rattle.raw_command.specs.Endings.{Ends, IsBeyond, ReadEnds, Stays, WriteEnds, fault_text, limit_of, unit_of};
+ghost use Rattle.raw_command.specs.Endings.{Ends, IsBeyond, ReadEnds, Stays, WriteEnds, fault_text, limit_of, target_for};
 ghost use Rattle.raw_command.specs.Faults.{IsSilent, IsTransferCode, code_of};
 ghost use Rattle.command_parts.specs.Words.{IsInRange, IsPlaced, IsTarget, reads_source};
 
@@ -62,7 +62,7 @@ fn limit(writing: Writing) -> usize
 
 /// The unit that is written to.
 fn unit(writing: Writing) -> u8
-    ensures { result ≡ unit_of writing }
+    ensures { (from : List ℕ) → result ≡ (target_for writing from).unit }
 {
     match writing {
         Writing::Raw { target } => target.unit,

@@ -10,7 +10,6 @@ use Rattle.event_player.specs.PlayFault.{PlayFault}
 use Rattle.event_player.specs.PlayFault.TheVariants as faults
 use Rattle.event_player.specs.Lengths.{IsTooLong}
 use Rattle.command_parts.specs.Outside.{Outside}
-use Rattle.script_commands.specs.Sinks.{out_took, trace_took}
 use Rattle.command_parts.specs.Loading.{Means}
 use Rattle.script_commands.specs.Headline.{Headline, HasStopped}
 use Rattle.script_commands.specs.Scripts.{RunsScript}
@@ -34,7 +33,7 @@ module _ (old new : Outside) (read : IsRead old new) where
   }
 
   abbrev Stop : PlayFault → Type 0
-  Stop fault = HasStopped fault new.source_tells old.left new.left new.packs_tell old.held new.held new.failed_at (out_took old new) (trace_took old new)
+  Stop fault = HasStopped fault old new
 
   pub runs_sink : (s : Stop faults.Sink) → (IsTrue new.packs_tell → (unit n : ℕ) → ¬ (IsTooLong (meaning s.lines s.count) old.held unit n))
       → Rose old.out_faults new.out_faults ⊎ Rose old.trace_faults new.trace_faults → RunsPlay 5 old new

@@ -1,5 +1,5 @@
 -- The laws of legal beginnings, of the moments that a script came to before it stopped.
-use Rattle.std.proofs.Common.{◌≡◌, ◌⊎◌, inl, inr, ℕ, ◌+◌, ◌==◌, ◌||◌, Bool, true, false, All, List, [], ◌∷◌, ◌++◌, Option, refl, sym, ap, subst, arith, ◌∙◌, append-nil, append_assoc}
+use Rattle.std.proofs.Common.{◌≡◌, ◌⊎◌, inl, inr, ℕ, ◌+◌, ◌==◌, ◌||◌, Bool, true, false, All, List, [], ◌∷◌, ◌++◌, Option, refl, sym, ap, subst, ◌∙◌, append_assoc}
 use Rattle.std.specs.List.{list_any}
 use Rattle.std.proofs.lemmas.List.Elements.{All-head, All-tail}
 use Rattle.pack_geometry.specs.declared.DriveKind.{DriveKind}
@@ -7,7 +7,7 @@ use Rattle.pack_geometry.specs.Pack.{Pack}
 use Rattle.pack_geometry.specs.PackTable.{AreTablesOf}
 use Rattle.pack_geometry.specs.TableSpelling.{Table}
 use Rattle.trace_replay.specs.requests.Requests.{Answer}
-use Rattle.trace_replay.specs.Script.{Script, Input, Submit, ArriveAt, MoveAt, AttendTo, Drain, Turn, Noise, Arm, SetOnline, SetLocked, Statement, Declares, Plays, Line, Numbered, with_input, inputs_before, drives_of, IsInput, IsStatement, IsScript, AreApart}
+use Rattle.trace_replay.specs.Script.{Script, Input, Submit, Drain, Statement, Declares, Plays, Line, Numbered, with_input, inputs_before, drives_of, IsInput, IsStatement, IsScript, AreApart}
 use Rattle.trace_replay.specs.Moments.{Moment, Played, Told, Idle, End, played}
 use Rattle.trace_replay.specs.Packs.{surface_of}
 use Rattle.trace_replay.specs.Replay.{Follows, after_moments}
@@ -27,7 +27,7 @@ use Rattle.event_player.specs.Passes.{Came, Reached, Took}
 use Rattle.event_player.proofs.Passes.{rules_hold}
 use Rattle.event_player.specs.Stops.{StopsPlaying}
 use Rattle.driver_laws.specs.rules.Beginnings.{IsBegun, BeginningsKeep, NextBlocksKeep, PromisesSoFar}
-use Rattle.script_commands.specs.SoFar.{KeepsSoFar, HoldSoFar, Holds, Keeps}
+use Rattle.script_commands.specs.SoFar.{KeepsSoFar, Holds, Keeps}
 use Rattle.script_commands.proofs.Standing.{FoundBehind, found_behind}
 
 -- THE INPUTS of a script are good, and so are the first of them.
@@ -117,48 +117,46 @@ module _ (script : Script) (good : IsScript script) (tables : ℕ → Option Tab
   }
 
 -- WITH THE PACKS behind them
+abbrev HoldBehind : (script : Script) (tables : ℕ → Option Table) (first held left : ℕ → Pack) → Reached script tables first held → Type 0
+HoldBehind script tables first held left reached = (front rest : List Moment) → reached.ahead.quiet ≡ front ++ rest
+    → PromisesSoFar script tables first left (reached.sent ++ (reached.ahead.move ++ front))
+
 module _ (keep : BeginningsKeep) (script : Script) (good : IsScript script) (tables : ℕ → Option Table) (first held : ℕ → Pack)
     (read : AreTablesOf (drives_of script) first tables) (reached : Reached script tables first held) where
   begun : IsBegun script tables first (reached.sent ++ reached.late)
   begun = record { good = good; later = reached.came.later; inputs = reached.came.inputs; tables_read = read; follows = reached.came.follows }
 
-  hold_so_far : HoldSoFar script tables first held reached.sent reached.late
-  hold_so_far = record {
-    move = reached.ahead.move;
-    quiet = reached.ahead.quiet;
-    cut = reached.ahead.cut;
-    one = reached.ahead.one;
-    each = rules_hold keep script tables first held reached.sent reached.late begun reached.ahead;
-  }
+  hold_so_far : HoldBehind script tables first held held reached
+  hold_so_far = rules_hold keep script tables first held reached.sent reached.late begun reached.ahead
 
-holds : (script : Script) (tables : ℕ → Option Table) (first left : ℕ → Pack) (out : Took) (sent late : List Moment) → HoldSoFar script tables first left sent late → Holds script tables first left out sent late
-holds script tables first left out sent late hold =
-    let f : FoundBehind out.before out.after sent hold.move hold.quiet = found_behind out.before out.after sent hold.move hold.quiet hold.one.silent in
+holds : (script : Script) (tables : ℕ → Option Table) (first held left : ℕ → Pack) (out : Took) (reached : Reached script tables first held)
+    → HoldBehind script tables first held left reached → Holds script tables first held left out reached
+holds script tables first held left out reached each =
+    let move = reached.ahead.move in
+    let f : FoundBehind out.before out.after reached.sent move reached.ahead.quiet = found_behind out.before out.after reached.sent move reached.ahead.quiet reached.ahead.one.silent in
     record {
-      so_far = hold;
+      so_far = each;
       taken = record {
-        front = hold.move ++ f.front;
+        front = move ++ f.front;
         rest = f.rest;
-        cut = hold.cut ∙ ap (λ (ms : List Moment). hold.move ++ ms) f.cut ∙ sym (append_assoc hold.move f.front f.rest);
+        cut = reached.ahead.cut ∙ ap (λ (ms : List Moment). move ++ ms) f.cut ∙ sym (append_assoc move f.front f.rest);
         stand = f.stand;
-        hold = hold.each f.front f.rest f.cut;
+        hold = each f.front f.rest f.cut;
       };
     }
 
 -- where nothing is late
-hold_none : (script : Script) (tables : ℕ → Option Table) (first left : ℕ → Pack) (sent late : List Moment) → late ≡ [] → PromisesSoFar script tables first left (sent ++ late)
-    → HoldSoFar script tables first left sent late
-hold_none script tables first left sent late none promises = record {
-  move = [];
-  quiet = [];
-  cut = none;
-  one = record { few = omega arith; silent = refl };
-  each = each;
-}
-  where
-    each : (front rest : List Moment) → [] ≡ front ++ rest → PromisesSoFar script tables first left (sent ++ ([] ++ front))
-    each [] rest cut = subst (λ (ms : List Moment). PromisesSoFar script tables first left (sent ++ ms)) none promises
-    each (m ∷ front) rest cut = absurd (cc cut)
+none_before : (move front rest : List Moment) → [] ≡ move ++ (front ++ rest) → [] ≡ move ++ front
+none_before [] [] rest is = refl
+none_before [] (m ∷ front) rest is = absurd (cc is)
+none_before (m ∷ move) front rest is = absurd (cc is)
+
+hold_none : (script : Script) (tables : ℕ → Option Table) (first held left : ℕ → Pack) (reached : Reached script tables first held) → reached.late ≡ []
+    → PromisesSoFar script tables first left (reached.sent ++ reached.late) → HoldBehind script tables first held left reached
+hold_none script tables first held left reached none promises front rest cut =
+    let move = reached.ahead.move in
+    let nothing : [] ≡ move ++ (front ++ rest) = sym none ∙ reached.ahead.cut ∙ ap (λ (ms : List Moment). move ++ ms) cut in
+    subst (λ (ms : List Moment). PromisesSoFar script tables first left (reached.sent ++ ms)) (none ∙ none_before move front rest nothing) promises
 
 -- THE PACKS FAILED: with the block that may be new, and without it
 module _ (keep : BeginningsKeep) (next : NextBlocksKeep) (script : Script) (good : IsScript script) (first left : ℕ → Pack) (out trace : Took)
@@ -166,29 +164,29 @@ module _ (keep : BeginningsKeep) (next : NextBlocksKeep) (script : Script) (good
   abbrev At : Reached script is.tables first is.stopped.held
   At = is.stopped.reached
 
-  without : HoldSoFar script is.tables first is.stopped.held At.sent At.late
+  without : HoldBehind script is.tables first is.stopped.held is.stopped.held At
   without = hold_so_far keep script good is.tables first is.stopped.held is.read At
 
-  left_holds : HoldSoFar script is.tables first left At.sent At.late
+  left_holds : HoldBehind script is.tables first is.stopped.held left At
   left_holds = by is.stopped.packs
     where
       by : (left ≡ is.stopped.held) ⊎ ((At.late ≡ []) × IsTorn (drives_of script) first is.stopped.held left (after_moments (start_of script is.tables first) (At.sent ++ At.late)))
-          → HoldSoFar script is.tables first left At.sent At.late
-      by (inl same) = subst (λ (packs : ℕ → Pack). HoldSoFar script is.tables first packs At.sent At.late) (sym same) without
+          → HoldBehind script is.tables first is.stopped.held left At
+      by (inl same) = subst (λ (packs : ℕ → Pack). HoldBehind script is.tables first is.stopped.held packs At) (sym same) without
       by (inr torn) =
-          hold_none script is.tables first left At.sent At.late torn.0
+          hold_none script is.tables first is.stopped.held left At torn.0
           (next script is.tables first left (At.sent ++ At.late) torn.1.at.unit torn.1.at.block torn.1.at.kind
           (begun keep script good is.tables first is.stopped.held is.read At) torn.1.at.declared torn.1.at.next torn.1.at.packs)
 
 pub keeps : BeginningsKeep → NextBlocksKeep → (fault : PlayFault) (script : Script) (first left : ℕ → Pack) (out trace : Took) → IsScript script → Keeps fault script first left out trace
 keeps keep next faults.Store script first left out trace good = λ is. (
   keeps_so_far script good is.tables first is.read (is.stopped.reached.sent ++ is.stopped.reached.late) is.stopped.reached.came,
-  holds script is.tables first is.stopped.held out is.stopped.reached.sent is.stopped.reached.late (without keep next script good first left out trace is),
-  holds script is.tables first left out is.stopped.reached.sent is.stopped.reached.late (left_holds keep next script good first left out trace is),
+  holds script is.tables first is.stopped.held is.stopped.held out is.stopped.reached (without keep next script good first left out trace is),
+  holds script is.tables first is.stopped.held left out is.stopped.reached (left_holds keep next script good first left out trace is),
 )
 keeps keep next faults.Sink script first left out trace good = λ is. (
   keeps_so_far script good is.tables first is.read (is.stopped.reached.sent ++ is.stopped.reached.late) is.stopped.reached.came,
-  holds script is.tables first left out is.stopped.reached.sent is.stopped.reached.late
+  holds script is.tables first left left out is.stopped.reached
       (hold_so_far keep script good is.tables first left is.read is.stopped.reached),
 )
 keeps keep next other script first left out trace good = tt

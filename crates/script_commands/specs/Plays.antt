@@ -5,7 +5,6 @@ use Rattle.script_lines.specs.Known.{Numbered}
 use Rattle.script_lines.specs.Words.{all_verbs}
 use Rattle.event_player.specs.PlayFault.TheVariants as faults
 use Rattle.command_parts.specs.Outside.{Outside}
-use Rattle.script_commands.specs.Sinks.{out_took, trace_took}
 use Rattle.command_parts.specs.Loading.{Means}
 use Rattle.script_commands.specs.Headline.{Headline, HasStopped}
 use Rattle.command_parts.specs.Statuses.{status_code}
@@ -21,7 +20,5 @@ pub record RunsPlay (code : ℕ) (old new : Outside) : Type 0 where
   pub one : (lines : List Numbered) (count : ℕ) → code ≡ status_code Done → IsTrue new.source_tells → IsTrue new.packs_tell → Spells all_verbs old.left lines count
       → IsThatRun lines count old.held new.held new.out_tells old.said new.said new.trace_tells old.taken new.taken
   -- what stands after a stop
-  pub stopped : code ≡ status_code SinkFailed
-      → HasStopped faults.Sink new.source_tells old.left new.left new.packs_tell old.held new.held new.failed_at (out_took old new) (trace_took old new)
-  pub stopped_packs : code ≡ status_code PacksFailed
-      → HasStopped faults.Store new.source_tells old.left new.left new.packs_tell old.held new.held new.failed_at (out_took old new) (trace_took old new)
+  pub stopped : code ≡ status_code SinkFailed → HasStopped faults.Sink old new
+  pub stopped_packs : code ≡ status_code PacksFailed → HasStopped faults.Store old new

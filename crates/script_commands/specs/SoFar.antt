@@ -1,5 +1,5 @@
 -- What is promised of a run that stopped, as far as it came.
-use Rattle.std.specs.Prelude.{◌≡◌, ℕ, ◌*◌, ◌≤◌, false, List, [], ◌∷◌, ◌++◌, Option}
+use Rattle.std.specs.Prelude.{◌≡◌, ℕ, ◌*◌, ◌≤◌, false, List, ◌∷◌, ◌++◌, Option}
 use Rattle.pack_geometry.specs.Pack.{Pack}
 use Rattle.pack_geometry.specs.TableSpelling.{Table}
 use Rattle.trace_replay.specs.requests.Requests.{Answer}
@@ -16,8 +16,7 @@ use Rattle.trace_lines.specs.answers.AnswerText.{out_text, answer_line}
 use Rattle.driver_laws.specs.rules.Laws.{HasBegun}
 use Rattle.event_player.specs.PlayFault.{PlayFault}
 use Rattle.event_player.specs.PlayFault.TheVariants as faults
-use Rattle.event_player.specs.Passes.{SaysOneSector}
-use Rattle.event_player.specs.Passes.{Took}
+use Rattle.event_player.specs.Passes.{Reached, Took}
 use Rattle.event_player.specs.Stops.{StopsPlaying}
 use Rattle.driver_laws.specs.rules.Beginnings.{PromisesSoFar}
 
@@ -29,15 +28,6 @@ pub record KeepsSoFar (script : Script) (tables : ℕ → Option Table) (first :
       → is_refusal answer ≡ false → IsExplained ((after_moments (start_of script tables first) before).units unit) (lines_of unit before) answer
   pub commands : (line unit id : ℕ) (answer : Answer) (before after : List Moment) → moments ≡ before ++ Told line unit id (End answer) ∷ after
       → is_refusal answer ≡ false → commands_in (lines_of unit before) ≤ 300 * (in_hand ((after_moments (start_of script tables first) before).units unit).service).count
-
--- THE PACKS hold what the answered writes left, but for one request of each unit, wherever what came since text was last sent is cut behind
--- the one move that may have written: so behind each of its answers, since that move says none.
-pub record HoldSoFar (script : Script) (tables : ℕ → Option Table) (first left : ℕ → Pack) (sent late : List Moment) : Type 0 where
-  pub move : List Moment
-  pub quiet : List Moment
-  pub cut : late ≡ move ++ quiet
-  pub one : SaysOneSector move
-  pub each : (front rest : List Moment) → quiet ≡ front ++ rest → PromisesSoFar script tables first left (sent ++ (move ++ front))
 
 -- the line of an answer stands whole in the text that was taken, behind what was said before it
 abbrev pub Stands : (said said' : List ℕ) (before : List Moment) (line id : ℕ) → Answer → Type 0
@@ -58,20 +48,20 @@ pub record HoldTaken (script : Script) (tables : ℕ → Option Table) (first le
   pub stand : StandIn said said' sent front rest
   pub hold : PromisesSoFar script tables first left (sent ++ front)
 
--- OF THE PACKS AND WHAT STANDS, cut where text was last sent
-pub record Holds (script : Script) (tables : ℕ → Option Table) (first left : ℕ → Pack) (out : Took) (sent late : List Moment) : Type 0 where
-  pub so_far : HoldSoFar script tables first left sent late
-  pub taken : HoldTaken script tables first left out.before out.after sent late
+-- THE PACKS hold what the answered writes left, but for one request of each unit, wherever what came since text was last sent is cut behind
+-- the one move that may have written: so behind each of its answers, since that move says none; and so behind those that stand.
+pub record Holds (script : Script) (tables : ℕ → Option Table) (first held left : ℕ → Pack) (out : Took) (reached : Reached script tables first held) : Type 0 where
+  pub so_far : (front rest : List Moment) → reached.ahead.quiet ≡ front ++ rest → PromisesSoFar script tables first left (reached.sent ++ (reached.ahead.move ++ front))
+  pub taken : HoldTaken script tables first left out.before out.after reached.sent reached.late
 
 -- All this is promised of whatever came so far. Where the packs failed it is so of the packs that are left, with the one block that may be
 -- new, and of those without it.
 abbrev pub Keeps : (fault : PlayFault) (script : Script) (first left : ℕ → Pack) (out trace : Took) → Type 0
 Keeps faults.Store script first left out trace = (is : StopsPlaying faults.Store script first left out trace)
     → KeepsSoFar script is.tables first (is.stopped.reached.sent ++ is.stopped.reached.late)
-    × Holds script is.tables first is.stopped.held out is.stopped.reached.sent is.stopped.reached.late
-    × Holds script is.tables first left out is.stopped.reached.sent is.stopped.reached.late
+    × Holds script is.tables first is.stopped.held is.stopped.held out is.stopped.reached
+    × Holds script is.tables first is.stopped.held left out is.stopped.reached
 Keeps faults.Sink script first left out trace = (is : StopsPlaying faults.Sink script first left out trace)
     → KeepsSoFar script is.tables first (is.stopped.reached.sent ++ is.stopped.reached.late)
-    × Holds script is.tables first left out is.stopped.reached.sent is.stopped.reached.late
-Keeps faults.Memory script first left out trace = Unit {0}
-Keeps (faults.TooLong u n) script first left out trace = Unit {0}
+    × Holds script is.tables first left left out is.stopped.reached
+Keeps fault script first left out trace = Unit {0}

@@ -1,16 +1,14 @@
 use Rattle.std.specs.Prelude.{IsTrue}
 use Rattle.std.proofs.Common.{inr, refl, ap, length, Some, Err, subst, sym, ◌∙◌, ◌++◌, List, ℕ, arith}
 use Rattle.outside_traits.specs.Puts.{TakesFront}
-use Rattle.pack_geometry.specs.declared.DriveKind.{DriveKind}
 use Rattle.command_parts.specs.Outside.{outside}
-use Rattle.raw_command.specs.Endings.{IsBeyond, kind_of, target_for, unit_of}
+use Rattle.raw_command.specs.Endings.{IsBeyond, target_for}
 use Rattle.raw_command.specs.Faults.{code_of, done_by}
 use Rattle.raw_command.specs.declared.fault.TransferFault.{TransferFault}
 use Rattle.raw_command.specs.declared.fault.TransferFault.TheVariants as fault
 use Rattle.command_parts.specs.Lines.{Told}
 use Rattle.raw_command.specs.Endings.{Stays, WriteEnds, bytes_for, fault_text}
-use Rattle.raw_command.specs.Units.{IsFoundLong}
-use Rattle.raw_command.proofs.RunLaws.{beyond_all, false_is, kind_for, stays_by, stays_fault, took_so, unit_for, write_fault}
+use Rattle.raw_command.proofs.RunLaws.{beyond_all, false_is, stays_by, stays_fault, took_so, write_fault}
 use Rattle.raw_command.proofs.run.write_from.Goals as goal
 
 pub returns-in-Ok-write_all-clause-ends : goal.returns-in-Ok-write_all-clause-ends
@@ -28,17 +26,19 @@ returns-in-Ok-write_all-clause-ends g c tells tells' left left' faults faults' a
 pub returns-in-Err-write_all-clause-ends : goal.returns-in-Err-write_all-clause-ends
 returns-in-Err-write_all-clause-ends g c tells tells' left left' faults faults' all end =
     let inside : ¬ (IsBeyond c.args.writing (length c.args.from.now)) = λ is. false_is c.is_beyond.result c.if-is_beyond.false (c.is_beyond.ensures.1 is) in
-    inr (record {
-      from = c.args.from.now;
-      writes = record {
-        took = took_so c.args.writing c.args.from.now _ _ all end inside;
-        written = c.in-Ok.ensures.writes _ refl;
-      };
-      rose = c.in-Err-write_all.ensures.cause.failed;
-      front = λ t. subst (λ (text : List ℕ). TakesFront (g.O.Sink.taken c.args.out.now) (g.O.Sink.taken c.write_all.new.out) text)
-          (c.as_bytes.ensures.text ∙ c.done_line.ensures)
-          (c.in-Err-write_all.ensures.front t);
-    })
+    inr (
+      c.in-Err-write_all.ensures.cause.failed,
+      record {
+        from = c.args.from.now;
+        writes = record {
+          took = took_so c.args.writing c.args.from.now _ _ all end inside;
+          written = c.in-Ok.ensures.writes _ refl;
+        };
+        told = λ t. subst (λ (text : List ℕ). TakesFront (g.O.Sink.taken c.args.out.now) (g.O.Sink.taken c.write_all.new.out) text)
+            (c.as_bytes.ensures.text ∙ c.done_line.ensures)
+            (c.in-Err-write_all.ensures.front t);
+      },
+    )
 
 pub returns-in-Err-clause-ends : goal.returns-in-Err-clause-ends
 returns-in-Err-clause-ends g c tells tells' left left' faults faults' all end =
@@ -49,9 +49,9 @@ returns-in-Err-clause-ends g c tells tells' left left' faults faults' all end =
     let r = c.refuse-in-Err.ensures in
     let inside : ¬ (IsBeyond c.args.writing (length c.args.from.now)) = λ is. false_is c.is_beyond.result c.if-is_beyond.false (c.is_beyond.ensures.1 is) in
     let took = took_so w from _ _ all end inside in
-    let told : IsTrue (g.O.Sink.tells c.refuse-in-Err.new.out) → Told (g.O.Sink.taken c.args.out.now) (g.O.Sink.taken c.refuse-in-Err.new.out) (fault_text (unit_of w) f) (g.O.Sink.faults c.args.out.now) (g.O.Sink.faults c.refuse-in-Err.new.out) =
+    let told : IsTrue (g.O.Sink.tells c.refuse-in-Err.new.out) → Told (g.O.Sink.taken c.args.out.now) (g.O.Sink.taken c.refuse-in-Err.new.out) (fault_text (target_for w from).unit f) (g.O.Sink.faults c.args.out.now) (g.O.Sink.faults c.refuse-in-Err.new.out) =
     λ t. subst (λ (u : ℕ). Told (g.O.Sink.taken c.args.out.now) (g.O.Sink.taken c.refuse-in-Err.new.out) (fault_text u f) (g.O.Sink.faults c.args.out.now) (g.O.Sink.faults c.refuse-in-Err.new.out))
-    c.unit-in-Err.ensures (r.told t) in
+    (c.unit-in-Err.ensures from) (r.told t) in
     subst (λ (why : TransferFault). WriteEnds w (Err why)
     (outside (λ (_ : Unit {0}). tells) (λ _. left) (λ _. faults) g.P.Packs.tells g.P.Packs.held g.P.Packs.faults g.P.Packs.failed_at g.O.Sink.tells g.O.Sink.taken g.O.Sink.faults g.T.Sink.tells g.T.Sink.taken g.T.Sink.faults tt c.args.packs.now c.args.out.now c.args.trace.now)
     (outside (λ (_ : Unit {0}). tells') (λ _. left') (λ _. faults') g.P.Packs.tells g.P.Packs.held g.P.Packs.faults g.P.Packs.failed_at g.O.Sink.tells g.O.Sink.taken g.O.Sink.faults g.T.Sink.tells g.T.Sink.taken g.T.Sink.faults tt c.put.new.packs c.refuse-in-Err.new.out c.put.new.trace))
@@ -63,8 +63,7 @@ returns-in-Err-clause-ends g c tells tells' left left' faults faults' all end =
       sink = e.keeps.causes.sink;
       untraced = λ before. ap g.T.Sink.taken (e.keeps.untraced before);
       same = e.keeps.same;
-      long = subst (λ (u : ℕ). IsFoundLong (g.P.Packs.tells c.put.new.packs) (g.P.Packs.held c.args.packs.now u) (kind_of w) f) (unit_for w from)
-          (subst (λ (kind : DriveKind). IsFoundLong (g.P.Packs.tells c.put.new.packs) (g.P.Packs.held c.args.packs.now (target_for w from).unit) kind f) (kind_for w from) e.keeps.long);
+      long = e.keeps.long;
       told = told;
       silent = λ silent. ap g.O.Sink.taken (r.silent silent);
     })
@@ -72,7 +71,7 @@ returns-in-Err-clause-ends g c tells tells' left left' faults faults' all end =
       from = from;
       some_left = e.unusable done (ap (λ (why : TransferFault). Some why) is);
       writes = record { took = took; written = e.writes done (ap (λ (why : TransferFault). done_by (length (bytes_for w from)) (Some why)) is) };
-      told = λ t. subst (λ (why : TransferFault). Told (g.O.Sink.taken c.args.out.now) (g.O.Sink.taken c.refuse-in-Err.new.out) (fault_text (unit_of w) why) (g.O.Sink.faults c.args.out.now) (g.O.Sink.faults c.refuse-in-Err.new.out))
+      told = λ t. subst (λ (why : TransferFault). Told (g.O.Sink.taken c.args.out.now) (g.O.Sink.taken c.refuse-in-Err.new.out) (fault_text (target_for w from).unit why) (g.O.Sink.faults c.args.out.now) (g.O.Sink.faults c.refuse-in-Err.new.out))
           is (told t);
     })
     e.stops)
@@ -107,6 +106,6 @@ returns-then-is_beyond-clause-ends g c tells tells' left left' faults faults' al
         packs = λ t. refl;
         trace = refl;
         told = λ t. subst (λ (u : ℕ). Told (g.O.Sink.taken c.args.out.now) (g.O.Sink.taken c.refuse.new.out) (fault_text u fault.Outside) (g.O.Sink.faults c.args.out.now) (g.O.Sink.faults c.refuse.new.out))
-            c.unit.ensures (c.refuse.ensures.told t);
+            (c.unit.ensures left) (c.refuse.ensures.told t);
       },
     )
