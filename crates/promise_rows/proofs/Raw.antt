@@ -125,7 +125,7 @@ stopped_write_lengthens_the_image : StoppedWriteLengthensTheImage
 stopped_write_lengthens_the_image w old new tells stops unit other = other ((stops.left tells).broke.long unit)
 
 read_blows_an_empty_image_up : ReadBlowsAnEmptyImageUp
-read_blows_an_empty_image_up t size done unit bytes old new tells empty some = (
+read_blows_an_empty_image_up t size done unit old new tells empty some = (
   λ gives. grown (gives.read tells).same,
   λ stops. elim (stops.left tells) [
     | inl unbegun ↦ grown unbegun.packs

@@ -22,7 +22,7 @@ use Rattle.hpsim_run.specs.Cached.{RunsCached}
 use Rattle.script_commands.specs.Plays.{RunsPlay}
 use Rattle.script_commands.specs.Sinks.{out_took, trace_took}
 use Rattle.hpsim_run.specs.SoFar.{HoldTaken, Keeps}
-use Rattle.raw_command.specs.Endings.{Ends, GivesAll, RunsTransfer, WritesAll}
+use Rattle.raw_command.specs.Endings.{Ends, ReadEnds, RunsTransfer, WriteEnds}
 use Rattle.raw_command.specs.Faults.{Answer, code_of}
 use Rattle.raw_command.specs.declared.fault.TransferFault.TheVariants as fault
 use Rattle.bad144_tool.specs.declared.edit.AddWay.{AddWay}
@@ -108,9 +108,9 @@ HasReadOf t size old new = (table : Option Table) × IsTableOf t.kind (old.held 
     × (new.said ≡ old.said ++ range size (content_of t.kind table (old.held t.unit)) (first_of t.kind t.part) t.at)
     × (new.held ≡ old.held)
 
-read_all : (t : Target) (size : ℕ) {old new : Outside} → GivesAll t size old new → AllTell new → HasReadOf t size old new
+read_all : (t : Target) (size : ℕ) {old new : Outside} → ReadEnds t size (Ok tt) old new → AllTell new → HasReadOf t size old new
 read_all t size {old} {new} all tell =
-    let read = all.gives.read tell.packs in
+    let read = all.read tell.packs in
     (read.moved.table, read.moved.stays.table_is, all.told tell.out ∙ ap (λ (bytes : List ℕ). old.said ++ bytes) read.is, read.same)
 
 reads_by : (t : Target) (size : ℕ) (old new : Outside) (answer : Answer) → code_of answer ≡ 0 → Ends (Read t size) answer old new → AllTell new → HasReadOf t size old new
@@ -130,7 +130,7 @@ abbrev HasWrittenOf : Target → (old new : Outside) → Type 0
 HasWrittenOf t old new = (table : Option Table) × IsTableOf t.kind (old.held t.unit) table
     × ((block : ℕ) → content_of t.kind table (new.held t.unit) block ≡ with_range (content_of t.kind table (old.held t.unit)) (first_of t.kind t.part) t.at old.left block)
 
-written_all : (t : Target) {old new : Outside} → WritesAll (Raw t) old new → AllTell new → HasWrittenOf t old new
+written_all : (t : Target) {old new : Outside} → WriteEnds (Raw t) (Ok tt) old new → AllTell new → HasWrittenOf t old new
 written_all t {old} {new} all tell =
     let written = all.writes.written tell.packs in
     let same : take (length all.from) all.from ≡ old.left = take_all (length all.from) all.from (le_refl (length all.from)) ∙ sym (all.writes.took.read tell.source).0 in (
@@ -174,5 +174,4 @@ cached run done tell =
 -- ---- THE TOOL. What is refused has changed nothing.
 pub add_unchanged : {kind : DriveKind} {unit block code : ℕ} {way : AddWay} {tells out_tells : Bool} {old new : ℕ → Pack} {taken after : List ℕ} {faults faults_after : ℕ}
     → RunsAdd kind unit block way code tells old new out_tells taken after faults faults_after → (code ≡ 7) ⊎ (code ≡ 8) → IsTrue tells → new ≡ old
-add_unchanged run (inl seven) tell = run.unchanged seven tell
-add_unchanged run (inr eight) tell = (run.refused eight).same tell
+add_unchanged run = run.unchanged

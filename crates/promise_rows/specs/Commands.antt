@@ -18,7 +18,7 @@ TwoRefusalsOfOneStatus = status_code TransferRefused ≢ status_code FormatRefus
 
 -- HALF OF THE SOURCE: all was written, and the source has a byte left.
 abbrev pub HalfOfTheSource : Type 0
-HalfOfTheSource = (w : Writing) (byte : ℕ) (left : List ℕ) (old new : Outside) → IsTrue new.source_tells → new.left ≡ byte ∷ left → ¬ WritesAll w old new
+HalfOfTheSource = (w : Writing) (byte : ℕ) (left : List ℕ) (old new : Outside) → IsTrue new.source_tells → new.left ≡ byte ∷ left → ¬ WritesAll w old new (λ text. Unit {0})
 
 -- HALF THE NUMBER PLAYED: the tally that is printed counts the requests of another number's script.
 abbrev pub requests_of : (number : ℕ) → ℕ

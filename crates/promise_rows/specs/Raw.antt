@@ -101,8 +101,8 @@ StoppedWriteLengthensTheImage = (w : Writing) (old new : Between) → (tells : I
     ≢ length_behind (start_at (target_for w stops.from) (stops.left tells).table old.held) (moments_in (stops.left tells).broke.parts) unit (length (old.held unit).image))
 
 abbrev pub ReadBlowsAnEmptyImageUp : Type 0
-ReadBlowsAnEmptyImageUp = (t : Target) (size done unit : ℕ) (bytes : List ℕ) (old new : Between) → IsTrue new.packs_tell → (old.held unit).image ≡ [] → 0 < length (new.held unit).image
-    → (¬ Gives t size done bytes old new) × (¬ ReadStops Store t size old new) × (¬ ReadStops Sink t size old new)
+ReadBlowsAnEmptyImageUp = (t : Target) (size done unit : ℕ) (old new : Between) → IsTrue new.packs_tell → (old.held unit).image ≡ [] → 0 < length (new.held unit).image
+    → (¬ Gives t size done old new (λ bytes. Unit {0})) × (¬ ReadStops Store t size old new) × (¬ ReadStops Sink t size old new)
 
 abbrev pub RawLengthensTheImage : Type 0
 RawLengthensTheImage = TransferLengthensTheImage × StoppedWriteLengthensTheImage × ReadBlowsAnEmptyImageUp
