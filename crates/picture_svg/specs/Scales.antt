@@ -1,10 +1,14 @@
 -- PLACES: where columns, events and cylinders stand. They rise, and 0 and the top meet their bounds.
-use Rattle.std.specs.Prelude.{ℕ, ◌+◌, ◌-◌, ◌*◌, ◌/◌, ◌^◌, min, max, List, get_or, []}
+use Rattle.std.specs.Prelude.{ℕ, ◌+◌, ◌-◌, ◌*◌, ◌/◌, ◌^◌, min, max, List, get_or, [], unwrap_or}
 use Rattle.drive_pictures.specs.declared.cells.Cell.{Cell}
+use Rattle.drive_pictures.specs.declared.requests.Request.{Request}
 use Rattle.run_picture.specs.declared.columns.Column.{Column}
 use Rattle.run_picture.specs.Columns.{new_head}
 use Rattle.run_picture.specs.Fold.{drive_at}
+use Rattle.run_plan.specs.Window.{column_of}
 use Rattle.picture_svg.specs.declared.scene.Frame.{Frame}
+use Rattle.picture_svg.specs.declared.scene.Scene.{Scene}
+use Rattle.picture_svg.specs.declared.scene.Stretch.{Stretch}
 
 -- so many columns, each as wide as there is room, and at most 40
 abbrev pub frame_of : ℕ → Frame
@@ -13,6 +17,33 @@ frame_of columns = record { count = columns; column = min 40 (864 / max (min col
 -- the left edge of a column
 abbrev pub place_of : Frame → ℕ → ℕ
 place_of frame column = 160 + min (min column 1000 * frame.column) 864
+
+-- their right edge, and the left edge of what stands beside them
+unfoldable pub right_of : Frame → ℕ
+right_of frame = place_of frame frame.count
+
+unfoldable pub beside_of : Frame → ℕ
+beside_of frame = max (right_of frame) 690 + 16
+
+-- where an event stands; where a stretch begins, how wide it is, and its middle
+unfoldable pub event_at : Scene → ℕ → ℕ
+event_at scene event = place_of scene.frame (column_of scene.sheet.now event)
+
+unfoldable pub start_of : Scene → Stretch → ℕ
+start_of scene stretch = place_of scene.frame stretch.from
+
+unfoldable pub width_of : Scene → Stretch → ℕ
+width_of scene stretch = place_of scene.frame stretch.to - place_of scene.frame stretch.from
+
+unfoldable pub middle_of : Scene → Stretch → ℕ
+middle_of scene stretch = start_of scene stretch + width_of scene stretch / 2
+
+-- where a request comes to hand, and where it ends
+unfoldable pub hand_of : Scene → Request → ℕ
+hand_of scene request = event_at scene (unwrap_or request.in_hand 0)
+
+unfoldable pub end_of : Scene → Request → ℕ
+end_of scene request = event_at scene (unwrap_or request.ended 0)
 
 -- the part of a height that some events, or cylinders, are of all
 abbrev pub part_of : ℕ → ℕ → ℕ → ℕ

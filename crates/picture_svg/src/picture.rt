@@ -118,13 +118,10 @@ fn draw_head<'a>(
     ensures { OnOk result (out.new ≡ captioned (caption_of sheet.now) out.old) }
 {
     let [first, second, third, fourth] = *sentences;
-    let place = at(16, 28);
+    let (class, at) = ("h", at(16, 28));
     let caption = caption_of(sheet);
     out.put_all(&[
-        Piece::Start(Start::Text {
-            class: "h",
-            at: place,
-        }),
+        Piece::Start(Start::Text { class, at }),
         Piece::Caption(caption),
         Piece::End(Element::Text),
     ])?;

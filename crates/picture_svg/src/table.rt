@@ -141,17 +141,17 @@ impl<'s, 'a> Drawing<'s, 'a> {
         };
         self.out.text(class, at(beside, y), outcome_word(outcome))?;
         self.out
-            .text_number("m e", at(beside + ENDS[0], y), request.done)?;
+            .text_with("m e", at(beside + ENDS[0], y), "", request.done)?;
         self.out
-            .text_number("m e", at(beside + ENDS[1], y), request.queued())?;
+            .text_with("m e", at(beside + ENDS[1], y), "", request.queued())?;
         self.out
-            .text_number("m e", at(beside + ENDS[2], y), request.times.way)?;
+            .text_with("m e", at(beside + ENDS[2], y), "", request.times.way)?;
         self.out
-            .text_number("m e", at(beside + ENDS[3], y), request.times.ready)?;
+            .text_with("m e", at(beside + ENDS[3], y), "", request.times.ready)?;
         self.out
-            .text_number("m e", at(beside + ENDS[4], y), request.times.trans)?;
+            .text_with("m e", at(beside + ENDS[4], y), "", request.times.trans)?;
         self.out
-            .text_number(turn, at(beside + ENDS[5], y), request.turn)
+            .text_with(turn, at(beside + ENDS[5], y), "", request.turn)
     }
 
     /// A request.
