@@ -1,12 +1,14 @@
 -- PLACES: where columns, events and cylinders stand. They rise, and 0 and the top meet their bounds.
-use Rattle.std.specs.Prelude.{ℕ, ◌+◌, ◌-◌, ◌*◌, ◌/◌, ◌^◌, min, max, List, get_or, [], unwrap_or}
+use Rattle.std.specs.Prelude.{ℕ, ◌+◌, ◌-◌, ◌*◌, ◌/◌, ◌^◌, ◌==◌, min, max, Bool, true, not, if◌then◌else◌, List, get_or, [], fold, Option, Some, None, unwrap_or}
 use Rattle.drive_pictures.specs.declared.cells.Cell.{Cell}
 use Rattle.drive_pictures.specs.declared.requests.Request.{Request}
 use Rattle.run_picture.specs.declared.columns.Column.{Column}
 use Rattle.run_picture.specs.Columns.{new_head}
 use Rattle.run_picture.specs.Fold.{drive_at}
 use Rattle.run_plan.specs.Window.{column_of}
+use Rattle.picture_svg.specs.declared.picture.Place.{Place}
 use Rattle.picture_svg.specs.declared.scene.Frame.{Frame}
+use Rattle.picture_svg.specs.declared.scene.Lane.{Lane}
 use Rattle.picture_svg.specs.declared.scene.Scene.{Scene}
 use Rattle.picture_svg.specs.declared.scene.Stretch.{Stretch}
 
@@ -52,6 +54,20 @@ part_of height some all = min (min (height * some) (2 ^ 64 - 1) / max all 1) hei
 -- where a cylinder stands in a chart so high whose upper edge is y
 abbrev pub level_of : ℕ → ℕ → ℕ → ℕ → ℕ
 level_of chart scale y cylinder = y + chart - part_of chart cylinder scale
+
+-- a drive stands below its adapter, if the drive before it is of another; the next one stands below it
+abbrev pub is_other : Option ℕ → ℕ → Bool
+is_other None adapter = true
+is_other (Some before) adapter = not (before == adapter)
+
+unfoldable pub top_of : Place → Lane → ℕ
+top_of place lane = if is_other place.adapter (lane.unit / 8) then place.y + 50 else place.y
+
+unfoldable pub below_of : Place → Lane → Place
+below_of place lane = record { adapter = Some (lane.unit / 8); y = top_of place lane + max (96 + lane.chart) 112 }
+
+unfoldable pub bottom_of : List Lane → ℕ
+bottom_of lanes = (fold below_of (record { adapter = None; y = 320 }) lanes).y
 
 -- a column by its number, and what is seen of a drive in it; behind the last column there is no event
 abbrev pub no_column : Column

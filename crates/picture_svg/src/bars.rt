@@ -8,9 +8,6 @@ use crate::markup::Markup;
 use crate::pieces::{Element, Piece, Route, at, extent};
 use crate::scene::{Drawing, Lane, Stretch, part_of};
 use crate::stretches::{Track, next_stretch, positioning};
-use drive_pictures::Letter::{
-    Arrived, Moved, Moves, Offsets, Ready, Recalibrates, Replaces, Retries, Seeks, Turns,
-};
 use drive_pictures::{Letter, Tally, all_letters, letter_sign, letter_word, plus};
 use run_picture::Column;
 use run_plan::{count_of, letter_at};
@@ -18,16 +15,16 @@ use std::alloc::AllocError;
 
 /// The letters from below, if a column is several events.
 static STACK: [Letter; 10] = [
-    Moves,
-    Retries,
-    Replaces,
-    Moved,
-    Arrived,
-    Recalibrates,
-    Seeks,
-    Turns,
-    Offsets,
-    Ready,
+    Letter::Moves,
+    Letter::Retries,
+    Letter::Replaces,
+    Letter::Moved,
+    Letter::Arrived,
+    Letter::Recalibrates,
+    Letter::Seeks,
+    Letter::Turns,
+    Letter::Offsets,
+    Letter::Ready,
 ];
 
 /// Puts the drives that hold the adapter in a column. The result is the first of them.

@@ -72,26 +72,18 @@ static KNOWN: [Known; 34] = [
     Known(Bar("n"), 326, 173, 29, "drives positioning"),
 ];
 
-/// A letter, with its pattern, its sign and its words.
-fn draw_letter(out: &mut Markup<'_>, letter: Letter, x: u32, y: u32) -> Result<(), AllocError>
-    requires across { x ≤ 2000 }
-    requires down { y ≤ 2000 }
-    ensures { OnOk result (out.new ≡ with_letter out.old letter) }
-{
-    out.rect("r", at(x, y), extent(24, 12), Some(letter))?;
-    out.text("m b", at(x + 29, y + 10), letter_sign(letter))?;
-    out.meaning(at(x + 40, y + 10), letter)
-}
-
-/// Letters, side by side.
+/// Letters, side by side, each with its pattern, its sign and its words.
 fn draw_letters(out: &mut Markup<'_>, letters: &[Letter], y: u32) -> Result<(), AllocError>
     requires { y ≤ 2000 }
     ensures { OnOk result (out.new ≡ fold with_letter out.old letters.now) }
 {
     let mut x: u32 = 16;
     for letter in letters.iter() {
-        draw_letter(out, *letter, x.min(2_000), y)?;
-        x = x.saturating_add(170);
+        let left = x.min(2_000);
+        out.rect("r", at(left, y), extent(24, 12), Some(*letter))?;
+        out.text("m b", at(left + 29, y + 10), letter_sign(*letter))?;
+        out.meaning(at(left + 40, y + 10), *letter)?;
+        x = left + 170;
     }
     Ok(())
 }

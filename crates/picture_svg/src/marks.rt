@@ -224,25 +224,6 @@ impl<'s, 'a> Drawing<'s, 'a> {
         }
     }
 
-    /// The marks of a column of several events, if it has some.
-    fn draw_column(&mut self, unit: u8, column: usize, y: u32) -> Result<(), AllocError>
-        requires { y ≤ 19000 }
-        ensures { OnOk result (self.new ≡ self.old) }
-    {
-        let cell = self.scene.cell(unit, column);
-        if !has_shape(&cell, false) {
-            return Ok(());
-        }
-        let stretch = Stretch {
-            from: column,
-            to: column.saturating_add(1),
-        };
-        self.begin_span(stretch)?;
-        self.out.end(Element::Title)?;
-        self.draw_shapes(&cell, column, false, y)?;
-        self.out.end(Element::Group)
-    }
-
     /// The marks of each event. The last has all lines that are left.
     fn draw_by_event(&mut self, unit: u8, y: u32) -> Result<(), AllocError>
         requires { y ≤ 19000 }
@@ -259,13 +240,20 @@ impl<'s, 'a> Drawing<'s, 'a> {
         self.draw_event_marks(unit, last, &notes[from..], y)
     }
 
-    /// The marks of each column of several events.
+    /// The marks of each column of several events that has some.
     fn draw_by_column(&mut self, unit: u8, y: u32) -> Result<(), AllocError>
         requires { y ≤ 19000 }
         ensures { OnOk result (self.new ≡ self.old) }
     {
-        for column in 0..self.scene.columns().len() {
-            self.draw_column(unit, column, y)?;
+        for from in 0..self.scene.columns().len() {
+            let cell = self.scene.cell(unit, from);
+            if has_shape(&cell, false) {
+                let to = from.saturating_add(1);
+                self.begin_span(Stretch { from, to })?;
+                self.out.end(Element::Title)?;
+                self.draw_shapes(&cell, from, false, y)?;
+                self.out.end(Element::Group)?;
+            }
         }
         Ok(())
     }

@@ -1,6 +1,6 @@
 //! What is drawn, and where.
 
-ghost use Rattle.std.specs.Prelude.{◌≡◌, ◌≤◌, ◌*◌, length, decimal, map, IfOk};
+ghost use Rattle.std.specs.Prelude.{◌≡◌, ◌≤◌, ◌+◌, ◌*◌, length, decimal, map, IfOk};
 ghost use Rattle.run_plan.specs.Units.{units_shown};
 ghost use Rattle.picture_svg.specs.Pictures.{unit_of};
 ghost use Rattle.picture_svg.specs.Scales.{frame_of, place_of, right_of, beside_of, event_at, start_of, width_of, middle_of, hand_of, end_of, part_of, column_at, cell_of};

@@ -125,21 +125,7 @@ impl<'s, 'a> Drawing<'s, 'a> {
         Ok(())
     }
 
-    /// The number of a column's first event, if there is room. The result is from where there is room after it.
-    fn draw_number(&mut self, column: usize, y: u32, free: u32) -> Result<u32, AllocError>
-        requires { y < 20000 }
-        ensures { OnOk result (self.new ≡ self.old) }
-    {
-        let x = self.scene.frame.x(column);
-        if x < free {
-            return Ok(free);
-        }
-        let event = plus(self.scene.sheet.window.edge(column), 1);
-        self.out.text_with("m q", at(x, y), "", event)?;
-        Ok(x + 48)
-    }
-
-    /// The numbers of the events, as far as there is room.
+    /// The number of each column's first event, as far as there is room.
     pub fn draw_events(&mut self, y: u32) -> Result<(), AllocError>
         requires { y ≤ 19000 }
         ensures { OnOk result (self.new ≡ self.old) }
@@ -147,9 +133,14 @@ impl<'s, 'a> Drawing<'s, 'a> {
         let words = "from left to right: the order of events, which is not time";
         self.out.text("q e", at(LABEL, y), "event")?;
         self.out.text("q", at(LEFT, y + 14), words)?;
-        let mut free = 0;
+        let mut free: u32 = 0;
         for column in 0..self.scene.columns().len() {
-            free = self.draw_number(column, y, free)?;
+            let x = self.scene.frame.x(column);
+            if x >= free {
+                let event = plus(self.scene.sheet.window.edge(column), 1);
+                self.out.text_with("m q", at(x, y), "", event)?;
+                free = x + 48;
+            }
         }
         Ok(())
     }

@@ -1,6 +1,6 @@
 //! The requests, in the order asked.
 
-ghost use Rattle.std.specs.Prelude.{◌≡◌, ◌≤◌, ◌∷◌, [], length, IfOk, OnOk};
+ghost use Rattle.std.specs.Prelude.{◌≡◌, ◌≤◌, ◌+◌, ◌*◌, ◌∷◌, [], length, IfOk, OnOk};
 ghost use Rattle.picture_svg.specs.Nesting.{started, with_row};
 ghost use Rattle.picture_svg.specs.Pictures.{listing};
 ghost use Rattle.picture_svg.specs.declared.pieces.Element.TheVariants.{Group};
@@ -172,7 +172,7 @@ impl<'s, 'a> Drawing<'s, 'a> {
         requires y { y ≤ 15000 }
         requires few { length self.old.scene.shown.now.listed.items ≤ 256 }
         ensures rows { OnOk result (self.new ≡ listing self.old.scene.shown.now.listed.items self.old) }
-        ensures low { IfOk result (λ last. last ≤ 18328) }
+        ensures last { IfOk result (λ last. last ≡ y + 13 * length self.old.scene.shown.now.listed.items) }
     {
         let mut y = y;
         for request in self.scene.shown.listed.iter() {
