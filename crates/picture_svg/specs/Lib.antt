@@ -4,4 +4,5 @@ pub mod Nesting
 pub mod Pictures
 pub mod Places
 pub mod Scales
+pub mod Stretches
 pub mod Texts

@@ -41,13 +41,7 @@ with_byte text b = text ++ escaped b
 unfoldable pub with_words : List ℕ → List ℕ → List ℕ
 with_words bytes text = fold with_byte text bytes
 
--- AN ATTRIBUTE with words and with a number; a letter of a path with a number, and with a point
-abbrev pub with_class : List ℕ → List ℕ → List ℕ
-with_class class text = text ++ codes " class=\"" ++ class ++ codes "\""
-
-abbrev pub with_key : List ℕ → ℕ → List ℕ → List ℕ
-with_key key n text = text ++ codes " " ++ key ++ codes "=\"" ++ decimal n ++ codes "\""
-
+-- WORDS with a number, and with a point
 abbrev pub with_leg : List ℕ → ℕ → List ℕ → List ℕ
 with_leg letter n text = text ++ letter ++ decimal n
 
@@ -56,16 +50,14 @@ with_point letter p text = with_leg (codes " ") p.y (with_leg letter p.x text)
 
 abbrev pub with_part : List ℕ → Part → List ℕ
 with_part text (part.Words words) = text ++ words.now
-with_part text (part.Class class) = with_class class.now text
-with_part text (part.Key key n) = with_key key.now n text
 with_part text (part.Leg letter n) = with_leg letter.now n text
 with_part text (part.Point letter p) = with_point letter.now p text
 
 -- THE START OF AN ELEMENT, AND ITS END
 abbrev pub with_svg : Size → List ℕ → List ℕ
 with_svg size text =
-    with_leg (codes " ") size.height (with_leg (codes " viewBox=\"0 0 ") size.width
-    (with_key (codes "height") size.height (with_key (codes "width") size.width (text ++ codes "<svg xmlns=\"http://www.w3.org/2000/svg\""))))
+    with_leg (codes " ") size.height (with_leg (codes "\" viewBox=\"0 0 ") size.width
+    (with_leg (codes "\" height=\"") size.height (with_leg (codes "\" width=\"") size.width (text ++ codes "<svg xmlns=\"http://www.w3.org/2000/svg"))))
     ++ codes "\" role=\"graphics-document document\" aria-labelledby=\"t d\">\n"
 
 unfoldable pub with_start : Start → List ℕ → List ℕ
@@ -75,11 +67,11 @@ with_start start.Title text = text ++ codes "<title>"
 with_start start.Caption text = text ++ codes "<title id=\"t\">"
 with_start start.Desc text = text ++ codes "<desc id=\"d\">"
 with_start (start.Text class at) text =
-    with_key (codes "y") at.y (with_key (codes "x") at.x (with_class class.now (text ++ codes "<text"))) ++ codes ">"
+    with_leg (codes "\" y=\"") at.y (with_leg (codes "\" x=\"") at.x (text ++ codes "<text class=\"" ++ class.now)) ++ codes "\">"
 with_start (start.Upwards at) text =
-    with_point (codes " transform=\"translate(") at (with_class (codes "m") (text ++ codes "<text")) ++ codes ")rotate(-90)\">"
+    with_point (codes "<text class=\"m\" transform=\"translate(") at text ++ codes ")rotate(-90)\">"
 with_start (start.Line class at) text =
-    with_leg (codes ",") at.y (with_leg (codes " points=\"") at.x (with_class class.now (text ++ codes "<polyline")))
+    with_leg (codes ",") at.y (with_leg (codes "\" points=\"") at.x (text ++ codes "<polyline class=\"" ++ class.now))
 
 unfoldable pub with_end : Element → List ℕ → List ℕ
 with_end element.Svg text = text ++ codes "</svg>\n"
@@ -96,13 +88,13 @@ with_fill (Some l) text = text ++ codes " fill=\"url(#" ++ pattern_of l ++ codes
 
 unfoldable pub with_rect : List ℕ → Point → Size → Option Letter → List ℕ → List ℕ
 with_rect class corner size fill text =
-    with_fill fill (with_key (codes "height") size.height (with_key (codes "width") size.width
-    (with_key (codes "y") corner.y (with_key (codes "x") corner.x (with_class class (text ++ codes "<rect"))))))
+    with_fill fill (with_leg (codes "\" height=\"") size.height (with_leg (codes "\" width=\"") size.width
+    (with_leg (codes "\" y=\"") corner.y (with_leg (codes "\" x=\"") corner.x (text ++ codes "<rect class=\"" ++ class)))) ++ codes "\"")
     ++ codes "/>\n"
 
 unfoldable pub with_dot : List ℕ → Point → List ℕ → List ℕ
 with_dot class p text =
-    with_key (codes "cy") p.y (with_key (codes "cx") p.x (with_class class (text ++ codes "<circle"))) ++ codes " r=\"2\"/>\n"
+    with_leg (codes "\" cy=\"") p.y (with_leg (codes "\" cx=\"") p.x (text ++ codes "<circle class=\"" ++ class)) ++ codes "\" r=\"2\"/>\n"
 
 abbrev pub way_of : Sign → List ℕ
 way_of sign.Tick = codes "l2 3l4 -6"
@@ -122,7 +114,7 @@ with_route (route.Sign from s) text = with_point (codes "M") from text ++ way_of
 
 unfoldable pub with_path : List ℕ → Route → List ℕ → List ℕ
 with_path class way text =
-    with_route way (with_class class (text ++ codes "<path") ++ codes " d=\"") ++ codes "\"/>\n"
+    with_route way (text ++ codes "<path class=\"" ++ class ++ codes "\" d=\"") ++ codes "\"/>\n"
 
 -- WHAT IS TOLD OF A REQUEST
 unfoldable pub with_request : Request → List ℕ → List ℕ

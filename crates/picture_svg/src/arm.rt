@@ -1,8 +1,9 @@
 //! The arm of a drive over the events; the requests that wait, as lines at their cylinders; and, dotted, the order in which they came.
 
-ghost use Rattle.std.specs.Prelude.{◌≡◌, ◌≤◌, ◌+◌, true, length, OnOk};
+ghost use Rattle.std.specs.Prelude.{◌≡◌, ◌≤◌, ◌+◌, true, length, unwrap_or, OnOk};
 ghost use Rattle.picture_svg.specs.Nesting.{is_innermost};
 ghost use Rattle.picture_svg.specs.Places.{is_low};
+ghost use Rattle.picture_svg.specs.Scales.{event_at, level_of};
 ghost use Rattle.picture_svg.specs.declared.pieces.Element.TheVariants.{Line};
 
 use crate::markup::Markup;
@@ -14,18 +15,11 @@ use std::alloc::{AllocError, Global};
 /// Where a cylinder stands.
 fn level(scene: &Scene<'_, '_>, lane: &Lane, y: u32, cylinder: u32) -> u32
     requires { y ≤ 19000 }
-    ensures { result ≤ y + 255 }
+    ensures place { result ≡ level_of lane.now.chart scene.now.scale y cylinder }
+    ensures inside { result ≤ y + 255 }
 {
     let chart = u32::from(lane.chart);
     y + chart - part_of(chart, u64::from(cylinder), u64::from(scene.scale))
-}
-
-/// Where a request stands.
-fn level_of(scene: &Scene<'_, '_>, lane: &Lane, y: u32, request: &Request) -> u32
-    requires { y ≤ 19000 }
-    ensures { result ≤ y + 255 }
-{
-    level(scene, lane, y, request.cylinder.unwrap_or(0))
 }
 
 /// The requests of a drive that joined, if few are shown.
@@ -45,11 +39,17 @@ fn is_asked_here(scene: &Scene<'_, '_>, request: &Request) -> bool {
 }
 
 /// Where a request was asked for.
+#[tactic(auto, unfolding(crate::specs::Places::is_low))]
 fn asked_at(scene: &Scene<'_, '_>, lane: &Lane, request: &Request, y: u32) -> Point
     requires { y ≤ 19000 }
-    ensures { is_low result ≡ true }
+    ensures across { result.x ≡ event_at scene.now request.now.asked }
+    ensures down { result.y ≡ level_of lane.now.chart scene.now.scale y (unwrap_or request.now.cylinder 0) }
+    ensures low { is_low result ≡ true }
 {
-    at(scene.at(request.asked), level_of(scene, lane, y, request))
+    Point {
+        x: scene.at(request.asked),
+        y: level(scene, lane, y, request.cylinder.unwrap_or(0)),
+    }
 }
 
 /// The requests in the order of their turns.
@@ -73,59 +73,36 @@ fn place_of_turn(served: &[Request], turn: u64) -> usize
 }
 
 impl<'s, 'a> Drawing<'s, 'a> {
-    /// A line from a request to the one that came after it, if the later one waits.
-    fn draw_link(
-        &mut self,
-        lane: &Lane,
-        other: &Request,
-        request: &Request,
-        y: u32,
-    ) -> Result<(), AllocError>
-        requires { y ≤ 19000 }
-        ensures { OnOk result (self.new ≡ self.old) }
-    {
-        if request.queued() == 0 || !is_asked_here(&self.scene, other) {
-            return Ok(());
-        }
-        let from = asked_at(&self.scene, lane, other, y);
-        let to = asked_at(&self.scene, lane, request, y);
-        self.out.path("z", Route::Line { from, to })
-    }
-
-    /// The order in which requests that wait came.
+    /// The order in which requests that wait came: a line from each to the one that came after it, if the later one waits.
     fn draw_order(&mut self, lane: &Lane, known: &[Request], y: u32) -> Result<(), AllocError>
         requires { y ≤ 19000 }
         ensures { OnOk result (self.new ≡ self.old) }
     {
         for place in 1..known.len() {
-            self.draw_link(lane, &known[place - 1], &known[place], y)?;
+            let (other, request) = (&known[place - 1], &known[place]);
+            if request.queued() > 0 && is_asked_here(&self.scene, other) {
+                let from = asked_at(&self.scene, lane, other, y);
+                let to = asked_at(&self.scene, lane, request, y);
+                self.out.path("z", Route::Line { from, to })?;
+            }
         }
         Ok(())
     }
 
-    /// A request that waits, as a line at its cylinder, with a circle where it was asked for.
-    fn draw_wait_line(&mut self, lane: &Lane, request: &Request, y: u32) -> Result<(), AllocError>
-        requires { y ≤ 19000 }
-        ensures { OnOk result (self.new ≡ self.old) }
-    {
-        let from = asked_at(&self.scene, lane, request, y);
-        if request.queued() > 0 {
-            let to = at(self.scene.hand(request), y);
-            self.out.path("w", Route::Across { from, to })?;
-        }
-        if is_asked_here(&self.scene, request) {
-            self.out.dot("u", from)?;
-        }
-        Ok(())
-    }
-
-    /// The requests that wait.
+    /// The requests that wait, each as a line at its cylinder, with a circle where it was asked for.
     fn draw_waits(&mut self, lane: &Lane, known: &[Request], y: u32) -> Result<(), AllocError>
         requires { y ≤ 19000 }
         ensures { OnOk result (self.new ≡ self.old) }
     {
         for request in known.iter() {
-            self.draw_wait_line(lane, request, y)?;
+            let from = asked_at(&self.scene, lane, request, y);
+            if request.queued() > 0 {
+                let to = at(self.scene.hand(request), y);
+                self.out.path("w", Route::Across { from, to })?;
+            }
+            if is_asked_here(&self.scene, request) {
+                self.out.dot("u", from)?;
+            }
         }
         Ok(())
     }
@@ -150,27 +127,17 @@ impl<'s, 'a> Drawing<'s, 'a> {
         Ok(())
     }
 
-    /// Puts the points of the arm's way in a column, if the arm was seen in it.
-    fn put_column(&mut self, lane: &Lane, column: usize, y: u32) -> Result<(), AllocError>
-        requires down { y ≤ 19000 }
-        requires line { is_innermost Line self.old.out.within ≡ true }
-        ensures { OnOk result (self.new ≡ self.old) }
-    {
-        let x = self.scene.frame.x(column);
-        match self.scene.cell(lane.unit, column).path {
-            Some(path) => self.put_path(lane, path, x, y),
-            None => Ok(()),
-        }
-    }
-
-    /// Puts the points of the arm's way in all columns.
+    /// Puts the points of the arm's way in each column in which the arm was seen.
     fn put_columns(&mut self, lane: &Lane, y: u32) -> Result<(), AllocError>
         requires down { y ≤ 19000 }
         requires line { is_innermost Line self.old.out.within ≡ true }
         ensures { OnOk result (self.new ≡ self.old) }
     {
         for column in 0..self.scene.columns().len() {
-            self.put_column(lane, column, y)?;
+            let x = self.scene.frame.x(column);
+            if let Some(path) = self.scene.cell(lane.unit, column).path {
+                self.put_path(lane, path, x, y)?;
+            }
         }
         Ok(())
     }
@@ -180,54 +147,36 @@ impl<'s, 'a> Drawing<'s, 'a> {
         requires { y ≤ 19000 }
         ensures { OnOk result (self.new ≡ self.old) }
     {
-        let place = at(LEFT, level(&self.scene, lane, y, lane.before));
+        let (class, at_first) = ("p", at(LEFT, level(&self.scene, lane, y, lane.before)));
         let last = self.scene.columns().len().saturating_sub(1);
-        let end = level(
-            &self.scene,
-            lane,
-            y,
-            self.scene.cell(lane.unit, last).cylinder,
-        );
+        let cylinder = self.scene.cell(lane.unit, last).cylinder;
+        let end = level(&self.scene, lane, y, cylinder);
         self.out.put(Piece::Start(Start::Line {
-            class: "p",
-            at: place,
+            class,
+            at: at_first,
         }))?;
         self.put_columns(lane, y)?;
         self.out.corner(at(self.scene.frame.right(), end))?;
         self.out.end(Element::Line)
     }
 
-    /// The id of a request where it was served, if there is room. The result is from where there is room after it.
-    fn draw_id(
-        &mut self,
-        lane: &Lane,
-        request: &Request,
-        y: u32,
-        free: u32,
-    ) -> Result<u32, AllocError>
-        requires { y ≤ 19000 }
-        ensures { OnOk result (self.new ≡ self.old) }
-    {
-        let x = self.scene.end(request);
-        let id = u64::from(request.id);
-        let is_served = request.turn > 0
-            && request.ended.unwrap_or(0) < self.scene.sheet.window.last;
-        if !is_served || x < free.saturating_add(width_of(id)) {
-            return Ok(free);
-        }
-        let place = at(x, level_of(&self.scene, lane, y, request).saturating_sub(4));
-        self.out.text_number("m e", place, id)?;
-        Ok(x + 2)
-    }
-
-    /// The ids of the requests that were served, in the order of their turns, as far as there is room.
+    /// The ids of the requests that were served, each where it was, in the order of their turns, as far as there is room.
     fn draw_served(&mut self, lane: &Lane, served: &[Request], y: u32) -> Result<(), AllocError>
         requires { y ≤ 19000 }
         ensures { OnOk result (self.new ≡ self.old) }
     {
-        let mut free = 0;
+        let mut free: u32 = 0;
+        let last = self.scene.sheet.window.last;
         for request in served.iter() {
-            free = self.draw_id(lane, request, y, free)?;
+            let x = self.scene.end(request);
+            let id = u64::from(request.id);
+            let is_served = request.turn > 0 && request.ended.unwrap_or(0) < last;
+            if is_served && x >= free.saturating_add(width_of(id)) {
+                let level = level(&self.scene, lane, y, request.cylinder.unwrap_or(0));
+                self.out
+                    .text_with("m e", at(x, level.saturating_sub(4)), "", id)?;
+                free = x + 2;
+            }
         }
         Ok(())
     }
@@ -241,13 +190,10 @@ impl<'s, 'a> Drawing<'s, 'a> {
         let from = at(LEFT, y);
         let to = at(self.scene.frame.right(), lower);
         self.out.path("g", Route::TwoAcross { from, to })?;
-        self.out.text_with(
-            "q e",
-            at(LABEL, y + 4),
-            "cylinder ",
-            u64::from(self.scene.scale),
-        )?;
-        self.out.text_number("q e", at(LABEL, lower + 3), 0)
+        let scale = u64::from(self.scene.scale);
+        self.out
+            .text_with("q e", at(LABEL, y + 4), "cylinder ", scale)?;
+        self.out.text_with("q e", at(LABEL, lower + 3), "", 0)
     }
 
     /// The arm of a drive.

@@ -97,8 +97,7 @@ impl<'s, 'a> Drawing<'s, 'a> {
             .rect("r", corner, extent(width, height), Some(Letter::Moves))?;
         if self.scene.sheet.is_by_event() && width >= 14 {
             let unit = u64::from(first.unwrap_or(0));
-            self.out
-                .text_number("m b c i", at(self.scene.middle(stretch), y + 13), unit)?;
+            self.out.text_with("m b c i", at(self.scene.middle(stretch), y + 13), "", unit)?;
         }
         self.out.end(Element::Group)
     }
@@ -122,7 +121,7 @@ impl<'s, 'a> Drawing<'s, 'a> {
         self.out.rect("n", corner, extent(width, height), None)?;
         if width >= 8 {
             let above = at(self.scene.middle(stretch), y + 39);
-            self.out.text_number("m b c", above, count)?;
+            self.out.text_with("m b c", above, "", count)?;
         }
         self.out.end(Element::Group)
     }
@@ -162,42 +161,23 @@ impl<'s, 'a> Drawing<'s, 'a> {
     {
         let from = at(self.scene.start(stretch), y);
         let to = at(self.scene.frame.x(stretch.to), y);
-        self.begin_words(stretch, words)?;
+        self.begin_span(stretch)?;
+        self.out
+            .put_all(&[Piece::Word(words), Piece::End(Element::Title)])?;
         self.out.path(class, Route::Across { from, to })?;
         self.out.end(Element::Group)
     }
 
-    /// A letter's part of a stretch, from its lower edge to its upper, with its sign if a column is one event and there is room.
-    fn draw_part(
-        &mut self,
-        stretch: Stretch,
-        letter: Letter,
-        low: u32,
-        high: u32,
-        y: u32,
-    ) -> Result<(), AllocError>
-        requires y { y ≤ 19000 }
-        requires high { high ≤ 18 }
-        ensures { OnOk result (self.new ≡ self.old) }
-    {
-        let width = self.scene.width(stretch);
-        let corner = at(self.scene.start(stretch), y + 18 - high);
-        let height = high.saturating_sub(low);
-        self.out
-            .rect("r", corner, extent(width, height), Some(letter))?;
-        if self.scene.sheet.is_by_event() && width >= 12 {
-            let place = at(self.scene.middle(stretch), y + 13);
-            self.out.text("m b c l", place, letter_sign(letter))?;
-        }
-        Ok(())
-    }
-
-    /// The letters of a stretch, one on top of another, each as high as it has events.
+    /// The letters of a stretch, one on top of another, each as high as it has events, with its sign if a column is one event and
+    /// there is room.
     fn draw_parts(&mut self, stretch: Stretch, tally: &Tally, y: u32) -> Result<(), AllocError>
         requires { y ≤ 19000 }
         ensures { OnOk result (self.new ≡ self.old) }
     {
         let events = self.scene.head(stretch.from).events;
+        let (x, width) = (self.scene.start(stretch), self.scene.width(stretch));
+        let sign_at = at(self.scene.middle(stretch), y + 13);
+        let is_signed = self.scene.sheet.is_by_event() && width >= 12;
         let mut below: u64 = 0;
         for letter in STACK.iter() {
             let count = count_of(tally, events, *letter);
@@ -205,7 +185,12 @@ impl<'s, 'a> Drawing<'s, 'a> {
                 let low = part_of(18, below, events);
                 below = plus(below, count);
                 let high = part_of(18, below, events);
-                self.draw_part(stretch, *letter, low, high, y)?;
+                let size = extent(width, high.saturating_sub(low));
+                self.out
+                    .rect("r", at(x, y + 18 - high), size, Some(*letter))?;
+                if is_signed {
+                    self.out.text("m b c l", sign_at, letter_sign(*letter))?;
+                }
             }
         }
         Ok(())
@@ -225,12 +210,8 @@ impl<'s, 'a> Drawing<'s, 'a> {
             return Ok(());
         }
         self.begin_span(stretch)?;
-        put_letters(
-            &mut self.out,
-            &tally,
-            events,
-            self.scene.sheet.is_by_event(),
-        )?;
+        let single = self.scene.sheet.is_by_event();
+        put_letters(&mut self.out, &tally, events, single)?;
         self.out.end(Element::Title)?;
         self.draw_parts(stretch, &tally, y)?;
         self.out.end(Element::Group)
@@ -249,12 +230,8 @@ impl<'s, 'a> Drawing<'s, 'a> {
             return Ok(());
         }
         let corner = at(self.scene.start(stretch), y + 1);
-        self.out.rect(
-            "r",
-            corner,
-            extent(self.scene.width(stretch), 10),
-            Some(letter),
-        )
+        let size = extent(self.scene.width(stretch), 10);
+        self.out.rect("r", corner, size, Some(letter))
     }
 
     /// The bar of a stretch.

@@ -24,30 +24,19 @@ fn most_waiting(scene: &Scene<'_, '_>, unit: u8) -> u64 {
     most
 }
 
-/// How many requests of a unit were answered ok, of how many.
-fn count_answers(requests: &[Request], unit: u8) -> (u64, u64) {
-    let mut ok: u64 = 0;
-    let mut all: u64 = 0;
+/// How many requests of a unit were answered ok, of how many, and how long one of them waited at most.
+fn count_answers(requests: &[Request], unit: u8) -> (u64, u64, u64) {
+    let (mut ok, mut all, mut longest): (u64, u64, u64) = (0, 0, 0);
     for request in requests.iter() {
         if request.unit == unit {
             all = plus(all, 1);
+            longest = longest.max(request.queued());
             if matches!(request.outcome, Outcome::Ok) {
                 ok = plus(ok, 1);
             }
         }
     }
-    (ok, all)
-}
-
-/// How long a request of a unit waited at most.
-fn longest_wait(requests: &[Request], unit: u8) -> u64 {
-    let mut longest = 0;
-    for request in requests.iter() {
-        if request.unit == unit {
-            longest = longest.max(request.queued());
-        }
-    }
-    longest
+    (ok, all, longest)
 }
 
 /// The group of a drive begins, with its tooltip and its name.
@@ -75,7 +64,7 @@ impl<'s, 'a> Drawing<'s, 'a> {
         ensures { OnOk result (self.new ≡ self.old) }
     {
         let beside = self.scene.frame.beside();
-        self.out.text_number("m e", at(beside + 36, y), number)?;
+        self.out.text_with("m e", at(beside + 36, y), "", number)?;
         self.out.text("q", at(beside + 44, y), word)
     }
 
@@ -97,26 +86,7 @@ impl<'s, 'a> Drawing<'s, 'a> {
         self.draw_all_bars(Track::Positioning(adapter), y)
     }
 
-    /// The time of a request in hand as a bracket, and its id if there is room.
-    fn draw_time(&mut self, request: &Request, y: u32) -> Result<(), AllocError>
-        requires { y ≤ 19000 }
-        ensures { OnOk result (self.new ≡ self.old) }
-    {
-        let x = self.scene.hand(request);
-        let width = self.scene.end(request).saturating_sub(x);
-        let id = u64::from(request.id);
-        if width > 0 {
-            let from = at(x, y + 11);
-            let size = extent(width.saturating_sub(2), 0);
-            self.out.path("k", Route::Bracket { from, size })?;
-        }
-        if width >= width_of(id).saturating_add(4) {
-            self.out.text_number("m", at(x + 2, y + 5), id)?;
-        }
-        Ok(())
-    }
-
-    /// The requests in hand, if a column is one event.
+    /// The requests in hand, if a column is one event: the time of each as a bracket, and its id if there is room.
     fn draw_in_hand(&mut self, unit: u8, y: u32) -> Result<(), AllocError>
         requires { y ≤ 19000 }
         ensures { OnOk result (self.new ≡ self.old) }
@@ -124,7 +94,17 @@ impl<'s, 'a> Drawing<'s, 'a> {
         self.out.text("q e", at(LABEL, y + 8), "in hand")?;
         for request in self.scene.sheet.run.requests().iter() {
             if request.unit == unit && is_shown(self.scene.sheet, request) {
-                self.draw_time(request, y)?;
+                let x = self.scene.hand(request);
+                let width = self.scene.end(request).saturating_sub(x);
+                let id = u64::from(request.id);
+                if width > 0 {
+                    let from = at(x, y + 11);
+                    let size = extent(width.saturating_sub(2), 0);
+                    self.out.path("k", Route::Bracket { from, size })?;
+                }
+                if width >= width_of(id).saturating_add(4) {
+                    self.out.text_with("m", at(x + 2, y + 5), "", id)?;
+                }
             }
         }
         Ok(())
@@ -162,10 +142,9 @@ impl<'s, 'a> Drawing<'s, 'a> {
         ensures { OnOk result (self.new ≡ self.old) }
     {
         let requests = self.scene.sheet.run.requests();
-        let (ok, all) = count_answers(requests, unit);
-        let longest = longest_wait(requests, unit);
+        let (ok, all, longest) = count_answers(requests, unit);
         let beside = self.scene.frame.beside();
-        self.out.text_number("m e", at(beside + 36, y), ok)?;
+        self.out.text_with("m e", at(beside + 36, y), "", ok)?;
         self.out.text_with("q", at(beside + 44, y), "ok, of ", all)?;
         self.draw_total(y + 13, longest, "events queued at most")?;
         match self.scene.sheet.run.drives().get(usize::from(unit)) {

@@ -5,190 +5,141 @@ ghost use Rattle.picture_svg.specs.Legend.{explained};
 ghost use Rattle.picture_svg.specs.Nesting.{with_letter};
 
 use crate::markup::Markup;
+use crate::pieces::Sign::{Diamond, Tick, Triangle};
 use crate::pieces::{Route, Sign, at, extent};
+use Shape::{Bar, Dot, Line, Path, Plain, Trouble};
+use drive_pictures::Letter::{
+    Arrived, Moved, Moves, Offsets, Ready, Recalibrates, Replaces, Retries, Seeks, Turns,
+};
 use drive_pictures::{Letter, letter_sign};
 use std::alloc::AllocError;
 
 /// The letters, in two rows.
-const UPPER: [Letter; 5] = [
-    Letter::Seeks,
-    Letter::Turns,
-    Letter::Recalibrates,
-    Letter::Offsets,
-    Letter::Arrived,
-];
+const UPPER: [Letter; 5] = [Seeks, Turns, Recalibrates, Offsets, Arrived];
 
-const LOWER: [Letter; 5] = [
-    Letter::Ready,
-    Letter::Moves,
-    Letter::Retries,
-    Letter::Replaces,
-    Letter::Moved,
-];
+const LOWER: [Letter; 5] = [Ready, Moves, Retries, Replaces, Moved];
 
-/// A sign of the legend: its class, the sign, its place, how wide it is, and what it says.
+/// What stands beside words of the legend: a sign of trouble or another sign, a path, a dot, a line or a bar.
 #[derive(Clone, Copy)]
-struct Known(&'static str, &'static str, u16, u16, u8, &'static str);
-
-/// The signs that are letters.
-static SIGNS: [Known; 18] = [
-    Known("m x", "B", 370, 122, 10, "burst, repaired"),
-    Known("m x", "E", 484, 122, 10, "not repairable"),
-    Known("m x", "F", 592, 122, 10, "fault"),
-    Known("m x", "M", 646, 122, 10, "marked"),
-    Known("m x", "x", 706, 122, 10, "offline"),
-    Known("m x", "X", 766, 122, 10, "stopped"),
-    Known("m x", "7", 832, 122, 10, "try 7 failed"),
-    Known("m b", "n", 16, 139, 10, "noise armed"),
-    Known("m b", "f", 108, 139, 10, "fault armed"),
-    Known("m b", "@", 200, 139, 10, "pack turned"),
-    Known("m b", "d", 292, 139, 10, "offline"),
-    Known("m b", "u", 354, 139, 10, "online"),
-    Known("m b", "l", 416, 139, 10, "locked"),
-    Known("m b", "k", 478, 139, 10, "unlocked"),
-    Known("m b", "P", 552, 139, 10, "pack acknowledged"),
-    Known("m b", "-4", 682, 139, 16, "offset -400"),
-    Known("m x", "t", 650, 156, 10, "a try failed (little room)"),
-    Known("m b", "3", 814, 156, 10, "turn: out of the order asked"),
-];
-
-/// A letter, with its pattern, its sign and its words.
-fn draw_letter(out: &mut Markup<'_>, letter: Letter, x: u32, y: u32) -> Result<(), AllocError>
-    requires across { x ≤ 2000 }
-    requires down { y ≤ 2000 }
-    ensures { OnOk result (out.new ≡ with_letter out.old letter) }
-{
-    out.rect("r", at(x, y), extent(24, 12), Some(letter))?;
-    out.text("m b", at(x + 29, y + 10), letter_sign(letter))?;
-    out.meaning(at(x + 40, y + 10), letter)
+enum Shape {
+    Trouble(&'static str),
+    Plain(&'static str),
+    Path(&'static str, Sign),
+    Dot(&'static str),
+    Line(&'static str),
+    Bar(&'static str),
 }
 
-/// Letters, side by side.
+/// Words of the legend: their shape, where it stands on their line, how far to the right of there the words begin, and the words.
+#[derive(Clone, Copy)]
+struct Known(Shape, u16, u16, u8, &'static str);
+
+/// The signs, the lines of the arms and of the conditions, and the bars of the requests and of the adapters.
+static KNOWN: [Known; 34] = [
+    Known(Path("u", Triangle), 19, 122, 9, "attention up"),
+    Known(Path("d", Triangle), 113, 122, 9, "taken"),
+    Known(Path("d", Diamond), 165, 122, 9, "interrupt taken"),
+    Known(Dot("d"), 277, 122, 7, "sector"),
+    Known(Path("k", Tick), 334, 122, 10, "ok"),
+    Known(Trouble("B"), 370, 122, 10, "burst, repaired"),
+    Known(Trouble("E"), 484, 122, 10, "not repairable"),
+    Known(Trouble("F"), 592, 122, 10, "fault"),
+    Known(Trouble("M"), 646, 122, 10, "marked"),
+    Known(Trouble("x"), 706, 122, 10, "offline"),
+    Known(Trouble("X"), 766, 122, 10, "stopped"),
+    Known(Trouble("7"), 832, 122, 10, "try 7 failed"),
+    Known(Plain("n"), 16, 139, 10, "noise armed"),
+    Known(Plain("f"), 108, 139, 10, "fault armed"),
+    Known(Plain("@"), 200, 139, 10, "pack turned"),
+    Known(Plain("d"), 292, 139, 10, "offline"),
+    Known(Plain("u"), 354, 139, 10, "online"),
+    Known(Plain("l"), 416, 139, 10, "locked"),
+    Known(Plain("k"), 478, 139, 10, "unlocked"),
+    Known(Plain("P"), 552, 139, 10, "pack acknowledged"),
+    Known(Plain("-4"), 682, 139, 16, "offset -400"),
+    Known(Trouble("t"), 650, 156, 10, "a try failed (little room)"),
+    Known(Plain("3"), 814, 156, 10, "turn: out of the order asked"),
+    Known(Dot("u"), 782, 139, 8, "asked for, at its cylinder"),
+    Known(Line("p"), 16, 156, 29, "the arm"),
+    Known(Line("z"), 104, 156, 29, "the order of asking"),
+    Known(Line("w"), 264, 156, 29, "a request waits"),
+    Known(Line("f"), 398, 156, 29, "offline"),
+    Known(Line("j"), 480, 156, 29, "locked"),
+    Known(Line("k"), 562, 156, 29, "in hand"),
+    Known(Bar("w a"), 16, 173, 29, "a read waits"),
+    Known(Bar("w y"), 122, 173, 29, "a write waits"),
+    Known(Bar("v"), 232, 173, 29, "asked for"),
+    Known(Bar("n"), 326, 173, 29, "drives positioning"),
+];
+
+/// Letters, side by side, each with its pattern, its sign and its words.
 fn draw_letters(out: &mut Markup<'_>, letters: &[Letter], y: u32) -> Result<(), AllocError>
     requires { y ≤ 2000 }
     ensures { OnOk result (out.new ≡ fold with_letter out.old letters.now) }
 {
     let mut x: u32 = 16;
     for letter in letters.iter() {
-        draw_letter(out, *letter, x.min(2_000), y)?;
-        x = x.saturating_add(170);
+        let left = x.min(2_000);
+        out.rect("r", at(left, y), extent(24, 12), Some(*letter))?;
+        out.text("m b", at(left + 29, y + 10), letter_sign(*letter))?;
+        out.meaning(at(left + 40, y + 10), *letter)?;
+        x = left + 170;
     }
     Ok(())
 }
 
-/// A sign of the marks that is a path, with its words.
-fn draw_path(
-    out: &mut Markup<'_>,
-    class: &'static str,
-    sign: Sign,
-    x: u32,
-    y: u32,
-    words_at: u32,
-    words: &'static str,
-) -> Result<(), AllocError>
+/// How far above the line of its words a path begins.
+fn rise_of(sign: Sign) -> u32 {
+    match sign {
+        Tick => 4,
+        Diamond => 8,
+        Triangle => 7,
+    }
+}
+
+/// A shape of the legend, on the line of its words.
+fn draw_shape(out: &mut Markup<'_>, shape: Shape, x: u32, y: u32) -> Result<(), AllocError>
     requires across { x ≤ 2000 }
     requires down { y ≤ 2000 }
-    requires words { words_at ≤ 2000 }
     ensures { OnOk result (out.new ≡ out.old) }
 {
-    let from = at(x, y);
-    out.path(class, Route::Sign { from, sign })?;
-    out.text("", at(words_at, 122), words)
+    match shape {
+        Trouble(sign) => out.text("m x", at(x, y), sign),
+        Plain(sign) => out.text("m b", at(x, y), sign),
+        Path(class, sign) => {
+            let from = at(x, y.saturating_sub(rise_of(sign)));
+            out.path(class, Route::Sign { from, sign })
+        }
+        Dot(class) => out.dot(class, at(x, y.saturating_sub(4))),
+        Line(class) => {
+            let y = y.saturating_sub(4);
+            let (from, to) = (at(x, y), at(x + 24, y));
+            out.path(class, Route::Across { from, to })
+        }
+        Bar(class) => out.rect(class, at(x, y.saturating_sub(10)), extent(24, 10), None),
+    }
 }
 
-/// A sign that is a letter, with its words.
-fn draw_sign(out: &mut Markup<'_>, known: Known) -> Result<(), AllocError>
+/// Words of the legend, each beside its shape.
+fn draw_known(out: &mut Markup<'_>, all: &[Known]) -> Result<(), AllocError>
     ensures { OnOk result (out.new ≡ out.old) }
 {
-    let Known(class, sign, x, y, width, words) = known;
-    let x = u32::from(x).min(2_000);
-    let y = u32::from(y).min(2_000);
-    out.text(class, at(x, y), sign)?;
-    out.text("", at(x + u32::from(width), y), words)
-}
-
-/// The signs that are letters.
-fn draw_signs(out: &mut Markup<'_>, signs: &[Known]) -> Result<(), AllocError>
-    ensures { OnOk result (out.new ≡ out.old) }
-{
-    for known in signs.iter() {
-        draw_sign(out, *known)?;
+    for known in all.iter() {
+        let Known(shape, x, y, across, words) = *known;
+        let (x, y) = (u32::from(x).min(2_000), u32::from(y).min(2_000));
+        draw_shape(out, shape, x, y)?;
+        out.text("", at(x + u32::from(across), y), words)?;
     }
     Ok(())
-}
-
-/// A line of the legend, with its words.
-fn draw_line(
-    out: &mut Markup<'_>,
-    class: &'static str,
-    x: u32,
-    words: &'static str,
-) -> Result<(), AllocError>
-    requires { x ≤ 2000 }
-    ensures { OnOk result (out.new ≡ out.old) }
-{
-    let from = at(x, 152);
-    let to = at(x + 24, 152);
-    out.path(class, Route::Across { from, to })?;
-    out.text("", at(x + 29, 156), words)
-}
-
-/// The lines of the arms and of the conditions.
-fn draw_lines(out: &mut Markup<'_>) -> Result<(), AllocError>
-    ensures { OnOk result (out.new ≡ out.old) }
-{
-    draw_line(out, "p", 16, "the arm")?;
-    draw_line(out, "z", 104, "the order of asking")?;
-    draw_line(out, "w", 264, "a request waits")?;
-    draw_line(out, "f", 398, "offline")?;
-    draw_line(out, "j", 480, "locked")?;
-    draw_line(out, "k", 562, "in hand")
-}
-
-/// A box of the legend, with its words.
-fn draw_box(
-    out: &mut Markup<'_>,
-    class: &'static str,
-    x: u32,
-    words: &'static str,
-) -> Result<(), AllocError>
-    requires { x ≤ 2000 }
-    ensures { OnOk result (out.new ≡ out.old) }
-{
-    out.rect(class, at(x, 163), extent(24, 10), None)?;
-    out.text("", at(x + 29, 173), words)
-}
-
-/// The boxes of the requests and of the adapters, and the unit of the table.
-fn draw_boxes(out: &mut Markup<'_>) -> Result<(), AllocError>
-    ensures { OnOk result (out.new ≡ out.old) }
-{
-    draw_box(out, "w a", 16, "a read waits")?;
-    draw_box(out, "w y", 122, "a write waits")?;
-    draw_box(out, "v", 232, "asked for")?;
-    draw_box(out, "n", 326, "drives positioning")?;
-    out.text(
-        "q",
-        at(470, 173),
-        "numbers of the table are events; done are sectors",
-    )
 }
 
 /// The legend.
 pub fn draw_legend(out: &mut Markup<'_>) -> Result<(), AllocError>
     ensures { OnOk result (out.new ≡ fold with_letter out.old explained) }
 {
+    let unit = "numbers of the table are events; done are sectors";
     draw_letters(out, &UPPER, 78)?;
     draw_letters(out, &LOWER, 95)?;
-    draw_path(out, "u", Sign::Triangle, 19, 115, 28, "attention up")?;
-    draw_path(out, "d", Sign::Triangle, 113, 115, 122, "taken")?;
-    draw_path(out, "d", Sign::Diamond, 165, 114, 174, "interrupt taken")?;
-    out.dot("d", at(277, 118))?;
-    out.text("", at(284, 122), "sector")?;
-    draw_path(out, "k", Sign::Tick, 334, 118, 344, "ok")?;
-    draw_signs(out, &SIGNS)?;
-    out.dot("u", at(782, 135))?;
-    out.text("", at(790, 139), "asked for, at its cylinder")?;
-    draw_lines(out)?;
-    draw_boxes(out)
+    draw_known(out, &KNOWN)?;
+    out.text("q", at(470, 173), unit)
 }

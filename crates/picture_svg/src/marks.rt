@@ -23,16 +23,12 @@ enum Shape {
     Sign,
     /// As a sign with the hundreds of an offset.
     Offset,
-    /// As a dot, and as a tick.
+    /// As a dot.
     Dot,
-    Tick,
     /// As the number of a try.
     Try,
-    /// As a diamond.
-    Diamond,
-    /// As a triangle, full or hollow.
-    Full,
-    Hollow,
+    /// As a path of a class, so far to the left and below.
+    Path(&'static str, u8, u8, Sign),
 }
 
 /// How a mark is drawn.
@@ -54,7 +50,7 @@ fn mark_shape(mark: Mark, roomy: bool) -> Shape {
         | Mark::Online
         | Mark::Offline => Shape::Sign,
         Mark::SectorMoved if roomy => Shape::Dot,
-        Mark::Answered if roomy => Shape::Tick,
+        Mark::Answered if roomy => Shape::Path("k", 3, 6, Sign::Tick),
         _ => Shape::Nothing,
     }
 }
@@ -63,27 +59,11 @@ fn mark_shape(mark: Mark, roomy: bool) -> Shape {
 fn signal_shape(signal: Mark, roomy: bool) -> Shape {
     match signal {
         Mark::TryFailed => Shape::Try,
-        Mark::InterruptTaken if roomy => Shape::Diamond,
-        Mark::AttentionTaken if roomy => Shape::Full,
-        Mark::AttentionUp if roomy => Shape::Hollow,
+        Mark::InterruptTaken if roomy => Shape::Path("d", 0, 12, Sign::Diamond),
+        Mark::AttentionTaken if roomy => Shape::Path("d", 0, 13, Sign::Triangle),
+        Mark::AttentionUp if roomy => Shape::Path("u", 0, 13, Sign::Triangle),
         _ => Shape::Nothing,
     }
-}
-
-/// A sign at a place.
-fn draw_sign(
-    out: &mut Markup<'_>,
-    class: &'static str,
-    x: u32,
-    y: u32,
-    sign: Sign,
-) -> Result<(), AllocError>
-    requires across { x ≤ 2000 }
-    requires down { y ≤ 19100 }
-    ensures { OnOk result (out.new ≡ out.old) }
-{
-    let from = at(x, y);
-    out.path(class, Route::Sign { from, sign })
 }
 
 /// A mark or a signal of a column.
@@ -107,12 +87,12 @@ fn draw_shape(
         Shape::Offset => out.text("m b c", at(x, y + 9), sign),
         Shape::Sign => out.text("m b c", at(x, y + 9), sign),
         Shape::Dot => out.dot("d", at(x, y + 6)),
-        Shape::Tick => draw_sign(out, "k", x.saturating_sub(3), y + 6, Sign::Tick),
         Shape::Try if !wide => out.text("m c x", at(x, y + 20), mark_sign(Mark::TryFailed)),
-        Shape::Try => out.text_number("m c x", at(x, y + 20), u64::from(cell.tried)),
-        Shape::Diamond => draw_sign(out, "d", x, y + 12, Sign::Diamond),
-        Shape::Full => draw_sign(out, "d", x, y + 13, Sign::Triangle),
-        Shape::Hollow => draw_sign(out, "u", x, y + 13, Sign::Triangle),
+        Shape::Try => out.text_with("m c x", at(x, y + 20), "", u64::from(cell.tried)),
+        Shape::Path(class, left, down, sign) => {
+            let from = at(x.saturating_sub(u32::from(left)), y + u32::from(down));
+            out.path(class, Route::Sign { from, sign })
+        }
     }
 }
 
@@ -167,22 +147,13 @@ impl<'s, 'a> Drawing<'s, 'a> {
     {
         let x = self.scene.frame.x(column);
         let width = self.scene.frame.column.min(40);
-        draw_shape(
-            &mut self.out,
+        let wide = width >= 14;
+        let (mark, signal) = (
             mark_shape(cell.mark, roomy),
-            cell,
-            width >= 14,
-            x,
-            y,
-        )?;
-        draw_shape(
-            &mut self.out,
             signal_shape(cell.signal, roomy),
-            cell,
-            width >= 14,
-            x,
-            y,
-        )?;
+        );
+        draw_shape(&mut self.out, mark, cell, wide, x, y)?;
+        draw_shape(&mut self.out, signal, cell, wide, x, y)?;
         let corner = at(x.saturating_sub(width / 2), y);
         self.out.rect("o", corner, extent(width, 22), None)
     }
@@ -253,25 +224,6 @@ impl<'s, 'a> Drawing<'s, 'a> {
         }
     }
 
-    /// The marks of a column of several events, if it has some.
-    fn draw_column(&mut self, unit: u8, column: usize, y: u32) -> Result<(), AllocError>
-        requires { y ≤ 19000 }
-        ensures { OnOk result (self.new ≡ self.old) }
-    {
-        let cell = self.scene.cell(unit, column);
-        if !has_shape(&cell, false) {
-            return Ok(());
-        }
-        let stretch = Stretch {
-            from: column,
-            to: column.saturating_add(1),
-        };
-        self.begin_span(stretch)?;
-        self.out.end(Element::Title)?;
-        self.draw_shapes(&cell, column, false, y)?;
-        self.out.end(Element::Group)
-    }
-
     /// The marks of each event. The last has all lines that are left.
     fn draw_by_event(&mut self, unit: u8, y: u32) -> Result<(), AllocError>
         requires { y ≤ 19000 }
@@ -288,13 +240,20 @@ impl<'s, 'a> Drawing<'s, 'a> {
         self.draw_event_marks(unit, last, &notes[from..], y)
     }
 
-    /// The marks of each column of several events.
+    /// The marks of each column of several events that has some.
     fn draw_by_column(&mut self, unit: u8, y: u32) -> Result<(), AllocError>
         requires { y ≤ 19000 }
         ensures { OnOk result (self.new ≡ self.old) }
     {
-        for column in 0..self.scene.columns().len() {
-            self.draw_column(unit, column, y)?;
+        for from in 0..self.scene.columns().len() {
+            let cell = self.scene.cell(unit, from);
+            if has_shape(&cell, false) {
+                let to = from.saturating_add(1);
+                self.begin_span(Stretch { from, to })?;
+                self.out.end(Element::Title)?;
+                self.draw_shapes(&cell, from, false, y)?;
+                self.out.end(Element::Group)?;
+            }
         }
         Ok(())
     }

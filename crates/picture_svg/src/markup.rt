@@ -157,7 +157,7 @@ impl<'a> Markup<'a> {
         ])
     }
 
-    /// Puts words and a number after them, at a place.
+    /// Puts words, which may be none, and a number after them, at a place.
     pub fn text_with(
         &mut self,
         class: &'static str,
@@ -174,19 +174,6 @@ impl<'a> Markup<'a> {
             Piece::Number(number),
             Piece::End(Element::Text),
         ])
-    }
-
-    /// Puts a number at a place.
-    pub fn text_number(
-        &mut self,
-        class: &'static str,
-        at: Point,
-        number: u64,
-    ) -> Result<(), AllocError>
-        requires { is_low at ≡ true }
-        ensures { OnOk result (self.new ≡ self.old) }
-    {
-        self.text_with(class, at, "", number)
     }
 
     /// The text of the drawing.

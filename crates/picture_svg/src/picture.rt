@@ -1,7 +1,8 @@
 //! The whole picture.
 
-ghost use Rattle.std.specs.Prelude.{◌≡◌, ◌≤◌, ◌+◌, length, IfOk, OnOk};
+ghost use Rattle.std.specs.Prelude.{◌≡◌, ◌≤◌, ◌+◌, ◌/◌, length, IfOk, OnOk};
 ghost use Rattle.picture_svg.specs.Nesting.{captioned};
+ghost use Rattle.picture_svg.specs.Scales.{is_other, top_of, below_of, bottom_of};
 ghost use Rattle.picture_svg.specs.Pictures.{caption_of, lines_of_lane, lines_of_lanes, telling, with_all, IsPicture};
 
 use crate::legend::draw_legend;
@@ -37,7 +38,9 @@ struct Place {
 
 impl Place {
     /// Whether a drive stands on another adapter than the drive before it.
-    fn is_first(&self, lane: &Lane) -> bool {
+    fn is_first(&self, lane: &Lane) -> bool
+        ensures { result ≡ is_other self.now.adapter (lane.now.unit / 8) }
+    {
         match self.adapter {
             Some(adapter) => adapter != lane.unit / 8,
             None => true,
@@ -45,9 +48,11 @@ impl Place {
     }
 
     /// Where a drive stands: below its adapter, if it is the first one of that adapter.
+    #[tactic(auto, unfolding(crate::specs::Scales::top_of))]
     fn top(&self, lane: &Lane) -> u32
         requires { self.now.y ≤ 18000 }
-        ensures { result ≤ self.now.y + 50 }
+        ensures place { result ≡ top_of self.now lane.now }
+        ensures inside { result ≤ self.now.y + 50 }
     {
         if self.is_first(lane) {
             self.y + ADAPTER
@@ -57,9 +62,11 @@ impl Place {
     }
 
     /// Where the drive after a drive stands.
+    #[tactic(auto, unfolding(crate::specs::Scales::below_of))]
     fn below(&self, lane: &Lane) -> Place
         requires { self.now.y ≤ 18000 }
-        ensures { result.y ≤ self.now.y + 401 }
+        ensures place { result ≡ below_of self.now lane.now }
+        ensures inside { result.y ≤ self.now.y + 401 }
     {
         let height = (96 + u32::from(lane.chart)).max(112);
         Place {
@@ -76,9 +83,11 @@ const FIRST: Place = Place {
 };
 
 /// Where the drives end.
+#[tactic(auto, unfolding(crate::specs::Scales::bottom_of))]
 fn bottom_of(lanes: &[Lane]) -> u32
     requires { length lanes.now ≤ 32 }
-    ensures { result ≤ 13152 }
+    ensures place { result ≡ bottom_of lanes.now }
+    ensures inside { result ≤ 13152 }
 {
     let mut place = FIRST;
     for lane in lanes.iter() {
@@ -118,13 +127,10 @@ fn draw_head<'a>(
     ensures { OnOk result (out.new ≡ captioned (caption_of sheet.now) out.old) }
 {
     let [first, second, third, fourth] = *sentences;
-    let place = at(16, 28);
+    let (class, at) = ("h", at(16, 28));
     let caption = caption_of(sheet);
     out.put_all(&[
-        Piece::Start(Start::Text {
-            class: "h",
-            at: place,
-        }),
+        Piece::Start(Start::Text { class, at }),
         Piece::Caption(caption),
         Piece::End(Element::Text),
     ])?;
@@ -137,7 +143,8 @@ impl<'s, 'a> Drawing<'s, 'a> {
     fn draw_drive(&mut self, place: Place, lane: &Lane) -> Result<Place, AllocError>
         requires { place.y ≤ 18000 }
         ensures told { OnOk result (self.new ≡ telling (lines_of_lane self.old.scene.sheet.now lane.now) self.old) }
-        ensures below { IfOk result (λ next. next.y ≤ place.y + 401) }
+        ensures below { IfOk result (λ next. next ≡ below_of place lane.now) }
+        ensures inside { IfOk result (λ next. next.y ≤ place.y + 401) }
     {
         if place.is_first(lane) {
             self.draw_adapter(lane.unit / 8, place.y)?;

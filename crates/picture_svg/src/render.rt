@@ -2,8 +2,7 @@
 
 ghost use Rattle.std.specs.Prelude.{◌≡◌, ◌++◌, [], fold, codes, decimal, IfOk, OnOk};
 ghost use Rattle.picture_svg.specs.Legend.{pattern_of};
-ghost use Rattle.picture_svg.specs.declared.pieces.Start.TheVariants.{Svg};
-ghost use Rattle.picture_svg.specs.Texts.{with_byte, with_words, with_class, with_key, with_leg, with_point, with_part, with_start, with_end, with_fill, with_rect, with_dot, way_of, with_route, with_path, with_request, with_line, with_style, with_piece};
+ghost use Rattle.picture_svg.specs.Texts.{with_byte, with_words, with_leg, with_part, with_start, with_end, with_fill, with_rect, with_dot, way_of, with_route, with_path, with_request, with_line, with_style, with_piece};
 
 use crate::pieces::{Element, Piece, Point, Route, Sign, Size, Start};
 use crate::style::STYLE;
@@ -73,48 +72,18 @@ fn put_words(out: &mut Vec<u8>, bytes: &[u8]) -> Result<(), AllocError>
     Ok(())
 }
 
-/// Puts the class of an element.
-fn put_class(out: &mut Vec<u8>, class: &str) -> Result<(), AllocError>
-    ensures { OnOk result (out.new.items ≡ with_class class.now out.old.items) }
+/// Puts words, and a number.
+fn put_leg(out: &mut Vec<u8>, words: &str, number: u32) -> Result<(), AllocError>
+    ensures { OnOk result (out.new.items ≡ with_leg words.now number out.old.items) }
 {
-    put(out, " class=\"")?;
-    put(out, class)?;
-    put(out, "\"")
-}
-
-/// Puts an attribute with a number.
-fn put_key(out: &mut Vec<u8>, key: &str, number: u32) -> Result<(), AllocError>
-    ensures { OnOk result (out.new.items ≡ with_key key.now number out.old.items) }
-{
-    put(out, " ")?;
-    put(out, key)?;
-    put(out, "=\"")?;
-    put_number(out, u64::from(number))?;
-    put(out, "\"")
-}
-
-/// Puts words or a letter of a path, and a number.
-fn put_leg(out: &mut Vec<u8>, letter: &str, number: u32) -> Result<(), AllocError>
-    ensures { OnOk result (out.new.items ≡ with_leg letter.now number out.old.items) }
-{
-    put(out, letter)?;
+    put(out, words)?;
     put_number(out, u64::from(number))
 }
 
-/// Puts a letter of a path, and a point.
-fn put_point(out: &mut Vec<u8>, letter: &str, point: Point) -> Result<(), AllocError>
-    ensures { OnOk result (out.new.items ≡ with_point letter.now point out.old.items) }
-{
-    put_leg(out, letter, point.x)?;
-    put_leg(out, " ", point.y)
-}
-
-/// A part of an element: words as they are, its class, an attribute, a letter of a path with a number, or with a point.
+/// A part of an element: words as they are, with a number, or with a point.
 #[derive(Clone, Copy)]
 enum Part<'a> {
     Words(&'a str),
-    Class(&'a str),
-    Key(&'a str, u32),
     Leg(&'a str, u32),
     Point(&'a str, Point),
 }
@@ -125,10 +94,11 @@ fn put_part(out: &mut Vec<u8>, part: Part<'_>) -> Result<(), AllocError>
 {
     match part {
         Part::Words(words) => put(out, words),
-        Part::Class(class) => put_class(out, class),
-        Part::Key(key, number) => put_key(out, key, number),
-        Part::Leg(letter, number) => put_leg(out, letter, number),
-        Part::Point(letter, point) => put_point(out, letter, point),
+        Part::Leg(words, number) => put_leg(out, words, number),
+        Part::Point(words, point) => {
+            put_leg(out, words, point.x)?;
+            put_leg(out, " ", point.y)
+        }
     }
 }
 
@@ -142,31 +112,23 @@ fn put_parts(out: &mut Vec<u8>, parts: &[Part<'_>]) -> Result<(), AllocError>
     Ok(())
 }
 
-/// Puts the start of the drawing.
-#[tactic(auto, unfolding(crate::specs::Texts::with_start))]
-fn put_svg(out: &mut Vec<u8>, size: Size) -> Result<(), AllocError>
-    ensures { OnOk result (out.new.items ≡ with_start (Svg size) out.old.items) }
-{
-    put_parts(
-        out,
-        &[
-            Part::Words("<svg xmlns=\"http://www.w3.org/2000/svg\""),
-            Part::Key("width", size.width),
-            Part::Key("height", size.height),
-            Part::Leg(" viewBox=\"0 0 ", size.width),
-            Part::Leg(" ", size.height),
-            Part::Words("\" role=\"graphics-document document\" aria-labelledby=\"t d\">\n"),
-        ],
-    )
-}
-
 /// Puts the start of an element.
 #[tactic(auto, unfolding(crate::specs::Texts::with_start))]
 fn put_start(out: &mut Vec<u8>, start: Start) -> Result<(), AllocError>
     ensures { OnOk result (out.new.items ≡ with_start start out.old.items) }
 {
     match start {
-        Start::Svg { size } => put_svg(out, size),
+        Start::Svg { size } => put_parts(
+            out,
+            &[
+                Part::Words("<svg xmlns=\"http://www.w3.org/2000/svg"),
+                Part::Leg("\" width=\"", size.width),
+                Part::Leg("\" height=\"", size.height),
+                Part::Leg("\" viewBox=\"0 0 ", size.width),
+                Part::Leg(" ", size.height),
+                Part::Words("\" role=\"graphics-document document\" aria-labelledby=\"t d\">\n"),
+            ],
+        ),
         Start::Group => put(out, "<g>"),
         Start::Title => put(out, "<title>"),
         Start::Caption => put(out, "<title id=\"t\">"),
@@ -174,28 +136,26 @@ fn put_start(out: &mut Vec<u8>, start: Start) -> Result<(), AllocError>
         Start::Text { class, at } => put_parts(
             out,
             &[
-                Part::Words("<text"),
-                Part::Class(class),
-                Part::Key("x", at.x),
-                Part::Key("y", at.y),
-                Part::Words(">"),
+                Part::Words("<text class=\""),
+                Part::Words(class),
+                Part::Leg("\" x=\"", at.x),
+                Part::Leg("\" y=\"", at.y),
+                Part::Words("\">"),
             ],
         ),
         Start::Upwards { at } => put_parts(
             out,
             &[
-                Part::Words("<text"),
-                Part::Class("m"),
-                Part::Point(" transform=\"translate(", at),
+                Part::Point("<text class=\"m\" transform=\"translate(", at),
                 Part::Words(")rotate(-90)\">"),
             ],
         ),
         Start::Line { class, at } => put_parts(
             out,
             &[
-                Part::Words("<polyline"),
-                Part::Class(class),
-                Part::Leg(" points=\"", at.x),
+                Part::Words("<polyline class=\""),
+                Part::Words(class),
+                Part::Leg("\" points=\"", at.x),
                 Part::Leg(",", at.y),
             ],
         ),
@@ -248,12 +208,13 @@ fn put_rect(
     put_parts(
         out,
         &[
-            Part::Words("<rect"),
-            Part::Class(class),
-            Part::Key("x", corner.x),
-            Part::Key("y", corner.y),
-            Part::Key("width", size.width),
-            Part::Key("height", size.height),
+            Part::Words("<rect class=\""),
+            Part::Words(class),
+            Part::Leg("\" x=\"", corner.x),
+            Part::Leg("\" y=\"", corner.y),
+            Part::Leg("\" width=\"", size.width),
+            Part::Leg("\" height=\"", size.height),
+            Part::Words("\""),
         ],
     )?;
     put_fill(out, fill)?;
@@ -268,11 +229,11 @@ fn put_dot(out: &mut Vec<u8>, class: &str, middle: Point) -> Result<(), AllocErr
     put_parts(
         out,
         &[
-            Part::Words("<circle"),
-            Part::Class(class),
-            Part::Key("cx", middle.x),
-            Part::Key("cy", middle.y),
-            Part::Words(" r=\"2\"/>\n"),
+            Part::Words("<circle class=\""),
+            Part::Words(class),
+            Part::Leg("\" cx=\"", middle.x),
+            Part::Leg("\" cy=\"", middle.y),
+            Part::Words("\" r=\"2\"/>\n"),
         ],
     )
 }
@@ -330,9 +291,9 @@ fn put_path(out: &mut Vec<u8>, class: &str, route: Route) -> Result<(), AllocErr
     put_parts(
         out,
         &[
-            Part::Words("<path"),
-            Part::Class(class),
-            Part::Words(" d=\""),
+            Part::Words("<path class=\""),
+            Part::Words(class),
+            Part::Words("\" d=\""),
         ],
     )?;
     put_route(out, route)?;

@@ -1,9 +1,9 @@
 //! What is drawn, and where.
 
-ghost use Rattle.std.specs.Prelude.{◌≡◌, ◌≤◌, ◌*◌, length, decimal, map, IfOk};
+ghost use Rattle.std.specs.Prelude.{◌≡◌, ◌≤◌, ◌+◌, ◌*◌, length, decimal, map, IfOk};
 ghost use Rattle.run_plan.specs.Units.{units_shown};
 ghost use Rattle.picture_svg.specs.Pictures.{unit_of};
-ghost use Rattle.picture_svg.specs.Scales.{frame_of, place_of, part_of, column_at, cell_of};
+ghost use Rattle.picture_svg.specs.Scales.{frame_of, place_of, right_of, beside_of, event_at, start_of, width_of, middle_of, hand_of, end_of, part_of, column_at, cell_of};
 
 use crate::markup::Markup;
 use drive_pictures::{Cell, Request};
@@ -88,22 +88,27 @@ impl Frame {
     }
 
     /// The right edge of the columns.
+    #[tactic(auto, unfolding(crate::specs::Scales::right_of))]
     pub fn right(&self) -> u32
-        ensures { result ≤ 1024 }
+        ensures place { result ≡ right_of self.now }
+        ensures inside { result ≤ 1024 }
     {
         self.x(self.count)
     }
 
     /// The left edge of what stands beside the columns.
+    #[tactic(auto, unfolding(crate::specs::Scales::beside_of))]
     pub fn beside(&self) -> u32
-        ensures { result ≤ 1040 }
+        ensures place { result ≡ beside_of self.now }
+        ensures inside { result ≤ 1040 }
     {
         self.right().max(690) + 16
     }
 
     /// The width of the picture.
     pub fn width(&self) -> u32
-        ensures { result ≤ 1314 }
+        ensures place { result ≡ beside_of self.now + 274 }
+        ensures inside { result ≤ 1314 }
     {
         self.beside() + 274
     }
@@ -203,22 +208,28 @@ impl<'s, 'a> Scene<'s, 'a> {
     }
 
     /// Where an event stands.
+    #[tactic(auto, unfolding(crate::specs::Scales::event_at))]
     pub fn at(&self, event: u64) -> u32
-        ensures { result ≤ 1024 }
+        ensures place { result ≡ event_at self.now event }
+        ensures inside { result ≤ 1024 }
     {
         self.frame.x(self.sheet.column_of(event))
     }
 
     /// Where a stretch begins.
+    #[tactic(auto, unfolding(crate::specs::Scales::start_of))]
     pub fn start(&self, stretch: Stretch) -> u32
-        ensures { result ≤ 1024 }
+        ensures place { result ≡ start_of self.now stretch }
+        ensures inside { result ≤ 1024 }
     {
         self.frame.x(stretch.from)
     }
 
     /// How wide a stretch is.
+    #[tactic(auto, unfolding(crate::specs::Scales::width_of))]
     pub fn width(&self, stretch: Stretch) -> u32
-        ensures { result ≤ 1024 }
+        ensures size { result ≡ width_of self.now stretch }
+        ensures inside { result ≤ 1024 }
     {
         self.frame
             .x(stretch.to)
@@ -226,21 +237,27 @@ impl<'s, 'a> Scene<'s, 'a> {
     }
 
     /// The middle of a stretch.
+    #[tactic(auto, unfolding(crate::specs::Scales::middle_of))]
     pub fn middle(&self, stretch: Stretch) -> u32
-        ensures { result ≤ 1536 }
+        ensures place { result ≡ middle_of self.now stretch }
+        ensures inside { result ≤ 1536 }
     {
         self.start(stretch) + self.width(stretch) / 2
     }
 
     /// Where a request comes to hand, and where it ends.
+    #[tactic(auto, unfolding(crate::specs::Scales::hand_of))]
     pub fn hand(&self, request: &Request) -> u32
-        ensures { result ≤ 1024 }
+        ensures place { result ≡ hand_of self.now request.now }
+        ensures inside { result ≤ 1024 }
     {
         self.at(request.in_hand.unwrap_or(0))
     }
 
+    #[tactic(auto, unfolding(crate::specs::Scales::end_of))]
     pub fn end(&self, request: &Request) -> u32
-        ensures { result ≤ 1024 }
+        ensures place { result ≡ end_of self.now request.now }
+        ensures inside { result ≤ 1024 }
     {
         self.at(request.ended.unwrap_or(0))
     }

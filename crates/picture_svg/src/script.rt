@@ -1,8 +1,6 @@
 //! The script's lines above the columns, and the numbers of the events below them.
 
 ghost use Rattle.std.specs.Prelude.{◌≡◌, ◌≤◌, ◌<◌, IfOk, OnOk};
-ghost use Rattle.picture_svg.specs.Nesting.{started};
-ghost use Rattle.picture_svg.specs.declared.pieces.Element.TheVariants.{Group};
 
 use crate::markup::Markup;
 use crate::pieces::{Element, Piece, Route, Start, at};
@@ -50,23 +48,6 @@ fn put_words<'a>(out: &mut Markup<'a>, head: &Head, words: &'a [u8]) -> Result<(
     ])
 }
 
-/// Puts a line of the script as a tooltip.
-fn put_tip<'a>(out: &mut Markup<'a>, head: &Head, words: &'a [u8]) -> Result<(), AllocError>
-    ensures { OnOk result (out.new ≡ started Group out.old) }
-{
-    let number = u64::from(head.line);
-    let idle = idle_words(head.idle);
-    out.begin_tip()?;
-    out.put_all(&[
-        Piece::Word("line "),
-        Piece::Number(number),
-        Piece::Word(": "),
-        Piece::Said(words),
-        Piece::Said(idle),
-        Piece::End(Element::Title),
-    ])
-}
-
 /// The text of the script's line at which a column begins, if it is known.
 fn words_at<'a>(scene: &Scene<'_, 'a>, column: usize) -> &'a [u8] {
     match scene.sheet.texts.get(column) {
@@ -85,35 +66,36 @@ fn draw_words<'a>(
     requires { x ≤ 1024 }
     ensures { OnOk result (out.new ≡ out.old) }
 {
-    let place = at(x + 4, AXIS - 4);
-    put_tip(out, head, words)?;
-    out.put(Piece::Start(Start::Upwards { at: place }))?;
+    let at = at(x + 4, AXIS - 4);
+    let number = u64::from(head.line);
+    let idle = idle_words(head.idle);
+    out.begin_tip()?;
+    out.put_all(&[
+        Piece::Word("line "),
+        Piece::Number(number),
+        Piece::Word(": "),
+        Piece::Said(words),
+        Piece::Said(idle),
+        Piece::End(Element::Title),
+        Piece::Start(Start::Upwards { at }),
+    ])?;
     put_words(out, head, words)?;
     out.end(Element::Text)?;
     out.end(Element::Group)
 }
 
 impl<'s, 'a> Drawing<'s, 'a> {
-    /// The columns of a line, if they are several.
-    fn draw_columns(&mut self, stretch: Stretch) -> Result<(), AllocError>
-        ensures { OnOk result (self.new ≡ self.old) }
-    {
-        if stretch.to.saturating_sub(stretch.from) > 1 {
-            let from = at(self.scene.start(stretch), AXIS);
-            let to = at(self.scene.frame.x(stretch.to).saturating_sub(2), AXIS);
-            self.out.path("k", Route::Across { from, to })
-        } else {
-            Ok(())
-        }
-    }
-
-    /// A line of the script, upwards over its first column, if there is room. The result is from where there is room after it.
+    /// A line of the script over its columns, if they are several, and upwards over the first, if there is room. The result is from where there is room after it.
     fn draw_line(&mut self, stretch: Stretch, height: u32, free: u32) -> Result<u32, AllocError>
         requires { height < 20000 }
         ensures { OnOk result (self.new ≡ self.old) }
     {
         let x = self.scene.start(stretch);
-        self.draw_columns(stretch)?;
+        if stretch.to.saturating_sub(stretch.from) > 1 {
+            let from = at(x, AXIS);
+            let to = at(self.scene.frame.x(stretch.to).saturating_sub(2), AXIS);
+            self.out.path("k", Route::Across { from, to })?;
+        }
         if x < free {
             return Ok(free);
         }
@@ -143,21 +125,7 @@ impl<'s, 'a> Drawing<'s, 'a> {
         Ok(())
     }
 
-    /// The number of a column's first event, if there is room. The result is from where there is room after it.
-    fn draw_number(&mut self, column: usize, y: u32, free: u32) -> Result<u32, AllocError>
-        requires { y < 20000 }
-        ensures { OnOk result (self.new ≡ self.old) }
-    {
-        let x = self.scene.frame.x(column);
-        if x < free {
-            return Ok(free);
-        }
-        let event = plus(self.scene.sheet.window.edge(column), 1);
-        self.out.text_number("m q", at(x, y), event)?;
-        Ok(x + 48)
-    }
-
-    /// The numbers of the events, as far as there is room.
+    /// The number of each column's first event, as far as there is room.
     pub fn draw_events(&mut self, y: u32) -> Result<(), AllocError>
         requires { y ≤ 19000 }
         ensures { OnOk result (self.new ≡ self.old) }
@@ -165,9 +133,14 @@ impl<'s, 'a> Drawing<'s, 'a> {
         let words = "from left to right: the order of events, which is not time";
         self.out.text("q e", at(LABEL, y), "event")?;
         self.out.text("q", at(LEFT, y + 14), words)?;
-        let mut free = 0;
+        let mut free: u32 = 0;
         for column in 0..self.scene.columns().len() {
-            free = self.draw_number(column, y, free)?;
+            let x = self.scene.frame.x(column);
+            if x >= free {
+                let event = plus(self.scene.sheet.window.edge(column), 1);
+                self.out.text_with("m q", at(x, y), "", event)?;
+                free = x + 48;
+            }
         }
         Ok(())
     }

@@ -1,10 +1,14 @@
 //! Stretches of columns in which the same holds.
 
-ghost use Rattle.std.specs.Prelude.{◌≡◌, ◌<◌, ◌≤◌, get_or};
+ghost use Rattle.std.specs.Prelude.{◌≡◌, ◌<◌, ◌≤◌, IsTrue, get_or};
+ghost use Rattle.std.specs.List.{list_all};
+ghost use Rattle.drive_pictures.specs.Letters.{all_letters};
+ghost use Rattle.picture_svg.specs.Scales.{column_at};
+ghost use Rattle.picture_svg.specs.Stretches.{is_held_alike, is_done_alike, AreAlike, IsStretch};
 
 use crate::holders::{held_by, is_on};
 use crate::scene::{Lane, Scene, Stretch};
-use drive_pictures::all_letters;
+use drive_pictures::{Letter, all_letters};
 use run_picture::Column;
 use run_plan::{cell_at, count_of, letter_at};
 
@@ -37,44 +41,65 @@ pub fn positioning(column: &Column, adapter: u8) -> u64
     }
 }
 
-/// Whether the same drives hold the adapter equally often in both columns.
-fn is_same_held(column: &Column, next: &Column, lanes: &[Lane], adapter: u8) -> bool {
-    lanes.iter().all(|lane| !is_on(lane, adapter) || held_by(column, lane) == held_by(next, lane))
+/// Whether a drive holds the adapter equally often in both columns, or is one of another adapter.
+fn is_held_alike(column: &Column, next: &Column, adapter: u8, lane: &Lane) -> bool
+    ensures { result ≡ is_held_alike column.now next.now adapter lane.now }
+{
+    !is_on(lane, adapter) || held_by(column, lane) == held_by(next, lane)
 }
 
-/// Whether a drive does the same in both columns: they have as many events, and each letter stands equally often.
-fn is_same_done(column: &Column, next: &Column, unit: u8) -> bool {
-    let here = cell_at(column, unit).tally;
-    let there = cell_at(next, unit).tally;
-    let (events, others) = (column.head.events, next.head.events);
-    events == others
-        && all_letters().iter().all(|letter| count_of(&here, events, *letter)
-            == count_of(&there, others, *letter))
+/// Whether a letter of a drive stands equally often in both columns.
+fn is_done_alike(column: &Column, next: &Column, unit: u8, letter: Letter) -> bool
+    ensures { result ≡ is_done_alike column.now next.now unit letter }
+{
+    let here = count_of(&cell_at(column, unit).tally, column.head.events, letter);
+    here == count_of(&cell_at(next, unit).tally, next.head.events, letter)
 }
 
-/// Whether the same is drawn of two columns that are side by side.
-fn is_same(lanes: &[Lane], column: &Column, next: &Column, track: Track) -> bool {
+/// Whether all drives hold the adapter equally often in both columns.
+fn are_held_alike(column: &Column, next: &Column, adapter: u8, lanes: &[Lane]) -> bool
+    ensures { result ≡ list_all (is_held_alike column.now next.now adapter) lanes.now }
+{
+    lanes
+        .iter()
+        .all(|lane| is_held_alike(column, next, adapter, lane))
+}
+
+/// Whether all letters of a drive stand equally often in both columns.
+fn are_done_alike(column: &Column, next: &Column, unit: u8) -> bool
+    ensures { result ≡ list_all (is_done_alike column.now next.now unit) all_letters }
+{
+    all_letters()
+        .iter()
+        .all(|letter| is_done_alike(column, next, unit, *letter))
+}
+
+/// Whether the same is drawn of both columns.
+fn are_alike(lanes: &[Lane], column: &Column, next: &Column, track: Track) -> bool
+    ensures { IsTrue result → AreAlike lanes.now track column.now next.now }
+{
     match track {
         Track::Script => column.head.line == next.head.line,
-        Track::Held(adapter) => is_same_held(column, next, lanes, adapter),
+        Track::Held(adapter) => are_held_alike(column, next, adapter, lanes),
         Track::Positioning(adapter) => positioning(column, adapter) == positioning(next, adapter),
         Track::Waiting(unit, _) => cell_at(column, unit).waiting == cell_at(next, unit).waiting,
         Track::Offline(unit) => cell_at(column, unit).offline == cell_at(next, unit).offline,
         Track::Locked(unit) => cell_at(column, unit).locked == cell_at(next, unit).locked,
-        Track::Letters(unit) => is_same_done(column, next, unit),
+        Track::Letters(unit) => {
+            column.head.events == next.head.events && are_done_alike(column, next, unit)
+        }
         Track::Lead(unit) => letter_at(column, unit) == letter_at(next, unit),
     }
 }
 
-/// Whether a stretch of a track goes on after a column.
-fn goes_on(scene: &Scene<'_, '_>, column: usize, track: Track) -> bool {
+/// Whether a column is as the column before it.
+fn goes_on(scene: &Scene<'_, '_>, before: usize, column: usize, track: Track) -> bool
+    ensures { IsTrue result → AreAlike scene.now.lanes.now track (column_at scene.now.sheet.now.run.now.columns before) (column_at scene.now.sheet.now.run.now.columns column) }
+{
     let columns = scene.columns();
-    let Some(here) = columns.get(column) else {
-        return false;
-    };
-    match columns.get(column.saturating_add(1)) {
-        Some(next) => is_same(scene.lanes, here, next, track),
-        None => false,
+    match (columns.get(before), columns.get(column)) {
+        (Some(before), Some(column)) => are_alike(scene.lanes, before, column, track),
+        _ => false,
     }
 }
 
@@ -84,10 +109,11 @@ pub fn next_stretch(scene: &Scene<'_, '_>, track: Track, from: usize, to: usize)
     ensures begins { result.from ≡ from }
     ensures some { from < result.to }
     ensures inside { result.to ≤ to }
+    ensures same { IsStretch scene.now track from result.to }
 {
     let mut end = from + 1;
     'columns: while end < to {
-        if !goes_on(scene, end - 1, track) {
+        if !goes_on(scene, end - 1, end, track) {
             return Stretch { from, to: end };
         }
         end += 1;

@@ -1,6 +1,6 @@
 //! The requests, in the order asked.
 
-ghost use Rattle.std.specs.Prelude.{◌≡◌, ◌≤◌, ◌∷◌, [], length, IfOk, OnOk};
+ghost use Rattle.std.specs.Prelude.{◌≡◌, ◌≤◌, ◌+◌, ◌*◌, ◌∷◌, [], length, IfOk, OnOk};
 ghost use Rattle.picture_svg.specs.Nesting.{started, with_row};
 ghost use Rattle.picture_svg.specs.Pictures.{listing};
 ghost use Rattle.picture_svg.specs.declared.pieces.Element.TheVariants.{Group};
@@ -141,17 +141,17 @@ impl<'s, 'a> Drawing<'s, 'a> {
         };
         self.out.text(class, at(beside, y), outcome_word(outcome))?;
         self.out
-            .text_number("m e", at(beside + ENDS[0], y), request.done)?;
+            .text_with("m e", at(beside + ENDS[0], y), "", request.done)?;
         self.out
-            .text_number("m e", at(beside + ENDS[1], y), request.queued())?;
+            .text_with("m e", at(beside + ENDS[1], y), "", request.queued())?;
         self.out
-            .text_number("m e", at(beside + ENDS[2], y), request.times.way)?;
+            .text_with("m e", at(beside + ENDS[2], y), "", request.times.way)?;
         self.out
-            .text_number("m e", at(beside + ENDS[3], y), request.times.ready)?;
+            .text_with("m e", at(beside + ENDS[3], y), "", request.times.ready)?;
         self.out
-            .text_number("m e", at(beside + ENDS[4], y), request.times.trans)?;
+            .text_with("m e", at(beside + ENDS[4], y), "", request.times.trans)?;
         self.out
-            .text_number(turn, at(beside + ENDS[5], y), request.turn)
+            .text_with(turn, at(beside + ENDS[5], y), "", request.turn)
     }
 
     /// A request.
@@ -172,7 +172,7 @@ impl<'s, 'a> Drawing<'s, 'a> {
         requires y { y ≤ 15000 }
         requires few { length self.old.scene.shown.now.listed.items ≤ 256 }
         ensures rows { OnOk result (self.new ≡ listing self.old.scene.shown.now.listed.items self.old) }
-        ensures low { IfOk result (λ last. last ≤ 18328) }
+        ensures last { IfOk result (λ last. last ≡ y + 13 * length self.old.scene.shown.now.listed.items) }
     {
         let mut y = y;
         for request in self.scene.shown.listed.iter() {

@@ -38,19 +38,12 @@ fn put_range(
     ])
 }
 
-/// Puts a phrase.
-fn put_phrase(out: &mut Markup<'_>, phrase: Phrase) -> Result<(), AllocError>
-    ensures { OnOk result (out.new ≡ out.old) }
-{
-    out.put_all(&[Piece::Word(phrase.word), Piece::Number(phrase.number)])
-}
-
 /// Puts the third phrase of a sentence, if it has one.
 fn put_third(out: &mut Markup<'_>, third: Option<Phrase>) -> Result<(), AllocError>
     ensures { OnOk result (out.new ≡ out.old) }
 {
     match third {
-        Some(phrase) => put_phrase(out, phrase),
+        Some(third) => out.put_all(&[Piece::Word(third.word), Piece::Number(third.number)]),
         None => Ok(()),
     }
 }
@@ -59,8 +52,13 @@ fn put_third(out: &mut Markup<'_>, third: Option<Phrase>) -> Result<(), AllocErr
 fn put_sentence(out: &mut Markup<'_>, sentence: Sentence) -> Result<(), AllocError>
     ensures { OnOk result (out.new ≡ out.old) }
 {
-    put_phrase(out, sentence.first)?;
-    put_phrase(out, sentence.second)?;
+    let (first, second) = (sentence.first, sentence.second);
+    out.put_all(&[
+        Piece::Word(first.word),
+        Piece::Number(first.number),
+        Piece::Word(second.word),
+        Piece::Number(second.number),
+    ])?;
     put_third(out, sentence.third)?;
     out.put(Piece::Word(sentence.end))
 }
@@ -88,11 +86,8 @@ pub fn text_sentences(
     requires { y < 20000 }
     ensures { OnOk result (out.new ≡ out.old) }
 {
-    let class = "";
-    out.put(Piece::Start(Start::Text {
-        class,
-        at: at(16, y),
-    }))?;
+    let (class, at) = ("", at(16, y));
+    out.put(Piece::Start(Start::Text { class, at }))?;
     put_sentences(out, first, second)?;
     out.end(Element::Text)
 }
@@ -110,15 +105,6 @@ impl<'s, 'a> Drawing<'s, 'a> {
         put_range(&mut self.out, "event ", "events ", first, last)?;
         put_range(&mut self.out, " (line ", " (lines ", line, last_line)?;
         self.out.put(Piece::Word(")"))
-    }
-
-    /// A group begins; its tooltip has the events and the lines of a stretch, and words.
-    pub fn begin_words(&mut self, stretch: Stretch, words: &'static str) -> Result<(), AllocError>
-        ensures { OnOk result (self.new ≡ record self.old { out = started Group self.old.out }) }
-    {
-        self.begin_span(stretch)?;
-        self.out
-            .put_all(&[Piece::Word(words), Piece::End(Element::Title)])
     }
 
     /// A group begins; its tooltip has the events and the lines of a stretch, a count, and the words for what is counted.
