@@ -1,6 +1,5 @@
 pub mod Stages
 pub mod Shows
-pub mod Laws
 pub mod Acts
 pub mod Within
 pub mod Calls

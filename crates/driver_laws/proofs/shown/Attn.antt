@@ -15,15 +15,15 @@ use Rattle.driver_machine.specs.Guards.{InHand}
 use Rattle.driver_machine.specs.Acts.{going_to}
 use Rattle.driver_machine.specs.Acts as deed
 use Rattle.driver_machine.specs.Sound.{Sound}
-use Rattle.driver_laws.specs.shown.Shows.{IsAdapterSeen, Shows}
+use Rattle.driver_laws.specs.shown.Shows.{IsAdapterSeen}
 use Rattle.driver_laws.proofs.shown.Told.{seen_told}
-use Rattle.driver_laws.specs.shown.Laws.{IsSaid}
 use Rattle.driver_laws.proofs.shown.Core.{Core}
 use Rattle.driver_laws.proofs.shown.Facts.{At}
 use Rattle.driver_laws.proofs.shown.Plain.{ready_plain}
 use Rattle.driver_laws.proofs.shown.DeedFacts.{said_by, no}
 use Rattle.driver_laws.proofs.shown.Arrive.{arrive_talk}
 use Rattle.driver_laws.proofs.invariant.Frame.{unit_on-own}
+use Rattle.driver_laws.proofs.shown.Showing.{Shows, IsSaid}
 
 attn_core : (h : Held) (v : UnitView) (a c : AdapterState) (seen : UnitSeen) (b : AdapterState) (taken : ℕ)
     → Core h v a seen → v.phase ≡ Positioning taken

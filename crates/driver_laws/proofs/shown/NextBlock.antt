@@ -32,7 +32,6 @@ use Rattle.driver_laws.proofs.invariant.Sector.{next_below}
 use Rattle.driver_laws.proofs.invariant.Calls.{IsServing, serving}
 use Rattle.driver_laws.specs.answers.Outcome.{IsNextBlock}
 use Rattle.driver_laws.specs.shown.Stages.{segment_seen, progress_with}
-use Rattle.driver_laws.specs.shown.Shows.{Shows, is_coming}
 use Rattle.driver_laws.proofs.shown.Busy.{Moves, moves}
 use Rattle.driver_laws.proofs.shown.DeedFacts.{judged_start}
 use Rattle.driver_laws.proofs.shown.Facts.{At, at_facts}
@@ -49,6 +48,7 @@ use Rattle.driver_laws.specs.shown.RunsRuns.{AreDeclared}
 use Rattle.driver_laws.proofs.shown.Acts.{written_beyond}
 use Rattle.main_memory.proofs.BlockLaws.{size_few}
 use Rattle.driver_laws.proofs.shown.QuietEachDeed.{other_by}
+use Rattle.driver_laws.proofs.shown.Showing.{Shows, is_coming}
 
 -- ---- a try of the block, whatever its verdict
 verdict_by : Option Moved → Moved

@@ -15,13 +15,6 @@ use Rattle.driver_machine.specs.Repaired.{repaired}
 use Rattle.driver_laws.proofs.rules.Noises.{Harmless, read_clean, read_burst}
 use Rattle.driver_laws.proofs.shown.Fronts.{repaired_same}
 
--- two words with the same places flipped have the same bytes
-pub row : (i j : ℕ) → j < 8 → (8 * i + j) / 8 ≡ i
-row i j less = omega (arith, less)
-
-pub column : (i j : ℕ) → j < 8 → (8 * i + j) % 8 ≡ j
-column i j less = omega (arith, less)
-
 pub bit_here : (bytes : List ℕ) (check i j : ℕ) → i < 512 → j < 8 → bit_of_word bytes check (8 * i + j) ≡ bit_at (get_or bytes i 0) j
 bit_here bytes check i j small less = search rules
 

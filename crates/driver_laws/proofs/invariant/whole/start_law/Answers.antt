@@ -1,5 +1,5 @@
 use Rattle.driver_laws.proofs.invariant.Starts.{sound_new, rests_new, stands_new, others_new}
-use Rattle.driver_laws.proofs.invariant.slots.start_law.Goals as goal
+use Rattle.driver_laws.proofs.invariant.whole.start_law.Goals as goal
 
 pub returns-clause-sound : goal.returns-clause-sound
 returns-clause-sound c = sound_new

@@ -1,6 +1,7 @@
--- What a deed does not change of its scene.
 use Rattle.std.specs.Prelude.{◌≡◌}
 use Rattle.driver_machine.specs.Acts.{Scene}
+
+-- What a deed at a unit leaves of the world.
 
 -- WHAT STAYS of the unit and of the request.
 pub record IsSame (old new : Scene) : Type 0 where

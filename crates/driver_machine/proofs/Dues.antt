@@ -1,12 +1,10 @@
--- What is known when a deed is due: the phase that calls for the deed and, for a command, that the drive may be given the command.
 use Rattle.std.specs.Prelude.{◌≡◌, ◌⊎◌, ℕ, ◌+◌, Bool, true, false, List, [], ◌∷◌, drop, Some, None, ◌&&◌, ◌==◌}
 use Rattle.drive_registers.specs.Codes.{offset_field}
 use Rattle.hardware_table.specs.declared.Moved.{Moved}
 use Rattle.hardware_table.specs.declared.Moved.TheVariants as verdict
 use Rattle.hardware_table.specs.Drive.{DriveState}
 use Rattle.trace_replay.specs.declared.seek_engine.Position.TheVariants as position
-use Rattle.driver_machine.specs.Passes.{TransferState, begun, segment_of}
-use Rattle.driver_machine.specs.Passes.{entry_for}
+use Rattle.driver_machine.specs.Passes.{TransferState, begun, segment_of, entry_for}
 use Rattle.trace_replay.specs.declared.requests.answers.AnswerKind.{AnswerKind}
 use Rattle.trace_replay.specs.declared.requests.answers.AnswerKind.TheVariants.{Error}
 use Rattle.trace_replay.specs.declared.requests.answers.Cause.TheVariants as cause
@@ -18,6 +16,8 @@ use Rattle.driver_machine.specs.World.{UnitView, Held, transfer_of, job_of}
 use Rattle.driver_machine.specs.Acts as deed
 use Rattle.driver_machine.specs.Acts.{Deed}
 use Rattle.driver_machine.specs.Due.{position_of, target_of, done_with, steps_of, finished, try_of}
+
+-- What holds of a unit when a deed is due there.
 
 -- a drive that may be given a command
 pub record MayGo (writes : Bool) (d : DriveState) : Type 0 where
