@@ -5,10 +5,7 @@ pub mod Within
 pub mod Calls
 pub mod Runs
 pub mod Noises
-pub mod Left
-pub mod Fronts
 pub mod Drains
-pub mod RunsActs
 pub mod RunsRuns
 pub mod NextBlock
 pub mod Reach

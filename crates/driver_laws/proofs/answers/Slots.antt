@@ -1,8 +1,7 @@
 -- How many slots have a request, after one slot changed; a slot that is free; and requests that have not ended.
 use Rattle.std.proofs.Common.{◌≡◌, ℕ, zero, suc, ◌+◌, ◌≤◌, Bool, true, false, List, [], ◌∷◌, Option, Some, None, refl, ap, subst, arith, ◌∙◌}
-use Rattle.std.specs.Prelude.{slice_index_or, slice_set, ◌<◌, length, IsSome}
+use Rattle.std.specs.Prelude.{slice_index_or, slice_set, ◌<◌, length}
 use Rattle.std.specs.Option.{option_map_or}
-use Rattle.std.proofs.lemmas.Bool.{false≢true}
 use Rattle.std.proofs.lemmas.Option.{none-some}
 use Rattle.driver_machine.specs.declared.Made.{Made}
 use Rattle.driver_machine.specs.World.{Held, frames_of, World, slot_at}

@@ -1,6 +1,6 @@
 -- A drive stays one whose registers name places of it, whatever it does.
-use Rattle.std.proofs.Common.{◌≡◌, ℕ, ◌+◌, ◌%◌, ◌<◌, ◌≤◌, Bool, true, false, Some, None, refl, arith, rules}
-use Rattle.std.specs.Prelude.{if◌then◌else◌, ◌&&◌, not, bit_or, nat_lt}
+use Rattle.std.proofs.Common.{◌≡◌, ℕ, ◌+◌, ◌%◌, ◌<◌, Bool, true, false, Some, None, refl, arith, rules}
+use Rattle.std.specs.Prelude.{if◌then◌else◌, ◌&&◌, bit_or, nat_lt}
 use Rattle.std.proofs.lemmas.Bool.Decides.{Decides-ltb}
 use Rattle.pack_geometry.specs.declared.DriveKind.{DriveKind}
 use Rattle.pack_geometry.specs.declared.DriveKind.TheVariants.{Rp06}

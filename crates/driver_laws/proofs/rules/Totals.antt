@@ -10,7 +10,6 @@ use Rattle.hardware_table.specs.declared.FaultKind.{FaultKind}
 use Rattle.hardware_table.specs.declared.Moved.{Moved}
 use Rattle.hardware_table.specs.declared.Moved.TheVariants as verdict
 use Rattle.hardware_table.specs.declared.Register.TheVariants as register
-use Rattle.hardware_table.specs.declared.Work.TheVariants as work
 use Rattle.hardware_table.specs.Drive.{DriveState, with_register}
 use Rattle.hardware_table.specs.Adapter.{AdapterState, stepped, next_block}
 use Rattle.hardware_table.specs.Events.{transfer_ended}

@@ -1,5 +1,5 @@
 -- AN ATTENTION is taken: its line may be said, and what it leaves is shown.
-use Rattle.std.proofs.Common.{◌≡◌, ℕ, [], ◌-◌, true, false, refl, ap, arith, ◌∙◌, rules}
+use Rattle.std.proofs.Common.{◌≡◌, ℕ, [], true, false, refl, ap, arith, ◌∙◌, rules}
 use Rattle.std.specs.Prelude.{if◌then◌else◌}
 use Rattle.std.specs.Int.{bit_at}
 use Rattle.hardware_table.specs.Adapter.{AdapterState, attention_lowered}

@@ -35,7 +35,7 @@ use Rattle.driver_laws.proofs.shown.Talk.{step_stage}
 use Rattle.driver_laws.proofs.shown.Facts.{At}
 use Rattle.driver_laws.proofs.shown.Plain.{IsPlain, plain_says, ready_plain}
 use Rattle.driver_laws.proofs.shown.DeedFacts.{no, said_by}
-use Rattle.driver_laws.proofs.shown.Drives.{below, segment_below}
+use Rattle.driver_laws.proofs.shown.Drives.{segment_below}
 use Rattle.driver_laws.proofs.invariant.Drives.{place_inside}
 use Rattle.driver_laws.proofs.shown.Showing.{Shows, IsSaid}
 use Rattle.driver_machine.proofs.Dues.{IsStep, MayGo}

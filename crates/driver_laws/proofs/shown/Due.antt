@@ -11,7 +11,6 @@ use Rattle.trace_replay.specs.Conversation as told
 use Rattle.trace_replay.specs.Conversation.{Stage, Hand, goes_on, outcome}
 use Rattle.trace_replay.specs.Replay.{UnitSeen, hand_of}
 use Rattle.driver_machine.specs.declared.RetryStep.{RetryStep}
-use Rattle.driver_machine.specs.declared.RetryStep.TheVariants as step
 use Rattle.driver_machine.specs.declared.Task.{Task}
 use Rattle.driver_machine.specs.declared.Task.TheVariants.{Judge, Steps}
 use Rattle.driver_machine.specs.declared.Phase.{Phase}

@@ -1,5 +1,5 @@
 -- One part of an event behind another; and the lines of an event follow, in a drain too.
-use Rattle.std.proofs.Common.{◌≡◌, ℕ, false, List, [], ◌∷◌, ◌++◌, refl, sym, ap, subst, ◌∙◌, rules}
+use Rattle.std.proofs.Common.{◌≡◌, ℕ, List, [], ◌∷◌, ◌++◌, refl, sym, ap, subst, ◌∙◌, rules}
 use Rattle.pack_geometry.specs.Pack as model
 use Rattle.trace_replay.specs.Moments.{Moment}
 use Rattle.trace_replay.specs.Replay.{Replay, MayCome, after_moment, after_moments, drained, Follows}

@@ -1,5 +1,5 @@
 -- The packs as a run leaves them.
-use Rattle.std.proofs.Common.{◌≡◌, ℕ, [], ◌∷◌, refl, sym, ◌∙◌}
+use Rattle.std.proofs.Common.{◌≡◌, ℕ, [], ◌∷◌, refl, ◌∙◌}
 use Rattle.pack_geometry.specs.Pack.{Pack}
 use Rattle.main_memory.specs.Bytes.{filled}
 use Rattle.hardware_table.specs.Moves.{was_written}

@@ -1,6 +1,5 @@
 -- Where a segment begins and how long it is, as the replay and the machine say it.
-use Rattle.std.proofs.Common.{◌≡◌, ℕ, List, [], take, ◌+◌, Option, Some, None, Bool, true, false, refl, rules}
-use Rattle.std.specs.Prelude.{if◌then◌else◌}
+use Rattle.std.proofs.Common.{◌≡◌, ℕ, ◌+◌, Option, Some, None, refl, rules}
 use Rattle.transfer_engine.specs.declared.job.Job.{Job}
 use Rattle.transfer_engine.specs.State as engine
 use Rattle.trace_replay.specs.requests.Requests.{first_block}

@@ -11,7 +11,7 @@ use Rattle.driver_machine.specs.World.{World, Setup, new_world, unit_at}
 use Rattle.driver_machine.specs.Acts.{Taken, after}
 use Rattle.driver_machine.specs.Guards.{IsSetUp}
 use Rattle.driver_machine.specs.Sound.{Sound, AtWork}
-use Rattle.driver_laws.specs.invariant.Parts.{AreSetups}
+use Rattle.driver_laws.specs.invariant.Setups.{AreSetups}
 use Rattle.driver_laws.proofs.invariant.Starts.{sound_new, rests_new}
 use Rattle.driver_laws.specs.shown.Acts.{AreSetUp}
 use Rattle.driver_laws.proofs.shown.Rest.{start_is_shown, rest_shows, waiting_calm}

@@ -1,5 +1,5 @@
 -- A front of moments that follow.
-use Rattle.std.proofs.Common.{◌≡◌, List, [], ◌∷◌, ◌++◌, sym, ap, subst, ◌∙◌, append_assoc}
+use Rattle.std.proofs.Common.{◌≡◌, List, ◌++◌, sym, ap, subst, ◌∙◌, append_assoc}
 use Rattle.trace_replay.specs.Moments.{Moment}
 use Rattle.trace_replay.specs.Replay.{Replay, Follows}
 use Rattle.trace_replay.proofs.Following.{follow_on}
@@ -7,7 +7,6 @@ use Rattle.driver_machine.specs.World.{World}
 use Rattle.driver_machine.specs.Acts.{Act, after_all}
 use Rattle.driver_machine.specs.Lines.{lines_of_all}
 use Rattle.driver_laws.proofs.shown.Joined.{lines_append}
-use Rattle.std.specs.Prelude.{ℕ}
 
 -- the lines of the first acts, behind some moments
 front_follows : (start : Replay) (moments : List Moment) (w : World) (acts done left : List Act)

@@ -1,5 +1,5 @@
 -- What a call of the driver comes to: all its acts, or only the first ones, up to a failure of the trace or of the packs.
-use Rattle.std.specs.Prelude.{◌≡◌, ◌⊎◌, ℕ, Bool, false, true, IsTrue, List, [], ◌++◌, Result, Ok, Err, Option, None, Some}
+use Rattle.std.specs.Prelude.{◌≡◌, ◌⊎◌, ℕ, Bool, false, true, IsTrue, List, ◌++◌, Result, Ok, Err, Option, None, Some}
 use Rattle.main_memory.specs.Bytes.{filled}
 use Rattle.pack_geometry.specs.Pack.{Pack, is_marked, with_written}
 use Rattle.hardware_table.specs.Drive.{is_writing}

@@ -1,6 +1,6 @@
 -- THE PARTS AGREE. The stage of each unit, what its drive does, the unit for which its adapter is busy and the units that are ready
 -- at the adapter tell one state in four ways, and each moment that may come keeps them in agreement.
-use Rattle.std.specs.Prelude.{◌≡◌, ◌⊎◌, ℕ, ◌<◌, ◌==◌, ◌&&◌, ◌||◌, Bool, true, false, not, List, [], ◌∷◌, is_some, Option, ◌*◌}
+use Rattle.std.specs.Prelude.{◌≡◌, ◌⊎◌, ℕ, ◌<◌, ◌==◌, ◌&&◌, ◌||◌, Bool, true, false, not, List, [], ◌∷◌, is_some, ◌*◌}
 use Rattle.std.specs.Int.{bit_at}
 use Rattle.std.specs.List.{list_any}
 use Rattle.hardware_table.specs.Drive.{is_positioning, is_transferring, has_error, on}

@@ -1,5 +1,5 @@
 -- How many event lines a drain has. An event line tells an arrival, a sector, an interrupt or an attention.
-use Rattle.std.specs.Prelude.{◌≡◌, ◌⊎◌, ◌↔◌, ℕ, ◌+◌, ◌*◌, ◌≤◌, ◌==◌, true, false, List, [], ◌∷◌, ◌++◌, Option, codes}
+use Rattle.std.specs.Prelude.{◌≡◌, ℕ, ◌+◌, ◌==◌, true, false, List, [], ◌∷◌}
 use Rattle.std.specs.List.{list_any}
 use Rattle.trace_replay.specs.Script.{Input, Submit}
 use Rattle.trace_replay.specs.Moments.{Deed, Arrive, Sector, Intr, Attn, Moment, Played, Told}

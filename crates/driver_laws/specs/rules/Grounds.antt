@@ -1,6 +1,5 @@
 -- WHAT IS KNOWN OF A CAUSE, by the script and the packs alone.
-use Rattle.std.specs.Prelude.{◌≡◌, ◌⊎◌, ℕ, ◌<◌, ◌+◌, true, false, List, [], ◌∷◌, ◌++◌, Option, None, Some, is_some}
-use Rattle.pack_geometry.specs.Pack as model
+use Rattle.std.specs.Prelude.{◌≡◌, ◌⊎◌, ℕ, true, false, List, [], ◌∷◌, ◌++◌}
 use Rattle.fire_code.specs.Noise.{Classes}
 use Rattle.fire_code.specs.declared.NoiseClass.TheVariants.{Shown}
 use Rattle.trace_replay.specs.requests.Requests.{Request}

@@ -1,7 +1,6 @@
 -- WHEN A REQUEST IS REFUSED: directly after its own line of the script, before anything else happens, by what the request meets
 -- there.
-use Rattle.std.specs.Prelude.{◌≡◌, ℕ, true, List, [], ◌∷◌, ◌++◌, Option}
-use Rattle.pack_geometry.specs.Pack as model
+use Rattle.std.specs.Prelude.{◌≡◌, ℕ, List, [], ◌∷◌, ◌++◌}
 use Rattle.trace_replay.specs.requests.Requests.{Request, Answer, Rejection, rejection_answer}
 use Rattle.trace_replay.specs.Script.{Submit}
 use Rattle.trace_replay.specs.Moments.{Moment, Played}

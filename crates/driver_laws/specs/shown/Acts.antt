@@ -1,9 +1,8 @@
 -- What is played between the lines of the trace: a request joins or is refused, a condition changes, an answer is taken.
-use Rattle.std.specs.Prelude.{◌≡◌, ℕ, ◌<◌, List, [], ◌++◌, take, replicate, None, IsTrue, Option, unwrap_or}
+use Rattle.std.specs.Prelude.{◌≡◌, ℕ, Option, unwrap_or}
 use Rattle.pack_geometry.specs.declared.DriveKind.{DriveKind}
 use Rattle.pack_geometry.specs.declared.DriveKind.TheVariants.{Rp06}
 use Rattle.pack_geometry.specs.TableSpelling.{Table}
-use Rattle.trace_replay.specs.Script as script
 use Rattle.driver_machine.specs.World.{World, new_unit, unit_at}
 use Rattle.driver_machine.specs.Guards.{IsSetUp}
 

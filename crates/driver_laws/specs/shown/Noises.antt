@@ -1,5 +1,5 @@
 -- Live noise flips places of a sector, as the laws of what a read gives require.
-use Rattle.std.specs.Prelude.{ℕ, List, [], ◌∷◌}
+use Rattle.std.specs.Prelude.{List, [], ◌∷◌}
 use Rattle.fire_code.specs.Burst.{IsPlaces}
 use Rattle.hardware_table.specs.Noise.{LiveNoise}
 

@@ -1,15 +1,13 @@
 -- Which replay a world stands for between two acts, and which line it may then tell.
-use Rattle.std.specs.Prelude.{◌≡◌, ◌≢◌, ℕ, ◌+◌, ◌-◌, ◌*◌, ◌<◌, Bool, true, false, IsTrue, List, [], ◌∷◌, ◌++◌, take, Option, None, Some}
+use Rattle.std.specs.Prelude.{◌≡◌, ℕ, ◌+◌, ◌-◌, ◌*◌, Bool, true, false, List, [], ◌∷◌, Option, None, Some}
 use Rattle.pack_geometry.specs.declared.DriveKind.{DriveKind}
 use Rattle.hardware_table.specs.Adapter.{AdapterState}
 use Rattle.disksort.specs.declared.Waiter.{Waiter}
 use Rattle.trace_replay.specs.requests.ServiceOrder.{Waiting}
 use Rattle.trace_replay.specs.requests.Requests.{Request}
-use Rattle.trace_replay.specs.Moments as moment
 use Rattle.trace_replay.specs.Service.{cylinder_of, head_of}
 use Rattle.trace_replay.specs.Replay.{UnitSeen, hand_of}
 use Rattle.driver_machine.specs.World.{UnitView, Held, slot_in_hand}
-use Rattle.driver_machine.specs.Acts as deed
 use Rattle.driver_machine.specs.Guards.{IsHeldFor}
 use Rattle.driver_laws.specs.shown.Stages.{stage_by, IsProgress}
 

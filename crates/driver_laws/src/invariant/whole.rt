@@ -3,7 +3,7 @@
 ghost use Rattle.std.specs.Prelude.{◌≡◌, ℕ, List, Contains};
 ghost use Rattle.driver_machine.specs.World.{Setup, unit_at, no_unit, new_unit, new_world};
 ghost use Rattle.driver_machine.specs.Sound.{Among, Sound, AtWork};
-ghost use Rattle.driver_laws.specs.invariant.Parts.{AreSetups, units_of};
+ghost use Rattle.driver_laws.specs.invariant.Setups.{AreSetups, units_of};
 ghost use Rattle.driver_laws.specs.invariant.InvariantKept.{EachActKeeps, RunsKeep, SubmissionsWork, EventsWork, TakingWorks, StartsRun, StartsEnd};
 
 /// At the start the whole invariant holds, nothing is due, each unit is as its setup says, and every other unit is not set up.

@@ -1,5 +1,5 @@
--- The parts of the invariant that speak of queues, slots, frames and answers; and the setups of a world.
-use Rattle.std.specs.Prelude.{◌≡◌, ◌≢◌, ℕ, ◌<◌, ◌≤◌, false, List, [], length, map, Some, None, Contains, IsTrue}
+-- The setups of a world.
+use Rattle.std.specs.Prelude.{◌≡◌, ℕ, ◌<◌, List, map, Some, Contains}
 use Rattle.pack_geometry.specs.TableSpelling.{Table}
 use Rattle.driver_machine.specs.World.{Setup}
 use Rattle.driver_machine.specs.Sound.{Once, IsTableFor}
