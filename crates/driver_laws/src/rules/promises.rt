@@ -23,7 +23,6 @@ use crate::rules::machine::{
 };
 use crate::rules::strikes::strikes_law;
 use crate::rules::work::{consistent_law, told_causes_law};
-use pack_geometry::packs::pack_table_law;
 use trace_replay::{bounds_law, cause_law, one_trace_law};
 
 /// The law of the headline: each legal run keeps all that is promised.
@@ -43,7 +42,6 @@ pub fn promises_law()
     drain_law();
     bounds_law();
     one_trace_law();
-    pack_table_law();
 }
 
 /// The law of a run that was begun, however it goes on: its answers so far are legal and have their causes. If the packs
