@@ -14,7 +14,6 @@ ghost use Rattle.driver_laws.specs.rules.Promises.{Promises};
 
 use crate::rules::bounds::commands_law;
 use crate::rules::strikes::strikes_law;
-use pack_geometry::packs::pack_table_law;
 use trace_replay::{bounds_law, cause_law, one_trace_law};
 
 /// The law of the headline: each legal run keeps all that is promised.
@@ -27,7 +26,6 @@ pub fn promises_law()
     commands_law();
     bounds_law();
     one_trace_law();
-    pack_table_law();
 }
 
 /// The law of a run that was begun, however it goes on: its answers so far are legal and have their causes. If the packs

@@ -1,5 +1,6 @@
 use Rattle.std.proofs.Common.{◌≡◌, ℕ, List, [], ◌∷◌, ◌++◌, Option, subst}
 use Rattle.pack_geometry.specs.Pack.{Pack}
+use Rattle.pack_geometry.proofs.PackTableLaws.{tables_once}
 use Rattle.pack_geometry.specs.TableSpelling.{Table}
 use Rattle.trace_replay.specs.Moments.{Moment, Played, Told, End}
 use Rattle.trace_replay.specs.Script.{Script, Drain, drives_of}
@@ -66,7 +67,7 @@ returns c script tables old new moments run = record {
   undisturbed = λ line unit id answer before after e ok clean. c.bounds_law.ensures (drives_of script) tables (surface_of old) before line unit id answer
       (run_asks script tables old new before (Told line unit id (End answer) ∷ after) (same run e)) (first_end before after (Told line unit id (End answer)) (same run e)) ok clean;
   rest = packs_stay script tables old new moments run;
-  only = λ others other told is. only_by others other told is (c.pack_table_law.ensures.all_once (drives_of script) old others tables is.tables_read run.tables_read);
+  only = λ others other told is. only_by others other told is (tables_once (drives_of script) old others tables is.tables_read run.tables_read);
 }
   where
     only_by : (others : ℕ → Option Table) (other : ℕ → Pack) (told : List Moment) → IsLegalRun script others old other told → others ≡ tables → (others ≡ tables) × (told ≡ moments)

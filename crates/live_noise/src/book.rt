@@ -1,4 +1,4 @@
-// Live noise: the entries in the order of their sectors, and the places of the noise.
+// The book of noise: the entries in the order of their sectors, and the places of the noise.
 ghost use Rattle.std.specs.Prelude.{◌≡◌, ◌≤◌, ◌<◌, IfOk, [], vec_capacity};
 ghost use Rattle.hardware_table.specs.Noise.{empty_book, book_armed, book_struck, strikes};
 
@@ -8,17 +8,17 @@ use no_memory::NoMemory;
 use std::alloc::Global;
 use std::marker::Model;
 
-/// The noise that is live, with the number of noises that were armed and the number that may be armed in all. A strike
-/// finds its noise by a binary search for the unit and the block.
+/// The noise that is live, with the number of noises that were armed and the number that may be armed in all. Noise flips
+/// places of sectors when they are read. A strike finds its noise by a binary search for the unit and the block.
 #[derive(Drop)]
-pub struct Live {
+pub struct NoiseBook {
     entries: Vec<Entry>,
     noises: Vec<Noise>,
     armed: u32,
     capacity: u32,
 }
 
-impl Model for Live {
+impl Model for NoiseBook {
     ghost use Rattle.std.specs.Prelude.{vec_capacity};
     ghost use Rattle.hardware_table.specs.Noise.{Book};
 
@@ -40,16 +40,16 @@ fn reserve<T: Drop>(alloc: Global, capacity: u32) -> Result<Vec<T>, NoMemory>
     Ok(room)
 }
 
-impl Live {
-    /// No noise yet. The call reserves the memory for all noise that may be armed, so that no later call takes any.
-    /// `NoMemory` if that memory is not available.
-    pub fn new(alloc: Global, capacity: u32) -> Result<Live, NoMemory>
+impl NoiseBook {
+    /// An empty book, in which `capacity` noises may be armed in all. The call reserves the memory for them, so that no
+    /// later call takes any. `NoMemory` if that memory is not available.
+    pub fn new(alloc: Global, capacity: u32) -> Result<NoiseBook, NoMemory>
         requires { capacity ≤ 4096 }
-        ensures { IfOk result (λ live. live ≡ empty_book capacity) }
+        ensures { IfOk result (λ book. book ≡ empty_book capacity) }
     {
         let entries = reserve(alloc, capacity)?;
         let noises = reserve(alloc, capacity)?;
-        Ok(Live {
+        Ok(NoiseBook {
             entries,
             noises,
             armed: 0,

@@ -1,6 +1,6 @@
 use Rattle.std.proofs.Common.{◌<◌, arith, sym, ◌∙◌}
 use Rattle.live_noise.proofs.BookLaws.{live_of-with_entry, slots_put, same_book}
-use Rattle.live_noise.proofs.live.Live.arm.Goals as goal
+use Rattle.live_noise.proofs.book.NoiseBook.arm.Goals as goal
 
 pub invariant_of-self-2 : goal.invariant_of-self-2
 invariant_of-self-2 c = record {

@@ -1,5 +1,5 @@
 use Rattle.pack_geometry.proofs.TableEditLaws.{contents_kept, edit_made}
-use Rattle.pack_geometry.proofs.packs.table_edit_law.Goals as goal
+use Rattle.pack_geometry.proofs.table_edit_law.Goals as goal
 
 pub returns-clause-made : goal.returns-clause-made
 returns-clause-made c = edit_made
