@@ -20,7 +20,7 @@ use Rattle.driver_machine.specs.Sound.{Sound, AtWork}
 use Rattle.driver_machine.specs.Runs.{Run, MayCome}
 use Rattle.driver_laws.specs.answers.Packs.{packs_after_all}
 use Rattle.driver_laws.proofs.answers.Units.{setups_stay}
-use Rattle.driver_laws.proofs.answers.Waiting.{events_alone, submissions_alone}
+use Rattle.driver_laws.proofs.answers.Waiting.{events_alone, submissions_alone, answers_in-append as answers_append}
 use Rattle.driver_laws.specs.shown.RunsRuns.{AreDeclared, Stay}
 use Rattle.driver_laws.specs.shown.Lengths.{AreAsLong}
 use Rattle.driver_laws.specs.shown.Within.{ShowsAll}
@@ -30,7 +30,6 @@ use Rattle.driver_laws.proofs.shown.RunsLaws.{runs_keep}
 use Rattle.driver_laws.proofs.shown.Inputted.{lines_play_nothing}
 use Rattle.driver_laws.specs.rules.Sessions.{Part, MayPlay, IsPart, behind}
 use Rattle.driver_laws.specs.rules.Waited.{with_packs}
-use Rattle.driver_laws.proofs.rules.WaitedLaws.{answers_append}
 use Rattle.hp_driver.specs.Passes.{IsQuiet, kind_if, setup_of, StandsQuiet}
 use Rattle.hp_driver.specs.Passes.{IsOpen, GoesTo, DrainsFrom}
 use Rattle.hp_driver.proofs.Passes.{quiet_opens, quiet_submits, drains_begin, drains_continue, takings_open, takings_drain}

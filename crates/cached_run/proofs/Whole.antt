@@ -4,8 +4,7 @@ use Rattle.std.specs.Prelude.{not, slice_index}
 use Rattle.std.proofs.lemmas.List.{take_all}
 use Rattle.outside_traits.specs.Puts.{TakesFront}
 use Rattle.pack_geometry.specs.declared.DriveKind.{DriveKind}
-use Rattle.pack_geometry.specs.declared.DriveKind.TheVariants.{Rp06}
-use Rattle.pack_geometry.specs.Geometry.{block_count, copy_at}
+use Rattle.pack_geometry.specs.Geometry.{copy_at}
 use Rattle.pack_geometry.specs.Pack.{Pack}
 use Rattle.pack_geometry.specs.TableSpelling.{Table}
 use Rattle.pack_geometry.specs.PackTable.{IsTableAt, AreTablesOf, places_of}
@@ -35,13 +34,10 @@ use Rattle.cached_run.specs.Going.{Scene, drives_at, blocks_at, IsFar, AskedTill
 use Rattle.cached_run.proofs.Inputs.{map_is}
 use Rattle.cached_run.proofs.Legal.{AreAskedWell, answers_legal}
 use Rattle.cached_run.proofs.Goings.{ends_with}
+use Rattle.driver_laws.proofs.rules.MachineRuns.{copy_below}
 
 -- ---- tables stay where copies do
 module _ (setup : Setup) (new : ℕ → Pack) (tables : HasTables setup) (o : OthersStay setup new) where
-  copy_below : (kind : DriveKind) (k : ℕ) → k < 5 → copy_at kind k < block_count kind
-  copy_below Rp06 k lt = omega (arith, lt)
-  copy_below other k lt = omega (arith, lt)
-
   no_home : (unit k block : ℕ) (kind : DriveKind) → setup.drives unit ≡ Some kind → length (places_of (setup.tables unit)) ≤ 126 → home_in setup unit block ≡ Some (copy_at kind k) → ⊥
   no_home unit k block kind declared room home =
       apart (copy_at kind k) (home_below kind (setup.tables unit) (setup.packs unit) block (copy_at kind k) k room

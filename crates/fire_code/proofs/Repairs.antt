@@ -106,7 +106,7 @@ moved_bit q f k h = at (cases_lt k f)
         parts f k le = omega arith
 
 -- a byte of a number
-byte_bit : (x i b : ℕ) → b < 8 → bit_at (x / 2 ^ (8 * i) % 2 ^ 8) b ≡ bit_at x (8 * i + b)
+pub byte_bit : (x i b : ℕ) → b < 8 → bit_at (x / 2 ^ (8 * i) % 2 ^ 8) b ≡ bit_at x (8 * i + b)
 byte_bit x i b hb = low (x / 2 ^ (8 * i)) b hb ∙ ap (λ z. z % 2) (shr-shr x (8 * i) b)
   where
     low : (y b : ℕ) → b < 8 → bit_at (y % 2 ^ 8) b ≡ bit_at y b

@@ -1,3 +1,2 @@
-mod CachedLeft
 mod CachedRuns
 mod CommandLaws

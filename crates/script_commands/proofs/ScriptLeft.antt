@@ -4,7 +4,7 @@ use Rattle.outside_traits.specs.Causes.{Rose}
 use Rattle.command_parts.specs.Outside.{HasItsCause, Outside}
 use Rattle.pack_commands.specs.Leaves.{LeavesAlone, reads_source, tells_trace}
 use Rattle.pack_commands.specs.declared.words.Command.{Command}
-use Rattle.pack_commands.specs.declared.words.Command.TheVariants.{Exercise, Play}
+use Rattle.pack_commands.specs.declared.words.Command.TheVariants.{Exercise, Play, Cached}
 
 differ : true ≡ false → ⊥
 differ e = cc
@@ -17,6 +17,9 @@ pub record IsOfScripts (command : Option Command) : Type 0 where
 
 pub play_is : IsOfScripts (Some Play)
 play_is = record { reads = refl; tells = refl; other = λ number e. cc }
+
+pub cached_is : (capacity : ℕ) → IsOfScripts (Some (Cached capacity))
+cached_is capacity = record { reads = refl; tells = refl; other = λ number e. cc }
 
 -- a number that fails a test is none that passes it
 apart : (test : ℕ → Bool) {code : ℕ} {n : ℕ} → test code ≡ false → test n ≡ true → code ≡ n → ⊥

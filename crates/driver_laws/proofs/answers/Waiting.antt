@@ -30,7 +30,7 @@ use Rattle.driver_laws.specs.answers.Waiting.{blocks_for, told_by, waiting, is_t
 use Rattle.driver_laws.proofs.answers.Parts.{AreAll, Holds, all_submitted, all_of_event}
 
 -- THE ANSWERS OF LINES, one part behind another
-answers_in-append : (xs ys : List Moment) → answers_in (xs ++ ys) ≡ answers_in xs ++ answers_in ys
+pub answers_in-append : (xs ys : List Moment) → answers_in (xs ++ ys) ≡ answers_in xs ++ answers_in ys
 answers_in-append [] ys = refl
 answers_in-append (Told line unit id (moment.End answer) ∷ xs) ys =
     ap (λ (rest : List Answered). record { line = line; id = id; answer = answer } ∷ rest) (answers_in-append xs ys)

@@ -19,7 +19,7 @@ use Rattle.trace_replay.specs.Conversation.{is_waiting, Progress, not_begun}
 use Rattle.trace_replay.specs.Events.{Wish, Refusal}
 use Rattle.trace_replay.specs.Replay.{Replay, UnitSeen, hand_of, next_wish, Follows, AreLeft, after_moments}
 use Rattle.trace_replay.specs.Runs.{start_of}
-use Rattle.trace_replay.specs.Causes.{AskSome, IsExplained, AreExplained}
+use Rattle.trace_replay.specs.Causes.{AskSome, IsExplained}
 use Rattle.trace_replay.specs.Packs.{Surface, surface_of}
 use Rattle.trace_replay.specs.History.{is_refusal, lines_of}
 use Rattle.trace_replay.proofs.Following.{follow_on}
@@ -37,27 +37,28 @@ use Rattle.driver_laws.proofs.rules.Kept.{start_kept, input_asks}
 use Rattle.driver_laws.proofs.rules.Steps.{beginning_kept}
 use Rattle.driver_laws.proofs.rules.Once.{times_out, times_among, answers_count, answered_append, once_among, listed_out, nothing_out}
 use Rattle.driver_laws.proofs.rules.LastWrites.{Left, answers_left, each_asked, refusal_left, left_join, found_asked}
-use Rattle.driver_laws.proofs.rules.MachineRuns.{home_marks, left_at, room_at, below_count, script_given, script_ids, EachBeginningStands}
+use Rattle.driver_laws.proofs.rules.MachineRuns.{home_marks, left_at, room_at, below_count, script_given, script_ids, each_beginning}
 use Rattle.std.proofs.lemmas.Bool.{eq-eqb, ne_eqb, true≢false as no}
 use Rattle.std.proofs.lemmas.Bool.Decides.{eqb_tells}
 use Rattle.driver_laws.specs.rules.Beginnings.{IsBegun, IsUnanswered, HoldsButOne, PromisesSoFar, BeginningsKeep, IsNextSector, with_next, NextBlocksKeep}
 use Rattle.driver_laws.proofs.rules.Few.{done_few}
 use Rattle.driver_laws.proofs.rules.IdsAsked.{ids_asked, with_asked}
 use Rattle.driver_laws.proofs.rules.MomentSteps.{AreGiven}
-use Rattle.driver_laws.proofs.rules.Consistency.{IsAlwaysConsistent}
+use Rattle.driver_laws.proofs.rules.Consistency.{always_consistent}
+use Rattle.trace_replay.proofs.Explained.{are_explained}
 
 -- ---- the front of a script's inputs
-given_ask : (drives : ℕ → Option DriveKind) (ms : List Moment) → AreGiven drives ms → AskSome ms
+pub given_ask : (drives : ℕ → Option DriveKind) (ms : List Moment) → AreGiven drives ms → AskSome ms
 given_ask drives [] given = tt
 given_ask drives (Played line input ∷ ms) given = (input_asks drives input given.0, given_ask drives ms given.1)
 given_ask drives (Told line unit id deed ∷ ms) given = given_ask drives ms given.1
 given_ask drives (Idle line ∷ ms) given = given_ask drives ms given.1
 
-given_front : (drives : ℕ → Option DriveKind) (ms ns : List Moment) → AreGiven drives (ms ++ ns) → AreGiven drives ms
+pub given_front : (drives : ℕ → Option DriveKind) (ms ns : List Moment) → AreGiven drives (ms ++ ns) → AreGiven drives ms
 given_front drives [] ns given = tt
 given_front drives (m ∷ ms) ns given = (given.0, given_front drives ms ns given.1)
 
-apart_front : (ids more : List ℕ) → AreApart (ids ++ more) → AreApart ids
+pub apart_front : (ids more : List ℕ) → AreApart (ids ++ more) → AreApart ids
 apart_front [] more apart = tt
 apart_front (id ∷ ids) more apart = (none ids apart.0, apart_front ids more apart.1)
   where
@@ -69,7 +70,7 @@ apart_front (id ∷ ids) more apart = (none ids apart.0, apart_front ids more ap
         at true rest e = e
         at false rest e = rest e
 
-ids_join : (xs ys : List Numbered) → ids_asked (xs ++ ys) ≡ ids_asked xs ++ ids_asked ys
+pub ids_join : (xs ys : List Numbered) → ids_asked (xs ++ ys) ≡ ids_asked xs ++ ids_asked ys
 ids_join [] ys = refl
 ids_join (n ∷ xs) ys = one n.input (ids_asked xs) (ids_asked ys) (ids_asked (xs ++ ys)) (ids_join xs ys)
   where
@@ -90,13 +91,7 @@ owed_left : (drives : ℕ → Option DriveKind) (all : List Numbered) (blocks : 
 owed_left drives all blocks (Refusal unit id why) line = refusal_left drives (asked_in id all) why blocks
 owed_left drives all blocks other line = refl
 
--- ---- the laws that it follows from
-pub record Laws : Type 0 where
-  pub beginning : EachBeginningStands
-  pub consistent : IsAlwaysConsistent
-  pub explained : AreExplained
-
-module _ (laws : Laws) (script : Script) (tables : ℕ → Option Table) (old : ℕ → model.Pack) (ms : List Moment) (begun : IsBegun script tables old ms) where
+module _ (script : Script) (tables : ℕ → Option Table) (old : ℕ → model.Pack) (ms : List Moment) (begun : IsBegun script tables old ms) where
   abbrev Of : Setup
   Of = record { drives = drives_of script; tables = tables; packs = old }
 
@@ -111,7 +106,7 @@ module _ (laws : Laws) (script : Script) (tables : ℕ → Option Table) (old : 
       (subst AreApart (sym (script_ids script) ∙ ap ids_asked begun.inputs ∙ ids_join (played ms) begun.later) begun.good.ids)
 
   has : HasBegun Of ms
-  has = laws.beginning Of ms begun.tables_read given apart begun.follows
+  has = each_beginning Of ms begun.tables_read given apart begun.follows
 
   kept : Keeps Of Then
   kept = beginning_kept Of (start_of script tables old) ms (start_kept Of) given begun.follows
@@ -162,7 +157,7 @@ module _ (laws : Laws) (script : Script) (tables : ℕ → Option Table) (old : 
 
   few_done : (unit : ℕ) → is_waiting (Then.units unit).stage ≡ false → (Then.units unit).progress.done ≤ (in_hand (Then.units unit).service).count
   few_done unit busy =
-      done_few (hand_of (Then.units unit)) (Then.units unit).stage (kept.lines unit) (((laws.consistent (drives_of script) tables (surface_of old) ms begun.follows).units unit).said) busy (kept.fits unit).fits
+      done_few (hand_of (Then.units unit)) (Then.units unit).stage (kept.lines unit) (((always_consistent (drives_of script) tables (surface_of old) ms begun.follows).units unit).said) busy (kept.fits unit).fits
 
   own_surface : OnSurface Then.surface
   own_surface = record {
@@ -229,7 +224,7 @@ module _ (laws : Laws) (script : Script) (tables : ℕ → Option Table) (old : 
       where
         explained : (line unit id : ℕ) (answer : Answer) (before after : List Moment) → ms ≡ before ++ Told line unit id (End answer) ∷ after
             → is_refusal answer ≡ false → IsExplained ((after_moments (start_of script tables old) before).units unit) (lines_of unit before) answer
-        explained line unit id answer before after e no = laws.explained (drives_of script) tables (surface_of old) before line unit id answer
+        explained line unit id answer before after e no = are_explained (drives_of script) tables (surface_of old) before line unit id answer
             (given_ask (drives_of script) before (given_front (drives_of script) before (Told line unit id (End answer) ∷ after) (subst (AreGiven (drives_of script)) e given)))
             ((follow_on (start_of script tables old) before (Told line unit id (End answer) ∷ [])).1 (parts.0, (parts.1.0, tt))) no
           where
@@ -322,9 +317,9 @@ module _ (laws : Laws) (script : Script) (tables : ℕ → Option Table) (old : 
           | inr other ↦ rw other.0 refl
         ]
 
-pub beginnings_keep : Laws → BeginningsKeep
-beginnings_keep laws script tables old new ms begun left = promised laws script tables old ms begun new (after_moments (start_of script tables old) ms).surface (own_surface laws script tables old ms begun) left
+pub beginnings_keep : BeginningsKeep
+beginnings_keep script tables old new ms begun left = promised script tables old ms begun new (after_moments (start_of script tables old) ms).surface (own_surface script tables old ms begun) left
 
-pub next_blocks_keep : Laws → NextBlocksKeep
-next_blocks_keep laws script tables old new ms unit block kind begun declared next left =
-    promised laws script tables old ms begun new (with_next (after_moments (start_of script tables old) ms) unit block) (next_surface laws script tables old ms begun unit block kind declared next) left
+pub next_blocks_keep : NextBlocksKeep
+next_blocks_keep script tables old new ms unit block kind begun declared next left =
+    promised script tables old ms begun new (with_next (after_moments (start_of script tables old) ms) unit block) (next_surface script tables old ms begun unit block kind declared next) left

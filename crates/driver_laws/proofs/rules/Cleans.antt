@@ -40,9 +40,10 @@ use Rattle.driver_laws.specs.rules.Waited.{map_of, first_in, answer_in, IsWaited
 use Rattle.driver_laws.specs.rules.Cleans.{MovedClean, done_by, DoneMovesClean}
 use Rattle.driver_laws.proofs.rules.Restful.{rest_keeps, rest_stands}
 use Rattle.driver_laws.proofs.rules.Parts.{numbered, PartStep, part_step, step, first_keeps, first_stands}
-use Rattle.driver_laws.proofs.rules.WaitedLaws.{answers_append, lines_calm, begun_calm, is_answered, cons_never}
+use Rattle.driver_laws.proofs.rules.WaitedLaws.{lines_calm, begun_calm, is_answered, cons_never}
 use Rattle.driver_laws.proofs.rules.WaitedStages.{last_calm}
 use Rattle.driver_laws.proofs.rules.MomentSteps.{MomentStep, sure_claims}
+use Rattle.driver_laws.proofs.answers.Waiting.{answers_in-append as answers_append}
 
 -- ---- lists
 head_there : {A : Type 0} (x : A) (xs : List A) → Contains (x ∷ xs) x

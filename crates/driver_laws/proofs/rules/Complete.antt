@@ -14,25 +14,18 @@ use Rattle.trace_replay.specs.Conditions.{online_behind, locked_behind}
 use Rattle.trace_replay.specs.History.{lines_of, AreFailures}
 use Rattle.trace_replay.specs.Causes.{IsOk, AreAllTries}
 use Rattle.trace_replay.specs.Replay.{Refused, Joined, submission, after_moments}
-use Rattle.trace_replay.specs.Runs.{IsLegalRun, start_of, RunExplained}
-use Rattle.driver_laws.specs.rules.Strikes.{failures_in, AreFewStrikes, FailuresAreFew}
+use Rattle.trace_replay.specs.Runs.{IsLegalRun, start_of}
+use Rattle.driver_laws.specs.rules.Strikes.{failures_in, AreFewStrikes}
 use Rattle.driver_laws.specs.rules.Grounds.{WasPlayed, Submits, IsAskedAt, WasOffline}
 use Rattle.driver_laws.specs.rules.Refusals.{IsRefusedBehind}
 use Rattle.driver_laws.proofs.rules.MachineRuns.{script_ids}
 use Rattle.driver_laws.specs.rules.Completeness.{tries_at, IsUnhindered}
 use Rattle.driver_laws.proofs.rules.PromisesAsked.{times, once_at_most, times_join, asked_once, one_request, played_here}
 use Rattle.driver_laws.proofs.rules.IdsAsked.{ids_asked}
-use Rattle.driver_laws.proofs.rules.Answered.{LockedIsTold, OfflineIsTold, UnforwardedIsHomeless}
-use Rattle.driver_laws.proofs.rules.Refusals.{RefusalsAreMet}
-
--- the laws that it follows from
-pub record Laws : Type 0 where
-  pub refused : RefusalsAreMet
-  pub explained : RunExplained
-  pub offline : OfflineIsTold
-  pub locked : LockedIsTold
-  pub unforwarded : UnforwardedIsHomeless
-  pub strikes : FailuresAreFew
+use Rattle.driver_laws.proofs.rules.Answered.{offline_is_told, locked_is_told, unforwarded_is_homeless}
+use Rattle.driver_laws.proofs.rules.Refusals.{refusals_are_met}
+use Rattle.driver_laws.proofs.rules.Failing.{failures_are_few}
+use Rattle.trace_replay.proofs.RunExplained.{run_explained}
 
 -- ---- 28 tries that failed at a block are 28 tries there
 later : (n m : ℕ) → n ≤ m → n ≤ 0 + m
@@ -153,7 +146,7 @@ none_is_some x is some = true≢false (sym (subst IsSome is some))
 no_refusal : (why : Rejection) → Refused why ≡ Joined → ⊥
 no_refusal why e = cc
 
-module _ (laws : Laws) (script : Script) (tables : ℕ → Option Table) (old new : ℕ → model.Pack) (ahead between after : List Moment) (at line : ℕ) (r : Request) (kind : DriveKind)
+module _ (script : Script) (tables : ℕ → Option Table) (old new : ℕ → model.Pack) (ahead between after : List Moment) (at line : ℕ) (r : Request) (kind : DriveKind)
     (there : drives_of script r.unit ≡ Some kind)
     (free : IsUnhindered script kind (tables r.unit) (old r.unit) (start_of script tables old) ahead at r between) where
   abbrev Before : List Moment
@@ -218,29 +211,29 @@ module _ (laws : Laws) (script : Script) (tables : ℕ → Option Table) (old ne
   unfolding Run
   is_ok (ReadOk bytes) run = tt
   is_ok WriteOk run = tt
-  is_ok OutsidePartition run = absurd (refused OutsidePartition run (laws.refused script tables old new Before after line r.unit r.id OutsidePartition run refl))
-  is_ok EndOfPartition run = absurd (refused EndOfPartition run (laws.refused script tables old new Before after line r.unit r.id EndOfPartition run refl))
-  is_ok NoFrames run = absurd (refused NoFrames run (laws.refused script tables old new Before after line r.unit r.id NoFrames run refl))
+  is_ok OutsidePartition run = absurd (refused OutsidePartition run (refusals_are_met script tables old new Before after line r.unit r.id OutsidePartition run refl))
+  is_ok EndOfPartition run = absurd (refused EndOfPartition run (refusals_are_met script tables old new Before after line r.unit r.id EndOfPartition run refl))
+  is_ok NoFrames run = absurd (refused NoFrames run (refusals_are_met script tables old new Before after line r.unit r.id NoFrames run refl))
   is_ok (Failed Offline done) run = absurd (stayed done run (subst (λ z. WasOffline z Before) (sym (same (Failed Offline done) run told.0 told.1)) told.2))
     where
       told : (q : Request) × IsAskedAt q r.unit r.id Before × WasOffline q Before
-      told = laws.offline script tables old new Before after line r.unit r.id done run
+      told = offline_is_told script tables old new Before after line r.unit r.id done run
   is_ok (Failed Locked done) run = absurd (true≢false (sym told.4 ∙ free.unlocked (ap (λ z. is_some z.written) (same (Failed Locked done) run told.0 told.1) ∙ told.2)))
     where
       told : (q : Request) × IsAskedAt q r.unit r.id Before × (is_some q.written ≡ true) × (online_behind r.unit true Before ≡ true) × (locked_behind r.unit false Before ≡ true)
-      told = laws.locked script tables old new Before after line r.unit r.id done run
+      told = locked_is_told script tables old new Before after line r.unit r.id done run
   is_ok (Failed Unforwarded done) run = absurd (none_is_some (home_of kind (tables r.unit) (old r.unit) (first_block kind r + done))
       (ap (λ z. home_of kind (tables r.unit) (old r.unit) (first_block kind z + done)) own ∙ told.3) (free.usable done (subst (λ z. done < Request.count z) (sym own) told.2)))
     where
       told : (q : Request) × IsAskedAt q r.unit r.id Before × (done < q.count) × (home_of kind (tables r.unit) (old r.unit) (first_block kind q + done) ≡ None)
-      told = laws.unforwarded script tables old new Before after line r.unit r.id done kind run there
+      told = unforwarded_is_homeless script tables old new Before after line r.unit r.id done kind run there
 
       own : r ≡ told.0
       own = same (Failed Unforwarded done) run told.0 told.1
   is_ok (Failed Fault done) run = absurd (struck free.tries)
     where
       all : AreAllTries (lines_of r.unit Before)
-      all = (laws.explained script tables old new Before after line r.unit r.id (Failed Fault done) run refl).tries done refl
+      all = (run_explained script tables old new Before after line r.unit r.id (Failed Fault done) run refl).tries done refl
 
       too_many : (n : ℕ) → 28 ≤ n → n < 28 → ⊥
       too_many n e f = omega (arith, e, f)
@@ -248,12 +241,12 @@ module _ (laws : Laws) (script : Script) (tables : ℕ → Option Table) (old ne
       struck : ((block : ℕ) → tries_at block (lines_of r.unit Before) < 28) ⊎ AreFewStrikes script r.unit → ⊥
       struck (inl tries) = too_many (tries_at all.block (lines_of r.unit Before)) (all_there false 28 all.block (lines_of r.unit Before) all.tries) (tries all.block)
       struck (inr few) = too_many (failures_in (lines_of r.unit Before)) (all_failed false 28 all.block (lines_of r.unit Before) all.tries)
-          (laws.strikes script tables old new Before (Told line r.unit r.id (End (Failed Fault done)) ∷ after) r.unit run few)
+          (failures_are_few script tables old new Before (Told line r.unit r.id (End (Failed Fault done)) ∷ after) r.unit run few)
 
-pub is_complete : Laws → (script : Script) (tables : ℕ → Option Table) (old new : ℕ → model.Pack) (ahead between after : List Moment) (at line : ℕ) (r : Request) (kind : DriveKind) (answer : Answer)
+pub is_complete : (script : Script) (tables : ℕ → Option Table) (old new : ℕ → model.Pack) (ahead between after : List Moment) (at line : ℕ) (r : Request) (kind : DriveKind) (answer : Answer)
     → IsLegalRun script tables old new (ahead ++ Played at (Submit r) ∷ (between ++ Told line r.unit r.id (End answer) ∷ after)) → drives_of script r.unit ≡ Some kind
     → IsUnhindered script kind (tables r.unit) (old r.unit) (start_of script tables old) ahead at r between → IsOk answer
 unfolding Run
-is_complete laws script tables old new ahead between after at line r kind answer run there free =
-    is_ok laws script tables old new ahead between after at line r kind there free answer
+is_complete script tables old new ahead between after at line r kind answer run there free =
+    is_ok script tables old new ahead between after at line r kind there free answer
     (subst (IsLegalRun script tables old new) (sym (append_assoc ahead (Played at (Submit r) ∷ between) (Told line r.unit r.id (End answer) ∷ after))) run)

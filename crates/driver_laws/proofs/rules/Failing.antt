@@ -12,7 +12,7 @@ use Rattle.hardware_table.specs.declared.Moved.{Moved}
 use Rattle.hardware_table.specs.declared.Moved.TheVariants as verdict
 use Rattle.hardware_table.specs.declared.FaultKind.{FaultKind}
 use Rattle.hardware_table.specs.Drive.{DriveState, is_writing, new_drive}
-use Rattle.hardware_table.specs.Events.{fault_armed, online_set}
+use Rattle.hardware_table.specs.Events.{fault_armed}
 use Rattle.hardware_table.specs.Functions.{performed}
 use Rattle.hardware_table.specs.Moves.{IsVerdict, IsVerdictBy, stop_of, first_armed, was_read, was_written}
 use Rattle.hardware_table.specs.Noise.{LiveNoise, after_strike}
@@ -32,6 +32,7 @@ use Rattle.driver_laws.proofs.rules.Armed.{performed_armed, hard_verdict, hard_s
 use Rattle.driver_laws.specs.rules.Strikes.{strikes_by, strikes_in, failures_in, FailuresAreFew}
 use Rattle.driver_laws.proofs.rules.Totals.{total, line_less, fault_strikes}
 use Rattle.driver_laws.proofs.rules.Lives.{left_in, armed_more, struck_less, strikes_one}
+use Rattle.driver_laws.proofs.answers.Drives.{online_armed}
 
 -- a hard verdict of a write is what stops the drive
 write_stops : (stop : Option Moved) (marked : Bool) (places : Option (List ℕ)) → IsVerdictBy stop marked true places verdict.Hard → stop ≡ Some verdict.Hard
@@ -191,16 +192,12 @@ module _ (shows : List ℕ → Bool) (tells : (places : List ℕ) → Classes Sh
   either true one d is = is
   either false one d is = refl
 
-  online_same : (on : Bool) (d : DriveState) → (online_set on d).armed ≡ d.armed
-  online_same true d = refl
-  online_same false d = refl
-
   arms : (b : Bool) (kind : FaultKind) (times : ℕ) (d : DriveState) (l f n : ℕ) → total d.armed + l + f ≤ n
       → total (if b then fault_armed kind times d else d).armed + l + f ≤ n + (if b then times else 0)
   arms b kind times d l f n under = search rules
 
   script_under : (s : Replay) (input : Input) (lines : List Deed) (n : ℕ) → IsUnder s lines n → IsUnder (replay_played s input) lines (n + strikes_by shows x input)
-  script_under s input lines n under = search (rules, sum_of, joined_drive, joined_surface, none_more, same_armed, either, total, left_in, armed_more, arms, online_same)
+  script_under s input lines n under = search (rules, sum_of, joined_drive, joined_surface, none_more, same_armed, either, total, left_in, armed_more, arms, online_armed)
 
   -- ---- all moments
   none_yet : (n b : ℕ) → n + b < 28 → n < 28

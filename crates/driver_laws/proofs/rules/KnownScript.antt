@@ -34,15 +34,12 @@ use Rattle.trace_replay.proofs.Kept.{UnitFits, AllFit, head_stays, refused_is, m
 use Rattle.driver_laws.specs.rules.Grounds.{WasPlayed, Submits, ArmsFault, WasOffline}
 use Rattle.driver_laws.proofs.rules.Known.{more, newest, offline_more, lines_on, ArmsLike, AnyFails, IsAsked, AreAsked, OffAt, ArmedAt, LiveKnown, Known, asked_more, ground_more, live_more, known_more, all_alike, tried_tag}
 use Rattle.driver_laws.proofs.rules.KnownLines.{line_known}
+use Rattle.driver_laws.proofs.answers.Drives.{online_armed}
 
 -- ---- a line that says something of drives
 same_of_either : (b : Bool) (j : FaultKind) (x d : DriveState) → x.armed ≡ d.armed → nat_lt 0 (times_armed j (if b then x else d).armed) ≡ true → nat_lt 0 (times_armed j d.armed) ≡ true
 same_of_either true j x d is e = subst (λ z. nat_lt 0 (times_armed j z) ≡ true) is e
 same_of_either false j x d is e = e
-
-online_armed : (on : Bool) (d : DriveState) → (online_set on d).armed ≡ d.armed
-online_armed true d = refl
-online_armed false d = refl
 
 arm_known : (b : Bool) (x u : ℕ) (k j : FaultKind) (n line : ℕ) (d : DriveState) (ms : List Moment) → (x == u) ≡ b
     → ((kind : FaultKind) → nat_lt 0 (times_armed kind d.armed) ≡ true → WasPlayed (ArmsFault x) ms)

@@ -220,7 +220,7 @@ left_sector script tables old new ms run unit sector kind declared below none =
     g = run_goes (unaliased (drives_of script) tables old (inputs_of script)) script tables old new ms run (unaliased_covered (SetupOf script tables old) (inputs_of script))
 
 -- the copies of a table are no homes
-copy_below : (kind : DriveKind) (k : ℕ) → k < 5 → copy_at kind k < block_count kind
+pub copy_below : (kind : DriveKind) (k : ℕ) → k < 5 → copy_at kind k < block_count kind
 copy_below Rp06 k lt = omega (arith, lt)
 copy_below other k lt = omega (arith, lt)
 

@@ -38,18 +38,7 @@ use Rattle.driver_laws.proofs.rules.Restful.{rest_keeps, rest_stands, held_there
 use Rattle.driver_laws.proofs.rules.Parts.{PartStep, part_step}
 use Rattle.driver_laws.proofs.rules.CalmInputs.{IsCalmEnd, are_calm, is_calm_input, is_refused_at_once}
 use Rattle.driver_laws.proofs.rules.MomentSteps.{sure_claims}
-
--- ---- the answers of some moments and then of more
-told_append : (line unit id : ℕ) (deed : Deed) (ms ns : List Moment) → answers_in (ms ++ ns) ≡ answers_in ms ++ answers_in ns
-    → answers_in (Told line unit id deed ∷ (ms ++ ns)) ≡ answers_in (Told line unit id deed ∷ ms) ++ answers_in ns
-told_append line unit id (End a) ms ns is = ap (λ z. record { line = line; id = id; answer = a } ∷ z) is
-told_append line unit id other ms ns is = is
-
-pub answers_append : (ms ns : List Moment) → answers_in (ms ++ ns) ≡ answers_in ms ++ answers_in ns
-answers_append [] ns = refl
-answers_append (Played line input ∷ ms) ns = answers_append ms ns
-answers_append (Told line unit id deed ∷ ms) ns = told_append line unit id deed ms ns (answers_append ms ns)
-answers_append (Idle line ∷ ms) ns = answers_append ms ns
+use Rattle.driver_laws.proofs.answers.Waiting.{answers_in-append as answers_append}
 
 -- ---- nothing is outstanding at the end
 

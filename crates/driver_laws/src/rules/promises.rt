@@ -12,21 +12,11 @@ ghost use Rattle.trace_replay.specs.Runs.{IsLegalRun};
 ghost use Rattle.driver_laws.specs.rules.Beginnings.{BeginningsKeep, FrontsKeep, NextBlocksKeep, QuietMomentsKeep};
 ghost use Rattle.driver_laws.specs.rules.Promises.{Promises};
 
-use crate::rules::bounds::commands_law;
-use crate::rules::strikes::strikes_law;
-use trace_replay::{bounds_law, cause_law, one_trace_law};
-
 /// The law of the headline: each legal run keeps all that is promised.
 pub fn promises_law()
     ensures { (script : Script) → (tables : ℕ → Option Table) → (old new : ℕ → Pack) → (moments : List Moment)
         → IsLegalRun script tables old new moments → Promises script tables old new moments }
-{
-    cause_law();
-    strikes_law();
-    commands_law();
-    bounds_law();
-    one_trace_law();
-}
+{}
 
 /// The law of a run that was begun, however it goes on: its answers so far are legal and have their causes. If the packs
 /// are left as the replay has them, each data block holds what the answered writes left, except for the first blocks of
@@ -37,6 +27,4 @@ pub fn beginnings_law()
     ensures next { NextBlocksKeep }
     ensures quiet { QuietMomentsKeep }
     ensures fronts { FrontsKeep }
-{
-    cause_law();
-}
+{}

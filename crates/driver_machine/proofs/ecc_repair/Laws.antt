@@ -14,7 +14,7 @@ use Rattle.fire_code.specs.Repair.{burst_byte}
 use Rattle.fire_code.specs.Word.{IsData, word_remainder}
 use Rattle.fire_code.specs.declared.Verdict.TheVariants.{Burst}
 use Rattle.fire_code.proofs.Laws.{burst_named, repaired as word_named}
-use Rattle.fire_code.proofs.Repairs.{byte_repaired}
+use Rattle.fire_code.proofs.Repairs.{byte_repaired, byte_bit}
 use Rattle.driver_machine.specs.Repaired.{repaired, data_bit, pattern_bit}
 use Rattle.driver_machine.proofs.ecc_repair.Bytes.{length-repaired, byte-repaired, burst-before, burst-after}
 
@@ -32,18 +32,6 @@ others_stay at q i bytes hq h far = byte_here at q i bytes h ∙ ap (bit_xor (ge
     zero_byte : (i < (at - 1) / 8) ⊎ ((at - 1) / 8 + 2 < i) → burst_byte at q i ≡ 0
     zero_byte (inl before) = burst-before at q i before
     zero_byte (inr behind) = burst-after at q i hq behind
-
--- ---- the places of the pattern are flipped
--- a bit of a byte of a number
-byte_bit : (x i b : ℕ) → b < 8 → bit_at (x / 2 ^ (8 * i) % 2 ^ 8) b ≡ bit_at x (8 * i + b)
-byte_bit x i b hb =
-    sym (bit_at_cat_low (y / 2 ^ 8) 8 (y % 2 ^ 8) b hb) ∙ ap (λ n. bit_at n b) (whole y) ∙ ap (λ n. n % 2) (shr-shr x (8 * i) b)
-  where
-    y : ℕ
-    y = x / 2 ^ (8 * i)
-
-    whole : (y : ℕ) → y / 2 ^ 8 * 2 ^ 8 + y % 2 ^ 8 ≡ y
-    whole y = omega arith
 
 -- a bit of the pattern that is moved to its first place
 moved_bit : (at q k : ℕ) → bit_at (q * 2 ^ (at - 1)) k ≡ pattern_bit at q k

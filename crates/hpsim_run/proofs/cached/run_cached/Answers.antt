@@ -3,7 +3,7 @@ use Rattle.script_reader.specs.cached.Scripts.{IsRefused}
 use Rattle.script_reader.specs.cached.Meaning.{meaning_of}
 use Rattle.command_parts.specs.Loading.{MeansCached}
 use Rattle.script_commands.proofs.PlayLaws.{told_of, told_from, refused_parts, refusal_is, err_is}
-use Rattle.hpsim_run.proofs.CachedLeft.{leaves_long, leaves_played, leaves_refused, leaves_unread, no_cause, sink_cause, source_cause, store_cause}
+use Rattle.script_commands.proofs.ScriptLeft.{cached_is, leaves_long, leaves_played, leaves_refused, leaves_unread, no_cause, sink_cause, source_cause, store_cause}
 use Rattle.hpsim_run.proofs.CachedRuns.{one_cached, cached_done, cached_sink, cached_store, cached_before, cached_leaves, cached_long, cached_plays, uncached}
 use Rattle.script_commands.proofs.ScriptRuns.{memory_apart, refused_apart, too_long_apart, unread_apart, script_memory, script_refused, script_too_long, script_unread}
 use Rattle.hpsim_run.proofs.cached.run_cached.Goals as goal
@@ -71,40 +71,40 @@ pub returns-in-Err-Refused-clause-causes : goal.returns-in-Err-Refused-clause-ca
 returns-in-Err-Refused-clause-causes g c = no_cause 3 refl
 
 pub returns-in-Err-Refused-clause-leaves : goal.returns-in-Err-Refused-clause-leaves
-returns-in-Err-Refused-clause-leaves g c = leaves_refused c.args.capacity
+returns-in-Err-Refused-clause-leaves g c = leaves_refused (cached_is c.args.capacity)
 
 pub returns-in-Ok-play_cached-clause-causes : goal.returns-in-Ok-play_cached-clause-causes
 returns-in-Ok-play_cached-clause-causes g c = no_cause 0 refl
 
 pub returns-in-Ok-play_cached-clause-leaves : goal.returns-in-Ok-play_cached-clause-leaves
-returns-in-Ok-play_cached-clause-leaves g c = leaves_played c.args.capacity 0 refl refl refl
+returns-in-Ok-play_cached-clause-leaves g c = leaves_played (cached_is c.args.capacity) 0 refl refl refl
 
 pub returns-in-Err-TooLong-clause-causes : goal.returns-in-Err-TooLong-clause-causes
 returns-in-Err-TooLong-clause-causes g c = no_cause 7 refl
 
 pub returns-in-Err-TooLong-clause-leaves : goal.returns-in-Err-TooLong-clause-leaves
-returns-in-Err-TooLong-clause-leaves g c = leaves_long c.args.capacity (c.in-Err-TooLong.ensures.untouched (cached_before (Unit {0}) _ _ _ c.in-Err-TooLong.field-0-is)).untraced
+returns-in-Err-TooLong-clause-leaves g c = leaves_long (cached_is c.args.capacity) (c.in-Err-TooLong.ensures.untouched (cached_before (Unit {0}) _ _ _ c.in-Err-TooLong.field-0-is)).untraced
 
 pub returns-in-Err-Sink-clause-causes : goal.returns-in-Err-Sink-clause-causes
 returns-in-Err-Sink-clause-causes g c = sink_cause (c.in-Err-Sink.ensures.causes.sink (err_is c.in-Err-Sink.field-0-is))
 
 pub returns-in-Err-Sink-clause-leaves : goal.returns-in-Err-Sink-clause-leaves
-returns-in-Err-Sink-clause-leaves g c = leaves_played c.args.capacity 5 refl refl refl
+returns-in-Err-Sink-clause-leaves g c = leaves_played (cached_is c.args.capacity) 5 refl refl refl
 
 pub returns-in-Err-Store-clause-causes : goal.returns-in-Err-Store-clause-causes
 returns-in-Err-Store-clause-causes g c = store_cause (c.in-Err-Store.ensures.causes.store (err_is c.in-Err-Store.field-0-is))
 
 pub returns-in-Err-Store-clause-leaves : goal.returns-in-Err-Store-clause-leaves
-returns-in-Err-Store-clause-leaves g c = leaves_played c.args.capacity 6 refl refl refl
+returns-in-Err-Store-clause-leaves g c = leaves_played (cached_is c.args.capacity) 6 refl refl refl
 
 pub returns-in-Err-Failed-clause-causes : goal.returns-in-Err-Failed-clause-causes
 returns-in-Err-Failed-clause-causes g c = source_cause (c.in-Err-Failed.ensures.failed (err_is c.in-Err-Failed.field-0-is))
 
 pub returns-in-Err-Failed-clause-leaves : goal.returns-in-Err-Failed-clause-leaves
-returns-in-Err-Failed-clause-leaves g c = leaves_unread c.args.capacity 4
+returns-in-Err-Failed-clause-leaves g c = leaves_unread (cached_is c.args.capacity) 4
 
 pub returns-in-Err-Memory-clause-causes : goal.returns-in-Err-Memory-clause-causes
 returns-in-Err-Memory-clause-causes g c = no_cause 9 refl
 
 pub returns-in-Err-Memory-clause-leaves : goal.returns-in-Err-Memory-clause-leaves
-returns-in-Err-Memory-clause-leaves g c = leaves_unread c.args.capacity 9
+returns-in-Err-Memory-clause-leaves g c = leaves_unread (cached_is c.args.capacity) 9
