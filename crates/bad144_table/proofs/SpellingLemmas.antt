@@ -18,7 +18,7 @@ use Rattle.pack_geometry.specs.TableFields.{long_at, place_in, IsEnd}
 use Rattle.pack_geometry.specs.TableSpelling.{Table, Spells, head_text, pair_text, pairs_text, table_text}
 use Rattle.pack_geometry.proofs.TableLaws.{spelled_end, spelled_flag, spelled_no_end, spelled_place, spelled_zero, spells_once, table_text-read, length-pairs}
 use Rattle.bad144_table.specs.Faults.{IsFirstFault, IsReadUpTo, IsSoundUpTo, Stops}
-use Rattle.bad144_table.specs.Last.{IsAtOrBelowLast}
+use Rattle.bad144_table.specs.Inserts.{IsAtOrBelowLast}
 use Rattle.bad144_table.specs.declared.spelling.TableFault.{TableFault}
 use Rattle.bad144_table.specs.declared.spelling.TableFault.TheVariants.{Zero, Flag, Range, Order, AfterEnd}
 

@@ -15,7 +15,7 @@ use Rattle.pack_geometry.specs.Geometry.{IsInside, block_number, limit_of}
 use Rattle.pack_geometry.specs.TableSpelling.{Table, IsTable}
 use Rattle.pack_geometry.specs.TableEdit.{with_place}
 use Rattle.bad144_table.specs.Inserts.{IsNew}
-use Rattle.bad144_table.specs.Last.{IsAtOrBelowLast}
+use Rattle.bad144_table.specs.Inserts.{IsAtOrBelowLast}
 
 -- from a place on, all lie at or above a block
 pub above_from : (kind : DriveKind) (places : List Place) (i block : ℕ) (e : Place) → AllPairs (λ p q. block_number kind p < block_number kind q) places

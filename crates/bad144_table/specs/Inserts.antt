@@ -1,5 +1,5 @@
 -- The outcomes of adding a place to a table.
-use Rattle.std.specs.Prelude.{◌≡◌, ℕ, ◌<◌, ◌≤◌, length, Some, slice_get, Contains}
+use Rattle.std.specs.Prelude.{◌≡◌, ℕ, ◌<◌, ◌≤◌, ◌-◌, length, Some, slice_get, slice_index_or, Contains}
 use Rattle.pack_geometry.specs.declared.Place.{Place}
 use Rattle.pack_geometry.specs.Geometry.{limit_of, block_number}
 use Rattle.pack_geometry.specs.TableSpelling.{Table, IsTable}
@@ -25,3 +25,8 @@ IsRefused table place Reserved = limit_of table.kind ≤ block_number table.kind
 IsRefused table place (Listed i) =
     (block_number table.kind place < limit_of table.kind) × (slice_get table.places i ≡ Some place)
 IsRefused table place Full = IsNew table place × (length table.places ≡ 126)
+
+-- there is a last place, and another does not lie above it
+pub record IsAtOrBelowLast (table : Table) (place : Place) : Type 0 where
+  pub some : 0 < length table.places
+  pub last : (d : Place) → block_number table.kind place ≤ block_number table.kind (slice_index_or table.places (length table.places - 1) d)

@@ -1,4 +1,3 @@
 pub mod Faults
 pub mod Inserts
-pub mod Last
 pub mod Copies

@@ -15,4 +15,6 @@ mod table;
 
 pub use pack_table::table_of;
 pub use spelling::{TableFault, read_table, write_table};
-pub use table::{BadTable, InsertFault, empty_table, entries, entry, insert, position, serial};
+pub use table::{
+    BadTable, InsertFault, empty_table, entries, entry, insert, number, position, serial,
+};

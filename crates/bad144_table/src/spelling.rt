@@ -114,7 +114,11 @@ fn take_pair(table: &mut BadTable, bytes: &[u8; 512], i: u8) -> Result<(), Table
     Ok(())
 }
 
-fn read_pairs(kind: DriveKind, bytes: &[u8; 512]) -> Result<BadTable, TableFault>
+/// The table that 512 bytes spell for a kind of drive. If they spell none, the result is the first fault: Zero, then
+/// Flag, and then the faults of the pairs in ascending order. A pair of all ones ends the list, and AfterEnd names the
+/// first later pair that is not all ones. Any other pair is Range if it is outside the geometry, and Order if it is not above the pair before it.
+pub fn read_table(kind: DriveKind, bytes: &[u8; 512]) -> Result<BadTable, TableFault>
+    ensures spelled { (table : Table) → table.kind ≡ kind → Spells bytes.now table → result ≡ Ok table }
     ensures ok { IfOk result (λ table. (table.kind ≡ kind) × Spells bytes.now table) }
     ensures err { IfErr result (IsFirstFault kind bytes.now) }
 {
@@ -129,15 +133,4 @@ fn read_pairs(kind: DriveKind, bytes: &[u8; 512]) -> Result<BadTable, TableFault
         take_pair(&mut table, bytes, i)?;
     }
     Ok(table)
-}
-
-/// The table that 512 bytes spell for a kind of drive. If they spell none, the result is the first fault: Zero, then
-/// Flag, and then the faults of the pairs in ascending order. A pair of all ones ends the list, and AfterEnd names the
-/// first later pair that is not all ones. Any other pair is Range if it is outside the geometry, and Order if it is not above the pair before it.
-pub fn read_table(kind: DriveKind, bytes: &[u8; 512]) -> Result<BadTable, TableFault>
-    ensures spelled { (table : Table) → table.kind ≡ kind → Spells bytes.now table → result ≡ Ok table }
-    ensures ok { IfOk result (λ table. (table.kind ≡ kind) × Spells bytes.now table) }
-    ensures err { IfErr result (IsFirstFault kind bytes.now) }
-{
-    read_pairs(kind, bytes)
 }

@@ -4,8 +4,7 @@ ghost use Rattle.pack_geometry.specs.declared.Place.{Place};
 ghost use Rattle.pack_geometry.specs.Geometry.{IsInside, block_number};
 ghost use Rattle.pack_geometry.specs.TableSpelling.{IsTable};
 ghost use Rattle.pack_geometry.specs.Homes.{index_in};
-ghost use Rattle.bad144_table.specs.Inserts.{Inserts, IsRefused};
-ghost use Rattle.bad144_table.specs.Last.{IsAtOrBelowLast};
+ghost use Rattle.bad144_table.specs.Inserts.{Inserts, IsAtOrBelowLast, IsRefused};
 
 use arrayvec::ArrayVec;
 use pack_geometry::{DriveKind, Place, block_of, data_limit};
@@ -116,7 +115,8 @@ fn first_index(table: &BadTable, place: Place) -> Option<u8>
     None
 }
 
-fn number(kind: DriveKind, place: Place) -> u32
+/// The number of the block at a place of a drive.
+pub fn number(kind: DriveKind, place: Place) -> u32
     requires { IsInside kind place }
     ensures { result ≡ block_number kind place }
 {

@@ -15,7 +15,7 @@ use Rattle.bad144_tool.specs.Edit.{edit_writes}
 use Rattle.bad144_tool.specs.Faults.{IsSpareFault, IsWhy, from_insert}
 use Rattle.bad144_tool.specs.declared.edit.AddWay.{AddWay}
 use Rattle.bad144_tool.specs.declared.fault.ToolFault.{ToolFault}
-use Rattle.bad144_tool.specs.declared.fault.ToolFault.TheVariants.{NoTable, Reserved, Listed, Full, Spare, TooLong, Store, Sink}
+use Rattle.bad144_tool.specs.declared.fault.ToolFault.TheVariants.{Reserved, Listed, Full, Spare, Store}
 
 -- what holds of an error holds of a result that is it
 pub at_error : {T E : Type 0} (result : Result T E) {e : E} (P : E → Type 0) → IsErrAnd result (λ x. x ≡ e) → P e → IfErr result P

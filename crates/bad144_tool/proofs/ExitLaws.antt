@@ -15,7 +15,7 @@ use Rattle.bad144_tool.specs.Faults.{IsAddFault, IsCounted, IsFreshFault, IsList
 use Rattle.bad144_tool.specs.Marking as marking
 use Rattle.bad144_tool.specs.declared.edit.AddWay.{AddWay}
 use Rattle.bad144_tool.specs.declared.fault.ToolFault.{ToolFault}
-use Rattle.bad144_tool.specs.declared.fault.ToolFault.TheVariants.{NoTable, Reserved, Listed, Full, Spare, TooLong, Store, Sink}
+use Rattle.bad144_tool.specs.declared.fault.ToolFault.TheVariants.{NoTable, Reserved, Spare, TooLong, Store, Sink}
 
 no_error : false ≡ true → ⊥
 no_error f = cc

@@ -22,53 +22,30 @@ from_insert insert_fault.Full = Full
 abbrev pub IsFreshFault : DriveKind → ToolFault → Type 0
 IsFreshFault kind (TooLong n) = 512 * block_count kind < n
 IsFreshFault kind Store = Unit {0}
-IsFreshFault kind Sink = ⊥
-IsFreshFault kind NoTable = ⊥
-IsFreshFault kind Reserved = ⊥
-IsFreshFault kind (Listed i) = ⊥
-IsFreshFault kind Full = ⊥
-IsFreshFault kind (Spare j) = ⊥
+IsFreshFault kind _ = ⊥
 
 abbrev pub IsListFault : DriveKind → ToolFault → Type 0
-IsListFault kind Sink = Unit {0}
 IsListFault kind (TooLong n) = 512 * block_count kind < n
 IsListFault kind Store = Unit {0}
-IsListFault kind NoTable = ⊥
-IsListFault kind Reserved = ⊥
-IsListFault kind (Listed i) = ⊥
-IsListFault kind Full = ⊥
-IsListFault kind (Spare j) = ⊥
+IsListFault kind Sink = Unit {0}
+IsListFault kind _ = ⊥
 
 abbrev pub IsAddFault : DriveKind → ToolFault → Type 0
 IsAddFault kind (TooLong n) = 512 * block_count kind < n
 IsAddFault kind Sink = ⊥
-IsAddFault kind Store = Unit {0}
-IsAddFault kind NoTable = Unit {0}
-IsAddFault kind Reserved = Unit {0}
-IsAddFault kind (Listed i) = Unit {0}
-IsAddFault kind Full = Unit {0}
-IsAddFault kind (Spare j) = Unit {0}
+IsAddFault kind _ = Unit {0}
 
 -- the faults that `mark` has, over all packs
 abbrev pub IsMarkFault : DriveKind → ToolFault → Type 0
 IsMarkFault kind (TooLong n) = 512 * block_count kind < n
 IsMarkFault kind NoTable = Unit {0}
 IsMarkFault kind Store = Unit {0}
-IsMarkFault kind Sink = ⊥
-IsMarkFault kind Reserved = ⊥
-IsMarkFault kind (Listed i) = ⊥
-IsMarkFault kind Full = ⊥
-IsMarkFault kind (Spare j) = ⊥
+IsMarkFault kind _ = ⊥
 
 abbrev pub IsSpareFault : ToolFault → Type 0
 IsSpareFault (Spare j) = Unit {0}
 IsSpareFault Store = Unit {0}
-IsSpareFault (TooLong n) = ⊥
-IsSpareFault NoTable = ⊥
-IsSpareFault Reserved = ⊥
-IsSpareFault (Listed i) = ⊥
-IsSpareFault Full = ⊥
-IsSpareFault Sink = ⊥
+IsSpareFault _ = ⊥
 
 -- WHY A CALL ANSWERS A FAULT, by what the unit's pack held
 abbrev pub IsWhy : DriveKind → Pack → ℕ → ToolFault → Type 0
@@ -78,41 +55,23 @@ IsWhy kind pack block Reserved = IsReserved kind pack block
 IsWhy kind pack block (Listed i) = IsListed kind pack block i
 IsWhy kind pack block Full = IsFull kind pack block
 IsWhy kind pack block (Spare j) = IsSpare kind pack block j
-IsWhy kind pack block Store = Unit {0}
-IsWhy kind pack block Sink = Unit {0}
+IsWhy kind pack block _ = Unit {0}
 
 -- what `add` leaves where it answers a fault: a refusal changes nothing
 abbrev pub Leaves : DriveKind → ℕ → ℕ → AddWay → (ℕ → Pack) → (ℕ → Pack) → ToolFault → Type 0
 Leaves kind unit block way old new Store = IsStopped kind unit block way old new
-Leaves kind unit block way old new (TooLong n) = new ≡ old
-Leaves kind unit block way old new NoTable = new ≡ old
-Leaves kind unit block way old new Reserved = new ≡ old
-Leaves kind unit block way old new (Listed i) = new ≡ old
-Leaves kind unit block way old new Full = new ≡ old
-Leaves kind unit block way old new (Spare j) = new ≡ old
-Leaves kind unit block way old new Sink = new ≡ old
+Leaves kind unit block way old new _ = new ≡ old
 
 -- what `mark` leaves where it answers a fault: a refusal changes nothing
 abbrev pub LeavesMarks : DriveKind → ℕ → (ℕ → Pack) → (ℕ → Pack) → ToolFault → Type 0
 LeavesMarks kind unit old new Store = IsMarkingStopped kind unit old new
-LeavesMarks kind unit old new (TooLong n) = new ≡ old
-LeavesMarks kind unit old new NoTable = new ≡ old
-LeavesMarks kind unit old new Reserved = new ≡ old
-LeavesMarks kind unit old new (Listed i) = new ≡ old
-LeavesMarks kind unit old new Full = new ≡ old
-LeavesMarks kind unit old new (Spare j) = new ≡ old
-LeavesMarks kind unit old new Sink = new ≡ old
+LeavesMarks kind unit old new _ = new ≡ old
 
 -- a refusal, which is no failure of the packs or of the sink
 abbrev pub IsRefusal : ToolFault → Type 0
-IsRefusal (TooLong n) = Unit {0}
-IsRefusal NoTable = Unit {0}
-IsRefusal Reserved = Unit {0}
-IsRefusal (Listed i) = Unit {0}
-IsRefusal Full = Unit {0}
-IsRefusal (Spare j) = Unit {0}
 IsRefusal Store = ⊥
 IsRefusal Sink = ⊥
+IsRefusal _ = Unit {0}
 
 -- the count has not fallen, and it rose where the answer is this fault
 pub record IsCounted {T : Type 0} (fault : ToolFault) (before now : ℕ) (result : Result T ToolFault) : Type 0 where

@@ -3,7 +3,7 @@ ghost use Rattle.pack_geometry.specs.Geometry.{limit_of, replacement_at};
 ghost use Rattle.pack_geometry.specs.Pack.{block_at};
 ghost use Rattle.pack_geometry.specs.TableSpelling.{table_text};
 ghost use Rattle.bad144_tool.specs.Changes.{DoesAll, Block};
-ghost use Rattle.bad144_tool.specs.Edit.{copies, edit_writes, first_content, marking, moves, writes_with};
+ghost use Rattle.bad144_tool.specs.Edit.{copies, edit_writes, first_content, marking, moves};
 
 use bad144_table::{BadTable, entries, write_table};
 use outside_traits::traits::{Packs, StoreFailed};
@@ -40,16 +40,6 @@ fn write_copied<P: Packs>(packs: &mut P, unit: u8, from: u32, to: u32) -> Result
     write_block(packs, unit, to, &bytes)
 }
 
-/// Copies replacement `j` to replacement `j + 1`.
-fn move_up<P: Packs>(packs: &mut P, unit: u8, kind: DriveKind, j: u32) -> Result<(), StoreFailed>
-    requires unit { unit < 32 }
-    requires index { j < 125 }
-    ensures { DoesAll P.tells P.held P.faults unit packs.old packs.new result
-        (Block (replacement_at kind (j + 1)) (block_at (P.held packs.old unit).image (replacement_at kind j)) ∷ []) }
-{
-    write_copied(packs, unit, replacement(kind, j), replacement(kind, j + 1))
-}
-
 /// Moves replacements `i` to `end - 1` up by one, the last of them first.
 fn move_all<P: Packs>(
     packs: &mut P,
@@ -67,8 +57,9 @@ fn move_all<P: Packs>(
     if i == end {
         return Ok(());
     }
-    move_up(packs, unit, kind, end - 1)?;
-    move_all(packs, unit, kind, i, end - 1)
+    let j = end - 1;
+    write_copied(packs, unit, replacement(kind, j), replacement(kind, j + 1))?;
+    move_all(packs, unit, kind, i, j)
 }
 
 /// Gives replacement `i` its content: a block's own bytes, or zeros.
@@ -141,30 +132,6 @@ pub(crate) fn write_mark<P: Packs>(
     packs.set_mark(unit, block, true)
 }
 
-/// Does the writes of an edit that lists `block` at index `i` of the table, whose last entry has index `last`.
-fn write_at<P: Packs>(
-    packs: &mut P,
-    unit: u8,
-    kind: DriveKind,
-    block: u32,
-    way: AddWay,
-    table: &BadTable,
-    i: u32,
-    last: u32,
-) -> Result<(), StoreFailed>
-    requires unit { unit < 32 }
-    requires block { block < limit_of kind }
-    requires order { i ≤ last }
-    requires room { last < 126 }
-    ensures { DoesAll P.tells P.held P.faults unit packs.old packs.new result
-        (writes_with kind (P.held packs.old unit).image table.now i (last - i) block way) }
-{
-    move_all(packs, unit, kind, i, last)?;
-    write_first(packs, unit, kind, i, block, way.copy)?;
-    write_copies(packs, unit, kind, table)?;
-    write_mark(packs, unit, block, way.mark)
-}
-
 /// Does the writes of an edit that lists `block` at index `i` of the table.
 pub(crate) fn write_edit<P: Packs>(
     packs: &mut P,
@@ -181,6 +148,10 @@ pub(crate) fn write_edit<P: Packs>(
     ensures { DoesAll P.tells P.held P.faults unit packs.old packs.new result
         (edit_writes kind (P.held packs.old unit).image table.now i block way) }
 {
+    let i = u32::from(i);
     let last = u32::from(entries(table)) - 1;
-    write_at(packs, unit, kind, block, way, table, u32::from(i), last)
+    move_all(packs, unit, kind, i, last)?;
+    write_first(packs, unit, kind, i, block, way.copy)?;
+    write_copies(packs, unit, kind, table)?;
+    write_mark(packs, unit, block, way.mark)
 }

@@ -7,8 +7,8 @@ ghost use Rattle.bad144_tool.specs.Marking.{Marks, markings, to_mark, wants_mark
 
 use crate::edit::write_mark;
 use crate::fault::ToolFault;
-use crate::tool::{number, table_that_fits};
-use bad144_table::{BadTable, entries, entry};
+use crate::tool::table_that_fits;
+use bad144_table::{BadTable, entries, entry, number};
 use outside_traits::traits::{Packs, StoreFailed};
 use pack_geometry::{DriveKind, Place, data_limit};
 

@@ -1,20 +1,20 @@
-ghost use Rattle.std.specs.Prelude.{◌≡◌, ◌≢◌, ℕ, ◌<◌, ◌≤◌, ◌*◌, [], ◌++◌, length, IsTrue, IfOk, IfErr, IfSome, OnOk, IsErrOf};
-ghost use Rattle.pack_geometry.specs.Geometry.{IsInside, block_count, block_number, limit_of};
+ghost use Rattle.std.specs.Prelude.{◌≡◌, ◌≢◌, ℕ, ◌<◌, ◌≤◌, ◌*◌, [], length, IsTrue, IfOk, IfErr, IfSome, OnOk, IsErrOf};
+ghost use Rattle.pack_geometry.specs.Geometry.{block_count, limit_of};
 ghost use Rattle.pack_geometry.specs.TableSpelling.{IsTable, Table, table_text};
 ghost use Rattle.outside_traits.specs.Puts.{Puts};
 ghost use Rattle.bad144_tool.specs.Adding.{Adds, AreFree, Fits, HasTable, IsFirstMarked, MayList};
 ghost use Rattle.bad144_tool.specs.Changes.{IsCutShort, with_changes};
 ghost use Rattle.bad144_tool.specs.Edit.{copies};
 ghost use Rattle.bad144_tool.specs.Faults.{IsAddFault, IsCounted, IsFreshFault, IsListFault, IsMarkFault, IsSpareFault, IsWhy, Leaves};
-ghost use Rattle.bad144_tool.specs.Texts.{Lists, ListsFront, entry_lines, list_text, no_table_line as the_none, table_line as the_line};
+ghost use Rattle.bad144_tool.specs.Texts.{Lists, ListsFront, entry_lines, list_text, table_line as the_line};
 
 use crate::edit::{AddWay, write_copies, write_edit};
 use crate::fault::ToolFault;
 use crate::text::{entry_line, no_table_line, table_line};
-use bad144_table::{BadTable, empty_table, entries, entry, insert, table_of};
+use bad144_table::{BadTable, empty_table, entries, entry, insert, number, table_of};
 use outside_traits::traits::{Packs, Sink, SinkFailed};
 use outside_traits::whole::write_all;
-use pack_geometry::{DriveKind, Place, block_of, blocks, place_law, place_of, replacement};
+use pack_geometry::{DriveKind, blocks, place_law, place_of, replacement};
 
 /// Looks whether the image is no longer than the pack.
 fn check_length<P: Packs>(packs: &mut P, unit: u8, kind: DriveKind) -> Result<(), ToolFault>
@@ -173,14 +173,6 @@ pub fn fresh<P: Packs>(
     Ok(())
 }
 
-/// The number of the block at a place of the drive.
-pub(crate) fn number(kind: DriveKind, place: Place) -> u32
-    requires { IsInside kind place }
-    ensures { result ≡ block_number kind place }
-{
-    block_of(kind, place).unwrap()
-}
-
 /// Writes the lines of a table's entries.
 fn write_entries<O: Sink>(table: &BadTable, kind: DriveKind, out: &mut O) -> Result<(), SinkFailed>
     requires { table.now.kind ≡ kind }
@@ -193,29 +185,12 @@ fn write_entries<O: Sink>(table: &BadTable, kind: DriveKind, out: &mut O) -> Res
     Ok(())
 }
 
-/// Writes the line for a pack that has no table.
-fn write_none<O: Sink>(out: &mut O) -> Result<(), SinkFailed>
-    ensures { Puts O.tells O.taken O.faults out.old out.new result the_none }
-{
-    write_all(out, no_table_line().as_bytes())
-}
-
 /// Writes the line that begins the list of a table.
 fn write_head<O: Sink>(table: &BadTable, out: &mut O) -> Result<(), SinkFailed>
     ensures puts { Puts O.tells O.taken O.faults out.old out.new result (the_line table.now) }
     ensures valid { IsTable table.now }
 {
     write_all(out, table_line(table).as_bytes())
-}
-
-/// Writes the list of a table.
-fn write_table<O: Sink>(table: &BadTable, kind: DriveKind, out: &mut O) -> Result<(), SinkFailed>
-    requires { table.now.kind ≡ kind }
-    ensures puts { Puts O.tells O.taken O.faults out.old out.new result (the_line table.now ++ entry_lines kind 0 table.now.places) }
-    ensures valid { IsTable table.now }
-{
-    write_head(table, out)?;
-    write_entries(table, kind, out)
 }
 
 /// Writes the list of a table, or that there is none.
@@ -229,8 +204,11 @@ fn write_list<O: Sink>(
     ensures valid { IfSome table.now IsTable }
 {
     match table {
-        None => write_none(out),
-        Some(table) => write_table(table, kind, out),
+        None => write_all(out, no_table_line().as_bytes()),
+        Some(table) => {
+            write_head(table, out)?;
+            write_entries(table, kind, out)
+        }
     }
 }
 

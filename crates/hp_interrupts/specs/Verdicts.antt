@@ -15,12 +15,8 @@ registers_of drive late = record { er1 = drive.er1; er2 = drive.er2; ec1 = drive
 
 -- data late is the adapter's to show
 abbrev pub shows_late : Moved → Bool
-shows_late moved.Clean = false
-shows_late (moved.Burst at pattern) = false
-shows_late moved.Hard = false
-shows_late moved.Marked = false
 shows_late (moved.Faulted kind) = late_after kind false
-shows_late moved.Offline = false
+shows_late _ = false
 
 -- the registers are as this verdict on a block leaves them, on a drive of any kind that had no error before
 pub record IsLeftBy (verdict : Moved) (drive : DriveState) (block : ℕ) (regs : TransferRegs) : Type 0 where

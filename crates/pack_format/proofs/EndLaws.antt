@@ -1,5 +1,5 @@
 -- How formatting ends.
-use Rattle.std.proofs.Common.{◌≡◌, inl, inr, ℕ, IsTrue, Result, Ok, Err, subst, sym}
+use Rattle.std.proofs.Common.{◌≡◌, inl, inr, ℕ, IsTrue, Result, Ok, Err, subst}
 use Rattle.std.specs.Prelude.{IfErr, IfOk}
 use Rattle.pack_geometry.specs.declared.DriveKind.{DriveKind}
 use Rattle.pack_geometry.specs.Pack.{Pack}
@@ -9,7 +9,7 @@ use Rattle.pack_format.specs.Formatted.{IsFormatted, IsPartly, found}
 use Rattle.pack_format.specs.Steps.{Seen}
 use Rattle.pack_format.specs.declared.fault.FormatFault.{FormatFault}
 use Rattle.pack_format.specs.declared.formatting.FormatReport.{FormatReport}
-use Rattle.pack_format.specs.declared.fault.FormatFault.TheVariants.{Memory, TooLong, TooMany, Spare, NoCopy, Differs, Store}
+use Rattle.pack_format.specs.declared.fault.FormatFault.TheVariants.{Differs, Store}
 
 -- a test that stopped
 pub end_of : (kind : DriveKind) (serial unit : ℕ) (old new : Seen) (f : FormatFault) → IsStop new.told (Formats kind serial) f

@@ -1,5 +1,5 @@
 -- What the exits of formatting say.
-use Rattle.std.proofs.Common.{◌≡◌, ◌<◌, ◌≤◌, ◌*◌, ℕ, Bool, List, Option, length, sym, ap, ◌∙◌, subst, arith}
+use Rattle.std.proofs.Common.{◌≡◌, ◌<◌, ◌≤◌, ◌*◌, ℕ, Bool, Option, length, sym, ap, ◌∙◌, subst, arith}
 use Rattle.std.proofs.lemmas.List.{length-map}
 use Rattle.pack_geometry.specs.declared.DriveKind.{DriveKind}
 use Rattle.pack_geometry.specs.Geometry.{limit_of, place_at}
@@ -9,7 +9,7 @@ use Rattle.pack_format.specs.Faults.{IsFault, IsReason}
 use Rattle.pack_format.specs.Formatted.{CanBeFormatted, IsTooLong, found, table_for}
 use Rattle.pack_format.specs.Surveys.{IsFirst, IsJudged, IsRefusal, IsSurvey, all_marked}
 use Rattle.pack_format.specs.declared.fault.FormatFault.{FormatFault}
-use Rattle.pack_format.specs.declared.fault.FormatFault.TheVariants.{Memory, TooLong, TooMany, Spare, NoCopy, Differs, Store}
+use Rattle.pack_format.specs.declared.fault.FormatFault.TheVariants.{Memory, TooMany, Spare, NoCopy, Differs, Store}
 
 -- a failure of the packs is a reason of its own
 pub store_reason : {kind : DriveKind} {serial : ℕ} {told : Bool} {pack : Pack} {f : FormatFault} → f ≡ Store → IsReason kind serial told pack f
@@ -17,9 +17,6 @@ store_reason {kind} {serial} {told} {pack} is = subst (λ (g : FormatFault). IsR
 
 pub differs_is_not_store : {block at wrote read : ℕ} → Differs block at wrote read ≡ Store → ⊥
 differs_is_not_store is = cc
-
-pub too_long_is_not_store : {size : ℕ} → TooLong size ≡ Store → ⊥
-too_long_is_not_store is = cc
 
 pub memory_is_not_store : Memory ≡ Store → ⊥
 memory_is_not_store is = cc

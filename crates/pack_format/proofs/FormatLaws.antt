@@ -1,12 +1,12 @@
 -- A pack behind all its sectors is formatted.
-use Rattle.std.proofs.Common.{◌≡◌, ◌⊎◌, inl, inr, ℕ, zero, suc, ◌+◌, ◌<◌, ◌≤◌, Bool, true, false, List, replicate, Option, None, Some, refl, sym, ap, ◌∙◌, arith}
-use Rattle.std.specs.Prelude.{nat_lt, slice_get, if◌then◌else◌}
+use Rattle.std.proofs.Common.{◌≡◌, ◌⊎◌, inl, inr, ℕ, zero, suc, ◌<◌, ◌≤◌, Bool, true, false, List, replicate, Option, None, Some, refl, sym, ap, ◌∙◌, arith}
+use Rattle.std.specs.Prelude.{slice_get, if◌then◌else◌}
 use Rattle.std.proofs.lemmas.Bool.{cases_lt}
 use Rattle.std.proofs.lemmas.Bool.Decides.{Decides-ltb}
 use Rattle.std.proofs.lemmas.Option.{slice_get-map, slice_get_within}
 use Rattle.std.specs.Option.{option_map}
 use Rattle.pack_geometry.specs.declared.DriveKind.{DriveKind}
-use Rattle.pack_geometry.specs.declared.DriveKind.TheVariants.{Rp06, Rm03, Rm05}
+use Rattle.pack_geometry.specs.declared.DriveKind.TheVariants.{Rp06}
 use Rattle.pack_geometry.specs.Geometry.{block_count, copy_at, limit_of, place_at, replacement_at}
 use Rattle.pack_geometry.specs.Pack.{Pack, block_at, is_marked}
 use Rattle.pack_geometry.specs.Content.{bytes_at}
@@ -14,7 +14,7 @@ use Rattle.pack_geometry.specs.Homes.{content_of, index_in, replacement_home}
 use Rattle.pack_geometry.specs.PackTable.{IsTableOf}
 use Rattle.pack_geometry.specs.TableSpelling.{Spells}
 use Rattle.bad144_table.proofs.Positions.{index_listed}
-use Rattle.pack_format.specs.Formatted.{CanBeFormatted, Copy, Data, IsFormatted, IsWritten, Replacement, found, marked_blocks, table_for}
+use Rattle.pack_format.specs.Formatted.{Copy, Data, IsFormatted, IsWritten, Replacement, found, marked_blocks, table_for}
 use Rattle.pack_format.proofs.testing.LongLaws.{long_as}
 use Rattle.pack_format.proofs.testing.StageLaws.{at, false_true, same_marks}
 use Rattle.pack_format.proofs.SurveyLaws.{among}

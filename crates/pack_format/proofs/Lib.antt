@@ -1,9 +1,7 @@
 pub mod ExitLaws
-pub mod AloneLaws
 pub mod EndLaws
 pub mod FormatLaws
 pub mod WalkLaws
 pub mod RefusalLaws
 pub mod StepLaws
 pub mod SurveyLaws
-pub mod TextLaws

@@ -1,5 +1,5 @@
 -- One step behind another, and how a step ends.
-use Rattle.std.proofs.Common.{◌≡◌, ◌≤◌, ℕ, IsTrue, Result, Ok, Err, IsErr, false, true, refl, sym, ap, ◌∙◌, subst, arith}
+use Rattle.std.proofs.Common.{◌≡◌, ◌≤◌, ℕ, Result, Ok, Err, IsErr, false, true, sym, ◌∙◌, subst, arith}
 use Rattle.std.specs.Prelude.{IfErr, IfOk, IsErrAnd, MatchResult, OnErr, OnOk}
 use Rattle.outside_traits.specs.Causes.{Rose}
 use Rattle.pack_format.specs.Faults.{IsCaused}

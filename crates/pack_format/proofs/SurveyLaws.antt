@@ -7,7 +7,7 @@ use Rattle.std.proofs.lemmas.List.{append-nil, length-map, map-append}
 use Rattle.std.proofs.lemmas.List.Edits.{get_or-insert_above, get_or-insert_at, insert_end, length-insert}
 use Rattle.std.proofs.lemmas.Option.{get_or_from_slice_get, slice_get-get_or, slice_get_within}
 use Rattle.pack_geometry.specs.declared.DriveKind.{DriveKind}
-use Rattle.pack_geometry.specs.declared.DriveKind.TheVariants.{Rp06, Rm03, Rm05}
+use Rattle.pack_geometry.specs.declared.DriveKind.TheVariants.{Rp06}
 use Rattle.pack_geometry.specs.declared.Place.{Place}
 use Rattle.pack_geometry.specs.Geometry.{block_number, copy_at, limit_of, place_at, replacement_at}
 use Rattle.pack_geometry.specs.Pack.{Pack, is_marked}
@@ -19,7 +19,7 @@ use Rattle.bad144_table.specs.declared.table.InsertFault.TheVariants as refused
 use Rattle.pack_format.specs.Faults.{IsWhy}
 use Rattle.pack_format.specs.Formatted.{CanBeFormatted, IsSpare, IsTooMany, if_on, marked_below}
 use Rattle.pack_format.specs.Surveys.{IsFirst, IsJudged, IsSurvey, all_marked, used_of}
-use Rattle.pack_format.specs.declared.fault.FormatFault.TheVariants.{TooMany, Spare, NoCopy}
+use Rattle.pack_format.specs.declared.fault.FormatFault.TheVariants.{NoCopy}
 use Rattle.pack_format.specs.testing.Polls.{answer_for}
 use Rattle.pack_format.specs.declared.testing.station.Polled.{Polled}
 use Rattle.pack_format.specs.declared.testing.station.Polled.TheVariants.{Clean, Marked}

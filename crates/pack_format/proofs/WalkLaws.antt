@@ -4,13 +4,12 @@ use Rattle.std.proofs.lemmas.Bool.{cases_lt}
 use Rattle.std.proofs.lemmas.List.{length-map}
 use Rattle.std.proofs.lemmas.Bool.Decides.{Decides-eqb}
 use Rattle.pack_geometry.specs.declared.DriveKind.{DriveKind}
-use Rattle.pack_geometry.specs.declared.DriveKind.TheVariants.{Rp06, Rm03, Rm05}
+use Rattle.pack_geometry.specs.declared.DriveKind.TheVariants.{Rp06}
 use Rattle.pack_geometry.specs.Geometry.{copy_at, limit_of, place_at, replacement_at}
 use Rattle.pack_geometry.specs.Pack.{Pack, block_at, is_marked}
 use Rattle.pack_geometry.specs.TableSpelling.{Spells, Table}
 use Rattle.pack_format.specs.Faults.{Formats}
 use Rattle.pack_format.specs.Formatted.{CanBeFormatted, Copy, Data, Holds, IsPartly, IsWritten, IsZeros, Replacement, found, marked_blocks, table_for}
-use Rattle.pack_format.specs.Surveys.{IsListed}
 use Rattle.pack_format.specs.Tasks.{Did, IsTask, MayWrite, StopsAt}
 use Rattle.pack_format.specs.testing.Stages.{Fills, IsAsLong, IsTested, Stops, if_done, one}
 use Rattle.pack_format.specs.testing.Stops.{Writes}

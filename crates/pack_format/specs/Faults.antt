@@ -27,11 +27,7 @@ IsWhy kind pack Store = Unit {0}
 abbrev pub Leaves : DriveKind → (serial unit : ℕ) → (old new : ℕ → Pack) → FormatFault → Type 0
 Leaves kind serial unit old new Store = (new ≡ old) ⊎ IsPartly kind serial (old unit) (new unit)
 Leaves kind serial unit old new (Differs block at wrote read) = ⊥
-Leaves kind serial unit old new (TooLong size) = new ≡ old
-Leaves kind serial unit old new (TooMany number) = new ≡ old
-Leaves kind serial unit old new (Spare index) = new ≡ old
-Leaves kind serial unit old new NoCopy = new ≡ old
-Leaves kind serial unit old new Memory = new ≡ old
+Leaves kind serial unit old new _ = new ≡ old
 
 -- which bytes are written to a block: those of a test to a data block or a replacement, and to a copy those that spell a table with the serial
 -- number
@@ -48,9 +44,7 @@ IsFault kind serial (Differs block at wrote read) = CameBack (Formats kind seria
 IsFault kind serial (TooLong size) = 512 * block_count kind < size
 IsFault kind serial (TooMany number) = 126 < number
 IsFault kind serial (Spare index) = index < 126
-IsFault kind serial NoCopy = Unit {0}
-IsFault kind serial Memory = Unit {0}
-IsFault kind serial Store = Unit {0}
+IsFault kind serial _ = Unit {0}
 
 -- A FAULT, by what the pack held: its reason, and what is said of it whatever the packs tell
 pub record IsReason (kind : DriveKind) (serial : ℕ) (told : Bool) (pack : Pack) (reason : FormatFault) : Type 0 where

@@ -6,7 +6,7 @@ use Rattle.pack_geometry.specs.Pack.{Pack, is_marked}
 use Rattle.pack_geometry.specs.TableSpelling.{Table}
 use Rattle.pack_format.specs.Formatted.{CanBeFormatted, IsTooLong, found, marked_below, table_for}
 use Rattle.pack_format.specs.declared.fault.FormatFault.{FormatFault}
-use Rattle.pack_format.specs.declared.fault.FormatFault.TheVariants.{Memory, TooLong, TooMany, Spare, NoCopy, Differs, Store}
+use Rattle.pack_format.specs.declared.fault.FormatFault.TheVariants.{TooMany, Spare, NoCopy}
 
 -- of the marked blocks below one: how many they are, and the table that lists them, where they are at most 126
 pub record IsSurvey (kind : DriveKind) (serial : ℕ) (pack : Pack) (block number : ℕ) (table : Table) : Type 0 where
@@ -53,7 +53,4 @@ abbrev pub IsRefusal : FormatFault → Type 0
 IsRefusal (TooMany number) = 126 < number
 IsRefusal (Spare index) = index < 126
 IsRefusal NoCopy = Unit {0}
-IsRefusal (TooLong size) = ⊥
-IsRefusal (Differs block at wrote read) = ⊥
-IsRefusal Memory = ⊥
-IsRefusal Store = ⊥
+IsRefusal _ = ⊥

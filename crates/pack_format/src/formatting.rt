@@ -1,12 +1,16 @@
 //! Formatting a pack.
-ghost use Rattle.std.specs.Prelude.{◌≡◌, ◌≢◌, ℕ, ◌<◌, ◌≤◌, IfOk, IfErr, IsTrue, OnErr, OnOk};
+ghost use Rattle.std.specs.Prelude.{◌≡◌, ◌≢◌, ℕ, ◌<◌, ◌≤◌, ◌⊎◌, IfOk, IfErr, IsTrue, OnErr, OnOk};
+ghost use Rattle.pack_geometry.specs.declared.DriveKind.{DriveKind};
 ghost use Rattle.pack_geometry.specs.Geometry.{block_count};
+ghost use Rattle.pack_geometry.specs.Pack.{Pack};
 ghost use Rattle.pack_format.specs.testing.Stops.{IsStop, Writes};
 ghost use Rattle.pack_format.specs.Faults.{Formats, IsCaused, IsEnd, IsFault, IsReason, IsWhy, Leaves};
-ghost use Rattle.pack_format.specs.Formatted.{IsFormatted, IsPartly, IsTooLong, found};
+ghost use Rattle.pack_format.specs.Formatted.{CanBeFormatted, IsFormatted, IsPartly, IsTooLong, found};
 ghost use Rattle.pack_format.specs.Steps.{IsReady, Step, seen};
 ghost use Rattle.pack_format.specs.Surveys.{IsListed};
 ghost use Rattle.pack_format.specs.Tasks.{Did, MayWrite, StopsAt};
+ghost use Rattle.pack_format.specs.declared.fault.FormatFault.{FormatFault};
+ghost use Rattle.pack_format.specs.declared.fault.FormatFault.TheVariants.{Memory, Store};
 
 use crate::fault::FormatFault;
 use crate::job::{Job, Task, task_of};
@@ -146,3 +150,12 @@ pub fn format<P: Packs>(
     let mut station = Station::new(alloc, kind)?;
     format_through(&mut station, packs, job)
 }
+
+/// The law of refusals. If nothing is in the way on a pack, `format` does not refuse it; so `format` ends well, unless memory runs out
+/// or the packs fail. And no pack is refused for two reasons.
+pub fn refusals_law()
+    ensures none { (kind : DriveKind) → (pack : Pack) → (fault : FormatFault) → CanBeFormatted kind pack → IsWhy kind pack fault
+        → (fault ≡ Memory) ⊎ (fault ≡ Store) }
+    ensures one { (kind : DriveKind) → (pack : Pack) → (fault other : FormatFault) → IsWhy kind pack fault → IsWhy kind pack other
+        → (fault ≡ Memory) ⊎ (fault ≡ Store) ⊎ (other ≡ Memory) ⊎ (other ≡ Store) ⊎ (other ≡ fault) }
+{}

@@ -1,7 +1,6 @@
 //! What each way in which a segment ends makes of a transfer.
 ghost use Rattle.std.specs.Prelude.{◌≡◌, ◌≢◌, ◌<◌, ◌≤◌, ◌+◌, ◌↔◌, IfOk, IfErr, IfSome, IsErr, Option};
 ghost use Rattle.std.specs.Option.{option_copied};
-ghost use Rattle.pack_geometry.specs.Homes.{index_in};
 ghost use Rattle.trace_replay.specs.declared.retry_offsets.Step.TheVariants.{GiveUp};
 ghost use Rattle.transfer_engine.specs.State.{TransferState, IsJob, IsTransfer, begun, seen_as, segment_of, failures_after, failed};
 ghost use Rattle.transfer_engine.specs.Calls.{state_of, with_state, next_at, after_done, after_corrected, entry_for, after_bad_sector, step_for};
@@ -10,7 +9,7 @@ use crate::job::{Job, Segment};
 use crate::progress::Progress;
 use crate::states::{Continued, Direct, Exhausted, Forwarded, Next, Transfer, Unforwarded};
 use bad144_table::{BadTable, entries, position};
-use pack_geometry::{Place, place_of, replacement};
+use pack_geometry::{place_of, replacement};
 use trace_replay::retry_offsets::{Step, next_step};
 
 /// A job at its beginning: no block is done, and no try has failed.
@@ -104,7 +103,10 @@ impl Transfer {
         if index.is_some() {
             return None;
         }
-        listed(table?, place_of(job.kind, job.first + done + clean))
+        let table = table?;
+        let place = place_of(job.kind, job.first + done + clean);
+        let _count = entries(table);
+        position(table, place)
     }
 
     /// The sector behind `clean` others is marked, and its replacement comes next. Unforwarded exactly if the sector is
@@ -187,15 +189,6 @@ impl Transfer {
             Transfer::Continued(_) => Transfer::Continued(Continued { progress }),
         }
     }
-}
-
-// The index at which a place is listed.
-fn listed(table: &BadTable, place: Place) -> Option<u8>
-    ensures listed { result ≡ index_in (Some table.now) place }
-    ensures bound { IfSome result (λ i. i < 126) }
-{
-    let _count = entries(table);
-    position(table, place)
 }
 
 // This many blocks are done.

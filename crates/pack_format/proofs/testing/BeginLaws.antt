@@ -10,7 +10,7 @@ use Rattle.drive_registers.specs.Bits as bits
 use Rattle.drive_registers.specs.Codes.{function_code}
 use Rattle.drive_registers.specs.declared.Function.{Function}
 use Rattle.drive_registers.specs.declared.Function.TheVariants.{Read, Write}
-use Rattle.hardware_table.specs.declared.Work.TheVariants.{Ready, Transfer}
+use Rattle.hardware_table.specs.declared.Work.TheVariants.{Ready}
 use Rattle.hardware_table.specs.Drive.{DriveState, on, sector_in, track_in}
 use Rattle.hardware_table.specs.Functions.{effect, is_addressed, performed, refusals, refused}
 use Rattle.pack_format.specs.testing.Stations.{Does, HasBegun, IsAimed}

@@ -1,11 +1,10 @@
 -- Stages of formatting: one block written, one stage behind another, and where a stage stops.
-use Rattle.std.proofs.Common.{◌≡◌, ◌≢◌, ◌⊎◌, inl, inr, ℕ, ◌+◌, ◌<◌, ◌≤◌, ◌==◌, ◌&&◌, ◌||◌, not, Bool, true, false, IsTrue, if◌then◌else◌, List, length, Result, Ok, Err, refl, sym, ap, ◌∙◌, subst, arith}
-use Rattle.std.specs.Prelude.{OnErr, OnOk, slice_index}
-use Rattle.std.proofs.lemmas.Bool.{cases_lt}
-use Rattle.std.proofs.lemmas.Bool.Decides.{Decides-eqb, nat_tests}
+use Rattle.std.proofs.Common.{◌≡◌, ◌≢◌, ◌⊎◌, inl, inr, ℕ, ◌==◌, ◌&&◌, not, Bool, true, false, IsTrue, if◌then◌else◌, List, length, refl, sym, ap, ◌∙◌, subst}
+use Rattle.std.specs.Prelude.{slice_index}
+use Rattle.std.proofs.lemmas.Bool.Decides.{Decides-eqb}
 use Rattle.pack_geometry.specs.Pack.{Pack, block_at, is_marked, with_pack, with_written, written}
 use Rattle.pack_geometry.proofs.PackLaws.{block_at-with_block_same, block_at-with_block_other}
-use Rattle.pack_format.proofs.testing.LongLaws.{long_as, long_at, long_block, long_same, long_then}
+use Rattle.pack_format.proofs.testing.LongLaws.{long_at, long_block, long_same, long_then}
 use Rattle.pack_format.specs.testing.Polls.{IsOldOrNew, Polls, Sides, answer_for}
 use Rattle.pack_format.specs.testing.Stages.{Fills, IsAsLong, Stops, if_done, one}
 use Rattle.pack_format.specs.declared.testing.station.Polled.{Polled}

@@ -1,7 +1,5 @@
 -- What the tests of blocks have done with a unit.
-use Rattle.std.specs.Prelude.{◌≡◌, ◌≢◌, ◌⊎◌, ◌==◌, ◌&&◌, ◌||◌, nat_le, nat_lt, not, ℕ, zero, suc, ◌+◌, ◌*◌, ◌<◌, ◌≤◌, Bool, true, false, List, length, replicate}
-use Rattle.pack_geometry.specs.declared.DriveKind.{DriveKind}
-use Rattle.pack_geometry.specs.Geometry.{copy_at}
+use Rattle.std.specs.Prelude.{◌≡◌, ◌≢◌, ◌⊎◌, ◌==◌, ◌&&◌, not, ℕ, ◌+◌, ◌*◌, ◌≤◌, Bool, true, false, List, length, replicate}
 use Rattle.pack_geometry.specs.Pack.{Pack, block_at, is_marked}
 
 -- this one block, where it is unmarked

@@ -1,7 +1,7 @@
 -- Why a test of a block stops.
 use Rattle.std.specs.Prelude.{◌≡◌, ◌≢◌, ℕ, ◌<◌, Bool, List, length, slice_index, IsTrue}
 use Rattle.pack_format.specs.declared.fault.FormatFault.{FormatFault}
-use Rattle.pack_format.specs.declared.fault.FormatFault.TheVariants.{Memory, TooLong, TooMany, Spare, NoCopy, Differs, Store}
+use Rattle.pack_format.specs.declared.fault.FormatFault.TheVariants.{Differs, Store}
 
 -- such bytes are written, to this block
 abbrev pub Writes : (block : ℕ) → (Such : List ℕ → Type 0) → ℕ → List ℕ → Type 0
@@ -24,8 +24,4 @@ pub record CameBack (Wrote : ℕ → List ℕ → Type 0) (block at wrote read :
 abbrev pub IsStop : Bool → (Wrote : ℕ → List ℕ → Type 0) → FormatFault → Type 0
 IsStop told Wrote Store = Unit {0}
 IsStop told Wrote (Differs block at wrote read) = ¬ (IsTrue told) × CameBack Wrote block at wrote read
-IsStop told Wrote (TooLong size) = ⊥
-IsStop told Wrote (TooMany number) = ⊥
-IsStop told Wrote (Spare index) = ⊥
-IsStop told Wrote NoCopy = ⊥
-IsStop told Wrote Memory = ⊥
+IsStop told Wrote _ = ⊥

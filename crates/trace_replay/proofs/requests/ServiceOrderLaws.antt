@@ -1,12 +1,12 @@
 -- Laws of the service order: the sort, the two runs, and how a queue with one more looks.
-use Rattle.std.proofs.Common.{◌≡◌, ℕ, ◌+◌, ◌<◌, ◌≤◌, nat_lt, Bool, true, false, not, ◌&&◌, ◌||◌, cond, List, [], ◌∷◌, ◌++◌, map, filter, length, zero, suc, slice_index_or, refl, sym, ◌∙◌, ap, subst, arith}
+use Rattle.std.proofs.Common.{◌≡◌, ℕ, ◌+◌, nat_lt, Bool, true, false, not, ◌&&◌, ◌||◌, cond, List, [], ◌∷◌, ◌++◌, length, refl, sym, ◌∙◌, ap, subst, arith}
 use Rattle.std.proofs.lemmas.Bool.{cond_both, cond-true, cond-false}
 use Rattle.std.proofs.lemmas.Bool.Decides.{nat_tests}
 use Rattle.std.proofs.lemmas.List.Sorted.{IsPermutation-refl, IsPermutation-cons, IsPermutation-trans, IsPermutation-middle, IsPermutation-map, length_permutation, All-permutation}
 use Rattle.std.proofs.lemmas.List.Elements.{All-cons}
 use Rattle.std.specs.List.{All, AllByRecursion}
-use Rattle.std.specs.List.Sorted.{IsPermutation, IsNonDecreasingBy}
-use Rattle.trace_replay.specs.requests.ServiceOrder.{Waiting, is_before, put, service_order, after_join, queue_of, service_of, queue_with, IsInOrder, IsTwoRuns, first_run, second_run, put_behind, put_in_run, in_runs, empty_service, Joins, Leaves, service_after}
+use Rattle.std.specs.List.Sorted.{IsPermutation}
+use Rattle.trace_replay.specs.requests.ServiceOrder.{Waiting, is_before, put, service_order, after_join, queue_of, service_of, queue_with, IsInOrder, first_run, second_run, put_behind, put_in_run, in_runs}
 use Rattle.trace_replay.proofs.requests.ServiceOrderRuns.{goes_before, put_in, inserted, AreRuns, are_runs, newcomer, queue_with-inserted, queue_of-service_of}
 
 -- the sort: the same elements, and in order
@@ -64,45 +64,6 @@ second-all : {A : Type 0} (c : A → ℕ) (h : ℕ) (zs : List A) → AllByRecur
 second-all c h [] all = refl
 second-all c h (z ∷ zs) all = cond-true _ _ _ all.0 ∙ ap (λ l. z ∷ l) (second-all c h zs all.1)
 
--- each run ascends
-abbrev pub Rises : {A : Type 0} → (A → ℕ) → List A → Type 0
-Rises c [] = Unit {0}
-Rises c (x ∷ xs) = AllByRecursion (λ y. c x ≤ c y) xs × Rises c xs
-
-pub at_index : {A : Type 0} (P : A → Type 0) (xs : List A) → AllByRecursion P xs → (k : ℕ) (d : A) → k < length xs → P (slice_index_or xs k d)
-at_index P [] h k d lt = absurd (omega arith)
-at_index P (x ∷ xs) h zero d lt = h.0
-at_index P (x ∷ xs) h (suc k) d lt = at_index P xs h.1 k d (omega arith)
-
-rises-by : {A : Type 0} (c : A → ℕ) (xs : List A) → Rises c xs → IsNonDecreasingBy c xs
-rises-by c [] h i j d le lt = absurd (omega arith)
-rises-by c (x ∷ xs) h zero zero d le lt = omega arith
-rises-by c (x ∷ xs) h zero (suc j) d le lt = at_index (λ y. c x ≤ c y) xs h.0 j d (omega arith)
-rises-by c (x ∷ xs) h (suc i) zero d le lt = absurd (omega arith)
-rises-by c (x ∷ xs) h (suc i) (suc j) d le lt = rises-by c xs h.1 i j d (omega arith) (omega arith)
-
-first-order : (h y z : ℕ) → goes_before h z y ≡ false → not (nat_lt y h) ≡ true → not (nat_lt z h) ≡ true → y ≤ z
-first-order h y z e p q = grind (arith, nat_tests)
-
-second-order : (h y z : ℕ) → goes_before h z y ≡ false → nat_lt y h ≡ true → nat_lt z h ≡ true → y ≤ z
-second-order h y z e p q = grind (arith, nat_tests)
-
-kept-above : {A : Type 0} (c : A → ℕ) (h : ℕ) (p : A → Bool) (y : A) (zs : List A)
-    → ((z : A) → goes_before h (c z) (c y) ≡ false → p z ≡ true → c y ≤ c z)
-    → AllByRecursion (λ z. goes_before h (c z) (c y) ≡ false) zs → AllByRecursion (λ z. c y ≤ c z) (filter p zs)
-kept-above c h p y [] f all = tt
-kept-above c h p y (z ∷ zs) f all =
-    cond_both (p z) (z ∷ filter p zs) (filter p zs) (AllByRecursion (λ w. c y ≤ c w)) (λ e. (f z all.0 e, kept-above c h p y zs f all.1))
-    (λ _. kept-above c h p y zs f all.1)
-
-kept-rises : {A : Type 0} (c : A → ℕ) (h : ℕ) (p : A → Bool)
-    → ((y z : A) → goes_before h (c z) (c y) ≡ false → p y ≡ true → p z ≡ true → c y ≤ c z) → (ys : List A) → AreRuns c h ys → Rises c (filter p ys)
-kept-rises c h p f [] runs = tt
-kept-rises c h p f (y ∷ ys) runs =
-    cond_both (p y) (y ∷ filter p ys) (filter p ys) (Rises c)
-    (λ e. (kept-above c h p y ys (λ z g k. f y z g e k) runs.0, kept-rises c h p f ys runs.1))
-    (λ _. kept-rises c h p f ys runs.1)
-
 join-step : {A : Type 0} (b : Bool) (y : A) (ys F S : List A) → (b ≡ true → F ≡ []) → (b ≡ true → S ≡ ys) → F ++ S ≡ ys
     → cond (not b) (y ∷ F) F ++ cond b (y ∷ S) S ≡ y ∷ ys
 join-step true y ys F S f s fs = rw (f refl, s refl) refl
@@ -113,19 +74,6 @@ runs-joined c h [] runs = refl
 runs-joined c h (y ∷ ys) runs =
     join-step (nat_lt (c y) h) y ys (first_run c h ys) (second_run c h ys) (λ e. first-none c h ys (below-all c h y ys runs.0 e))
     (λ e. second-all c h ys (below-all c h y ys runs.0 e)) (runs-joined c h ys runs.1)
-
-pub two_runs : {A : Type 0} (c : A → ℕ) (x : A) (xs : List A) → IsInOrder c (x ∷ xs) → IsTwoRuns c (c x) (x ∷ xs)
-two_runs c x xs order =
-    let runs : AreRuns c (c x) (x ∷ xs) = are_runs c x xs order in
-    record {
-      both = sym (runs-joined c (c x) (x ∷ xs) runs);
-      first =
-          rises-by c (first_run c (c x) (x ∷ xs))
-          (kept-rises c (c x) (λ y. not (nat_lt (c y) (c x))) (λ y z e p q. first-order (c x) (c y) (c z) e p q) (x ∷ xs) runs);
-      second =
-          rises-by c (second_run c (c x) (x ∷ xs))
-          (kept-rises c (c x) (λ y. nat_lt (c y) (c x)) (λ y z e p q. second-order (c x) (c y) (c z) e p q) (x ∷ xs) runs);
-    }
 
 put-step : {A : Type 0} (a b t : Bool) (x y : A) (ys F S PF PS PI : List A) → (b ≡ true → F ≡ []) → (b ≡ true → S ≡ ys) → F ++ S ≡ ys
     → (b ≡ true → PF ≡ x ∷ []) → PI ≡ cond a (F ++ PS) (PF ++ S)

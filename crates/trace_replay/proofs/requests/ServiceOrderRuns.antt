@@ -3,7 +3,7 @@ use Rattle.std.proofs.Common.{◌≡◌, ℕ, ◌+◌, ◌<◌, ◌≤◌, nat_l
 use Rattle.std.proofs.lemmas.Bool.{cond_both, cond-true, cond-false}
 use Rattle.std.proofs.lemmas.Bool.Decides.{nat_tests}
 use Rattle.std.specs.List.{AllByRecursion}
-use Rattle.trace_replay.specs.requests.ServiceOrder.{Waiting, is_before, put, service_order, Service, empty_service, sweep_for, after_join, after_leave, queue_of, waiting_from, service_of, queue_with, IsInOrder, Change, Joins, Leaves, service_after, queue_after}
+use Rattle.trace_replay.specs.requests.ServiceOrder.{Waiting, is_before, put, service_order, Service, empty_service, sweep_for, after_join, after_leave, queue_of, waiting_from, service_of, queue_with, IsInOrder}
 
 -- what holds of each element
 pub each_weaker : {A : Type 0} (P Q : A → Type 0) → ((x : A) → P x → Q x) → (xs : List A) → AllByRecursion P xs → AllByRecursion Q xs
@@ -269,9 +269,6 @@ queue_with-inserted c x q h =
 pub queue_of-in_order : {A : Type 0} (c : A → ℕ) (s : Service A) → IsService c s → IsInOrder c (queue_of s)
 queue_of-in_order c s h = service_order-same _ (service_of-queue_of-is c s h).ascends
 
-pub join_law : {A : Type 0} (c : A → ℕ) (x : A) (s : Service A) → IsService c s → queue_of (after_join c x s) ≡ queue_with c x (queue_of s)
-join_law c x s h = queue_of-after_join c x s h ∙ sym (queue_with-inserted c x (queue_of s) (queue_of-in_order c s h))
-
 pub queue_with-in_order : {A : Type 0} (c : A → ℕ) (x : A) (q : List A) → IsInOrder c q → IsInOrder c (queue_with c x q)
 unfolding queue_with
 queue_with-in_order c x q h = queue_of-in_order c (after_join c x (service_of c q)) (after_join-is c x (service_of c q) (service_of-is c q h))
@@ -283,11 +280,3 @@ drop-in_order c q h =
 
 pub empty-in_order : {A : Type 0} (c : A → ℕ) → IsInOrder {A = A} c []
 empty-in_order c = refl
-
-pub service_law : {A : Type 0} (c : A → ℕ) (changes : List (Change A)) (s : Service A) → IsService c s
-    → queue_of (service_after c s changes) ≡ queue_after c (queue_of s) changes
-service_law c [] s h = refl
-service_law c (Joins x ∷ changes) s h =
-    service_law c changes (after_join c x s) (after_join-is c x s h) ∙ ap (λ q. queue_after c q changes) (join_law c x s h)
-service_law c (Leaves ∷ changes) s h =
-    service_law c changes (after_leave s) (after_leave-is c s h) ∙ ap (λ q. queue_after c q changes) (queue_of-after_leave s)

@@ -4,7 +4,6 @@
 -- request has the sweep of the head, or the next sweep if its cylinder is below the head's. The queue is the list of the requests
 -- that wait, sorted by sweep, then by cylinder, then by order of joining.
 use Rattle.std.specs.Prelude.{◌≡◌, ℕ, ◌+◌, ◌==◌, nat_lt, Bool, not, if◌then◌else◌, List, [], ◌∷◌, ◌++◌, map, filter, drop, length}
-use Rattle.std.specs.List.Sorted.{IsNonDecreasingBy}
 
 -- one that waits, and how many had joined before it
 pub record Waiting (A : Type 0) : Type 0 where
@@ -95,11 +94,6 @@ first_run cylinder_of head queue = filter (λ x. not (nat_lt (cylinder_of x) hea
 abbrev pub second_run : {A : Type 0} → (A → ℕ) → ℕ → List A → List A
 second_run cylinder_of head queue = filter (λ x. nat_lt (cylinder_of x) head) queue
 
-pub record IsTwoRuns {A : Type 0} (cylinder_of : A → ℕ) (head : ℕ) (queue : List A) : Type 0 where
-  pub both : queue ≡ first_run cylinder_of head queue ++ second_run cylinder_of head queue
-  pub first : IsNonDecreasingBy cylinder_of (first_run cylinder_of head queue)
-  pub second : IsNonDecreasingBy cylinder_of (second_run cylinder_of head queue)
-
 abbrev pub put_behind : {A : Type 0} → (A → ℕ) → A → List A → List A
 put_behind cylinder_of x [] = x ∷ []
 put_behind cylinder_of x (y ∷ ys) = if nat_lt (cylinder_of x) (cylinder_of y) then x ∷ y ∷ ys else y ∷ put_behind cylinder_of x ys
@@ -113,18 +107,3 @@ put_in_run cylinder_of head x queue =
 abbrev pub in_runs : {A : Type 0} → (A → ℕ) → A → List A → List A
 in_runs cylinder_of x [] = x ∷ []
 in_runs cylinder_of x (y ∷ ys) = put_in_run cylinder_of (cylinder_of y) x (y ∷ ys)
-
--- What happens to a queue, and what it is afterwards: by the sweeps that each one got as it joined, and by the queue alone.
-pub data Change (A : Type 0) : Type 0 where
-  Joins : (x : A) → Change A
-  Leaves : Change A
-
-abbrev pub service_after : {A : Type 0} → (A → ℕ) → Service A → List (Change A) → Service A
-service_after cylinder_of service [] = service
-service_after cylinder_of service (Joins x ∷ changes) = service_after cylinder_of (after_join cylinder_of x service) changes
-service_after cylinder_of service (Leaves ∷ changes) = service_after cylinder_of (after_leave service) changes
-
-abbrev pub queue_after : {A : Type 0} → (A → ℕ) → List A → List (Change A) → List A
-queue_after cylinder_of queue [] = queue
-queue_after cylinder_of queue (Joins x ∷ changes) = queue_after cylinder_of (queue_with cylinder_of x queue) changes
-queue_after cylinder_of queue (Leaves ∷ changes) = queue_after cylinder_of (drop 1 queue) changes

@@ -1,5 +1,5 @@
 use Rattle.pack_format.proofs.StepLaws.{step_ok, step_store}
-use Rattle.pack_format.proofs.ExitLaws.{fits_length, too_long_is_not_store}
+use Rattle.pack_format.proofs.ExitLaws.{fits_length}
 use Rattle.pack_format.proofs.formatting.check_length.Goals as goal
 
 pub returns-in_err-length : goal.returns-in_err-length

@@ -3,7 +3,7 @@ use Rattle.pack_geometry.specs.Pack.{Pack}
 use Rattle.pack_format.specs.Formatted.{IsTooLong}
 use Rattle.pack_format.specs.Steps.{seen}
 use Rattle.pack_format.specs.Faults.{IsEnd, IsFault, IsWhy, Leaves}
-use Rattle.pack_format.proofs.StepLaws.{at_error, caused, goes_same, goes_then, no_value, step_err, step_on, step_then}
+use Rattle.pack_format.proofs.StepLaws.{at_error, caused, no_value, step_then}
 use Rattle.pack_format.proofs.EndLaws.{end_alone, end_behind, formatted_behind, if_err}
 use Rattle.pack_format.proofs.ExitLaws.{memory_is_not_store}
 use Rattle.pack_format.proofs.formatting.format.Goals as goal

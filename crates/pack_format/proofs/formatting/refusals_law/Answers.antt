@@ -1,5 +1,5 @@
 use Rattle.pack_format.proofs.RefusalLaws.{no_refusal, one_refusal}
-use Rattle.pack_format.proofs.laws.refusals_law.Goals as goal
+use Rattle.pack_format.proofs.formatting.refusals_law.Goals as goal
 
 pub returns-clause-none : goal.returns-clause-none
 returns-clause-none c = no_refusal

@@ -1,4 +1,4 @@
-use Rattle.std.proofs.Common.{◌≡◌, IsTrue, length, arith, refl, subst, ℕ, ◌∙◌}
+use Rattle.std.proofs.Common.{◌≡◌, length, arith, refl, subst, ℕ, ◌∙◌}
 use Rattle.pack_format.proofs.FormatLaws.{formatted}
 use Rattle.pack_format.proofs.StepLaws.{goes_same, goes_then, not_done, on_err, step_ok, step_on}
 use Rattle.pack_format.proofs.WalkLaws.{IsDone, did_others, none_done, one_done, one_stopped, set_of, stopped_others, task_formats}

@@ -1,6 +1,7 @@
 use Rattle.std.proofs.Common.{sym, ap, ◌∙◌}
 use Rattle.std.specs.Option.{option_copied}
 use Rattle.transfer_engine.proofs.EntryLaws.{none_for_replacement, none_without, listed_for, place_inside}
+use Rattle.transfer_engine.proofs.Listing.{small}
 use Rattle.transfer_engine.proofs.states.Transfer.entry.Goals as goal
 
 pub returns-then-is_some-clause-entry : goal.returns-then-is_some-clause-entry
@@ -17,14 +18,14 @@ returns-in_err-table c = record {
   bound = rw c.from_residual.ensures tt;
 }
 
-pub place_of-requires : goal.place_of-requires
-place_of-requires c =
+pub place_of-place-requires : goal.place_of-place-requires
+place_of-place-requires c =
     place_inside c.args.clean c.parts-done.result.0 c.parts-done.result.1 _ c.parts-done.ensures.parts (sym c.is_some.ensures ∙ c.if-is_some.false) c.parts-done.ensures.valid c.requires
 
 pub returns-clause-entry : goal.returns-clause-entry
 returns-clause-entry c =
-    listed_for c.args.clean c.parts-done.result.0 c.parts-done.result.1 _ _ c.in_ok-table.field-0.now c.place_of.result _ c.parts-done.ensures.parts (sym c.is_some.ensures ∙ c.if-is_some.false)
-    (ap option_copied c.in_ok-table.was) c.place_of.ensures.place c.listed.ensures.listed
+    listed_for c.args.clean c.parts-done.result.0 c.parts-done.result.1 _ _ c.in_ok-table.table.now c.place_of-place.result _ c.parts-done.ensures.parts (sym c.is_some.ensures ∙ c.if-is_some.false)
+    (ap option_copied c.in_ok-table.was) c.place_of-place.ensures.place c.position.ensures.index
 
 pub returns-clause-bound : goal.returns-clause-bound
-returns-clause-bound c = c.listed.ensures.bound
+returns-clause-bound c = small c.in_ok-table.table.now c.place_of-place.result c.position.result c.entries-count.ensures.valid c.position.ensures.listed

@@ -1,7 +1,7 @@
 use Rattle.std.proofs.Common.{◌≡◌}
 use Rattle.pack_geometry.specs.TableFields.{long_at}
 use Rattle.bad144_table.specs.Faults.{IsReadUpTo}
-use Rattle.bad144_table.proofs.spelling.read_pairs.Given as goal
+use Rattle.bad144_table.proofs.spelling.read_table.Given as goal
 
 abbrev pub invariant-loop-i : goal.invariant-loop-i
 invariant-loop-i l = record {
