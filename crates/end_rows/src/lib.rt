@@ -5,9 +5,9 @@
 ghost use Rattle.end_rows.specs.Wrong.{NothingRun, NothingListed};
 
 #[cfg(test)]
-mod ends;
+mod rows;
 #[cfg(test)]
-mod sentences;
+mod simulator;
 #[cfg(test)]
 mod views;
 

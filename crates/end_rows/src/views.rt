@@ -1,130 +1,57 @@
 // What `hpview` prints on standard error at each end.
+use crate::rows::{Script, bytes_of, cut, ended_so, words};
 use hpview_run::end_status;
-use outside_files::start::words_of;
 use std::alloc::Global;
 use std::io;
-use std::io::{ErrorKind, Write};
+use std::io::{ErrorKind, sink};
 
-/// A command, its script, its trace, its status, and its first line on standard error.
-type View = (
-    &'static str,
-    &'static [u8],
-    Result<&'static [u8], ErrorKind>,
-    u8,
-    &'static str,
-);
+/// Each row has a status, a command, its script, its trace, and its first line on standard error.
+const ROWS: &str = "\
+0 | text | unit 0 rp06; | |
+2 | png | | | hpview: 'png' is not a valid FORM (svg, text, tsv, summary, json)
+2 | summary 1 9 | | | hpview: '1' is one word too many
+0 | tsv | unit 0 rp06; | |
+2 | text 9 3 | | | hpview: '3' is not a valid TO (9 to 4294967295)
+2 | --version | | | hpview 1.0.0
+2 | help | | | usage:
+3 | text | unit 0 rp06;read 1 0 c 0; | | hpview: line 2 of the script: COUNT is missing (1 to 127)
+3 | text | unit 0 rp06; | idle x; | hpview: line 1 of hp.trace: the text is not a line of a trace
+3 | text | unit 0 rp06; | idle 2;idle 1; | hpview: line 2 of hp.trace: its event comes before that of the line above
+3 | text | unit 0 rp06;read 1 0 c 0 1; | end 3 0 1;end 3 0 1; | hpview: line 2 of hp.trace: a line above has ended its request: it is perhaps the trace of another run
+3 | text | unit 0 rp06;read 1 0 c 0 1; | end 3 0 9; | hpview: line 1 of hp.trace: no line of the script asks for it: it is perhaps the trace of another script
+10 | text 6 9 | unit 0 rp06;read 1 0 c 0 1; | cmd 2 0 1 search 0 19;arrive 3 0 1;attn 3 0 1;cmd 3 0 1 rcom 0 1;sector 3 0 1 0 clean;intr 3 0 1;end 3 0 1; | hpview: the run ends before event 6: the number of its events is 5
+4 | text | ? | | hpview: cannot read standard input: invalid data
+4 | text | unit 0 rp06; | missing | hpview: there is no hp.trace in this folder: run 'hpsim play' first
+4 | text | unit 0 rp06; | forbidden | hpview: cannot read hp.trace: permission denied
+9 | ? | | | hpview: there is not enough memory for the script, the trace and the picture
+";
 
-static VIEWS: [View; 12] = [
-    ("text", b"unit 0 rp06\n", Ok(b""), 0, ""),
-    (
-        "png",
-        b"",
-        Ok(b""),
-        2,
-        "hpview: 'png' is not a valid FORM (svg, text, tsv, summary, json)",
-    ),
-    (
-        "summary 1 9",
-        b"",
-        Ok(b""),
-        2,
-        "hpview: '1' is one word too many",
-    ),
-    ("tsv", b"unit 0 rp06\n", Ok(b""), 0, ""),
-    (
-        "text 9 3",
-        b"",
-        Ok(b""),
-        2,
-        "hpview: '3' is not a valid TO (9 to 4294967295)",
-    ),
-    ("--version", b"", Ok(b""), 2, "hpview 1.0.0"),
-    (
-        "text",
-        b"unit 0 rp06\nread 1 0 c 0\n",
-        Ok(b""),
-        3,
-        "hpview: line 2 of the script: COUNT is missing (1 to 127)",
-    ),
-    (
-        "text",
-        b"unit 0 rp06\n",
-        Ok(b"idle x\n"),
-        3,
-        "hpview: line 1 of hp.trace: the text is not a line of a trace",
-    ),
-    (
-        "text",
-        b"unit 0 rp06\nread 1 0 c 0 1\n",
-        Ok(b"end 3 0 1\nend 3 0 1\n"),
-        3,
-        "hpview: line 2 of hp.trace: a line above has ended its request: it is perhaps the trace of another run",
-    ),
-    (
-        "text 6 9",
-        b"unit 0 rp06\nread 1 0 c 0 1\n",
-        Ok(
-            b"cmd 2 0 1 search 0 19\narrive 3 0 1\nattn 3 0 1\ncmd 3 0 1 rcom 0 1\nsector 3 0 1 0 clean\nintr 3 0 1\nend 3 0 1\n",
-        ),
-        10,
-        "hpview: the run ends before event 6: the number of its events is 5",
-    ),
-    (
-        "text",
-        b"unit 0 rp06\n",
-        Err(ErrorKind::NotFound),
-        4,
-        "hpview: there is no hp.trace in this folder: run 'hpsim play' first",
-    ),
-    (
-        "text",
-        b"unit 0 rp06\n",
-        Err(ErrorKind::PermissionDenied),
-        4,
-        "hpview: cannot read hp.trace: permission denied",
-    ),
-];
-
-/// The words of a line, which are separated by blanks.
-fn words(alloc: Global, line: &str) -> io::Result<Vec<String>> {
-    let mut all = Vec::new(alloc);
-    for word in line.split_whitespace() {
-        all.push(String::from_str(alloc, word)?)?;
-    }
-    Ok(all)
-}
-
-/// A writer that keeps nothing.
-#[derive(Drop)]
-struct Nothing;
-
-impl Write for Nothing {
-    fn write(&mut self, from: &[u8]) -> io::Result<usize> {
-        Ok(from.len())
-    }
-
-    fn flush(&mut self) -> io::Result<()> {
-        Ok(())
+/// A trace as its file gives it. `missing` and `forbidden` stand for files that cannot be opened.
+fn opened<'a>(trace: &'a [u8]) -> io::Result<&'a [u8]> {
+    match trace {
+        b"missing" => Err(io::Error::from(ErrorKind::NotFound)),
+        b"forbidden" => Err(io::Error::from(ErrorKind::PermissionDenied)),
+        _ => Ok(trace),
     }
 }
 
 /// Whether a command ends as its row says.
-fn ends_so(alloc: Global, view: &View) -> bool {
-    let (line, script, trace, wanted, told) = *view;
-    let trace = match trace {
-        Ok(bytes) => Ok(bytes),
-        Err(kind) => Err(io::Error::from(kind)),
-    };
+fn ends_so(alloc: Global, row: &str) -> io::Result<bool> {
+    let (wanted, rest) = cut(row);
+    let (command, rest) = cut(rest);
+    let (script, rest) = cut(rest);
+    let (trace, rest) = cut(rest);
+    let (script, trace) = (bytes_of(alloc, script)?, bytes_of(alloc, trace)?);
+    let words = words(alloc, command);
+    let (script, trace) = (Script(script.as_slice()), opened(trace.as_slice()));
     let mut errors = Vec::new(alloc);
-    let words = words_of(alloc, words(alloc, line));
-    let status = end_status(alloc, words, script, trace, Nothing, &mut errors);
-    let text = str::from_utf8(errors.as_slice()).unwrap_or("?");
-    status == wanted && text.lines().next().unwrap_or("") == told
+    let status = end_status(alloc, words, script, trace, sink(), &mut errors);
+    Ok(ended_so(status, errors.as_slice(), wanted, cut(rest).0))
 }
 
 #[test]
 fn each_view(rt: HostRuntime) {
-    for view in &VIEWS {
-        assert!(rt; ends_so(rt.alloc(), view));
+    for row in ROWS.lines() {
+        assert!(rt; matches!(ends_so(rt.alloc(), row), Ok(true)));
     }
 }

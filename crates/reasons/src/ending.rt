@@ -1,7 +1,7 @@
 // Why a run ended.
 use crate::lines::{check_line, fields_of, kind_of_unit, line_of};
-use crate::sentence::Piece::{Error, Letter, Number, Text, Word};
-use crate::sentence::{Piece, Sentence, say};
+use crate::sentence::Piece::{Error, Number, Text, Word};
+use crate::sentence::{Sentence, say};
 use crate::words::{check_command, check_view, is, target, text_of, value, word};
 use outside_files::failure::{Deed, PackNotes, SinkNotes, SourceNotes};
 use outside_files::folder::Part;
@@ -31,58 +31,47 @@ pub struct Ending<'a> {
     pub trace: Option<(Deed, io::Error)>,
 }
 
-/// Why a line of a trace was refused, by the word for the kind of refusal.
-static TRACE_FAULTS: [(&str, &str); 5] = [
-    (
-        "long",
-        "line {} of hp.trace: the trace has more than 268435456 bytes",
-    ),
-    (
-        "word",
-        "line {} of hp.trace: the text is not a line of a trace",
-    ),
-    (
-        "order",
-        "line {} of hp.trace: its event comes before that of the line above",
-    ),
-    (
-        "ended",
-        "line {} of hp.trace: a line above has ended its request: it is perhaps the trace of another run",
-    ),
-    (
-        "script",
-        "line {} of hp.trace: no line of the script asks for it: it is perhaps the trace of another script",
-    ),
-];
+/// Why a line of a trace was refused, by the word for the kind of refusal. {0} is the line.
+const TRACE_FAULTS: &str = "\
+long: line {0} of hp.trace: the trace has more than 268435456 bytes
+word: line {0} of hp.trace: the text is not a line of a trace
+order: line {0} of hp.trace: its event comes before that of the line above
+ended: line {0} of hp.trace: a line above has ended its request: it is perhaps the trace of another run
+script: line {0} of hp.trace: no line of the script asks for it: it is perhaps the trace of another script
+";
 
-/// Why a line of a script was refused, by the word for the kind of refusal.
-static LINE_FAULTS: [(&str, &str); 6] = [
-    ("linelong", "the line has more than 140000 bytes"),
-    (
-        "toomany",
-        "the script is too long: it may have at most 1000000 lines, 65536 requests and 4096 'noise' lines",
-    ),
-    ("lateunit", "'unit' lines must come before all other lines"),
-    ("unittwice", "unit {} is declared already"),
-    (
-        "unitunknown",
-        "unit {} is not declared: a line 'unit U KIND' must come before",
-    ),
-    (
-        "idtwice",
-        "id {} is used already, and each request needs an id of its own",
-    ),
-];
+/// Why a line of a script was refused, by the word for the kind of refusal. {0} is the unit or the id.
+const LINE_FAULTS: &str = "\
+linelong: the line has more than 140000 bytes
+toomany: the script is too long: it may have at most 1000000 lines, 65536 requests and 4096 'noise' lines
+lateunit: 'unit' lines must come before all other lines
+unittwice: unit {0} is declared already
+unitunknown: unit {0} is not declared: a line 'unit U KIND' must come before
+idtwice: id {0} is used already, and each request needs an id of its own
+";
+
+/// Why `bad144` or `format` refused, by a word of what it printed. {0} is the unit, {1} its kind of drive, {2} the number that follows
+/// the word, {3} the block of the replacement of that number, {4} the block that the command names, and {5} the last data block.
+const TOOL_FAULTS: &str = "\
+reserved: block {4} of an {1} is not a data block: data blocks are 0 to {5}, and replacements and tables follow them
+listed: block {4} is listed already, as entry {2}
+full: the table of hp{0}.dsk is full: it has 126 entries
+spare: replacement {2} of hp{0}.dsk (block {3}) is needed, but it is marked in hp{0}.bad
+differs: block {2} of hp{0}.dsk does not read back as it was written: the blocks up to it are empty now, and no table was written
+table: hp{0}.dsk has no bad-sector table for an {1}: 'hpsim bad144 fresh {0} {1} SERIAL' writes an empty one
+copy: hp{0}.dsk has no room for a table: all five places are marked in hp{0}.bad
+many: hp{0}.bad marks {2} data blocks, and a table lists at most 126
+";
 
 /// What a command may not have memory for.
-static NEEDS: [(&str, &str); 6] = [
-    ("play", "the script, its requests and what they move"),
-    ("cached", "the script and the cache"),
-    ("exercise", "the exercise and its packs"),
-    ("format", "the drive that tests the pack"),
-    ("raw", "the bytes that are moved"),
-    ("dump", "the bytes that are moved"),
-];
+const NEEDS: &str = "\
+play: the script, its requests and what they move
+cached: the script and the cache
+exercise: the exercise and its packs
+format: the drive that tests the pack
+raw: the bytes that are moved
+dump: the bytes that are moved
+";
 
 /// The name of a kind of drive, in lower case.
 pub(crate) fn kind_name(kind: DriveKind) -> &'static str {
@@ -111,28 +100,21 @@ fn line_refusal<'a>(
     let script = script_of(ending);
     let fields = fields_of(alloc, line_of(script, line)).ok()?;
     let fields = fields.as_slice();
-    let verb = word(fields, 0);
-    let is_request = is(verb, "read") || is(verb, "write");
-    let named = if is_request && !is(kind, "idtwice") {
-        word(fields, 2)
-    } else {
-        word(fields, 1)
-    };
-    if let Some(text) = text_of(&LINE_FAULTS, kind) {
-        return Some(say(text, &[Word(named)]).in_line(line));
+    let is_request = matches!(word(fields, 0), b"read" | b"write");
+    let named = 1 + usize::from(is_request && !is(kind, "idtwice"));
+    if let Some(text) = text_of(LINE_FAULTS, kind) {
+        return Some(say(text, &[Word(word(fields, named))]).in_line(line));
     }
     let is_cached = is(word(ending.words, 0), "cached");
     if let Err(fault) = check_line(script, fields, is_cached) {
         return Some(fault.in_line(line));
     }
     let bits = "BITS must be 1 to 64 places from 0 to 4127, each greater than the one before";
+    let other = "line {0} of the script is refused: {1}";
     Some(if is(kind, "bits") {
         say(bits, &[]).in_line(line)
     } else {
-        say(
-            "line {} of the script is refused: {}",
-            &[Number(line), Word(kind)],
-        )
+        say(other, &[Number(line), Word(kind)])
     })
 }
 
@@ -142,7 +124,7 @@ fn refusal<'a>(alloc: Global, ending: &Ending<'a>) -> Option<Sentence<'a>> {
         [_, _, _, b"scriptlong"] => Some(say("the script has more than 16777216 bytes", &[])),
         [_, _, line, kind] => line_refusal(alloc, ending, value(line), kind),
         [_, _, _, line, kind] => {
-            let text = text_of(&TRACE_FAULTS, kind)?;
+            let text = text_of(TRACE_FAULTS, kind)?;
             Some(say(text, &[Number(value(line))]))
         }
         _ => None,
@@ -151,109 +133,45 @@ fn refusal<'a>(alloc: Global, ending: &Ending<'a>) -> Option<Sentence<'a>> {
 
 /// The reason if an image is too long.
 fn long_image<'a>(ending: &Ending<'a>) -> Option<Sentence<'a>> {
-    let (unit, length) = match ending.out {
-        [_, _, _, unit, _, length] => (value(unit), Number(value(length))),
-        _ => return None,
-    };
+    let unit = value(word(ending.out, 3));
+    let length = value(ending.out.get(5)?);
     let kind = match target(ending.words) {
         Some((_, kind)) => kind,
         None => kind_of_unit(script_of(ending), unit.min(31) as u8)?,
     };
-    let unit = Number(unit);
-    let whole = Number(u64::from(blocks(kind)).saturating_mul(512));
-    Some(say(
-        "hp{}.dsk has {} bytes, and a whole {} has {}: if that is the right kind, the rest may be a footer of SIMH's, which 'truncate -s {} hp{}.dsk' removes",
-        &[unit, length, Text(kind_name(kind)), whole, whole, unit],
-    ))
-}
-
-/// Why `bad144 add` refused.
-fn add_refusal<'a>(ending: &Ending<'a>, unit: u64, drive: DriveKind) -> Option<Sentence<'a>> {
-    let block = Number(value(word(ending.words, 4)));
-    let verdict = word(ending.out, 1);
-    if is(verdict, "reserved") {
-        let last = Number(u64::from(data_limit(drive)).saturating_sub(1));
-        return Some(say(
-            "block {} of an {} is not a data block: data blocks are 0 to {}, and replacements and tables follow them",
-            &[block, Text(kind_name(drive)), last],
-        ));
-    }
-    if is(verdict, "listed") {
-        let entry = Number(value(word(ending.out, 2)));
-        return Some(say("block {} is listed already, as entry {}", &[block, entry]));
-    }
-    if is(verdict, "full") {
-        let text = "the table of hp{}.dsk is full: it has 126 entries";
-        return Some(say(text, &[Number(unit)]));
-    }
-    None
-}
-
-/// Why the blocks of a pack were refused.
-fn block_refusal<'a>(ending: &Ending<'a>, unit: u64, drive: DriveKind) -> Option<Sentence<'a>> {
-    let verdict = word(ending.out, 1);
-    let third = value(word(ending.out, 2));
-    let (unit, at) = (Number(unit), Number(third));
-    if is(verdict, "spare") && third < 126 {
-        let block = Number(u64::from(replacement(drive, third as u32)));
-        return Some(say(
-            "replacement {} of hp{}.dsk (block {}) is needed, but it is marked in hp{}.bad",
-            &[at, unit, block, unit],
-        ));
-    }
-    if is(verdict, "differs") {
-        return Some(say(
-            "block {} of hp{}.dsk does not read back as it was written: the blocks up to it are empty now, and no table was written",
-            &[at, unit],
-        ));
-    }
-    None
-}
-
-/// Why the table of a pack was refused.
-fn table_refusal<'a>(ending: &Ending<'a>, unit: u64, drive: DriveKind) -> Option<Sentence<'a>> {
-    let (unit, kind) = (Number(unit), Text(kind_name(drive)));
-    let missing = word(ending.out, 2);
-    if is(missing, "table") {
-        return Some(say(
-            "hp{}.dsk has no bad-sector table for an {}: 'hpsim bad144 fresh {} {} SERIAL' writes an empty one",
-            &[unit, kind, unit, kind],
-        ));
-    }
-    if is(missing, "copy") {
-        return Some(say(
-            "hp{}.dsk has no room for a table: all five places are marked in hp{}.bad",
-            &[unit, unit],
-        ));
-    }
-    let count = Number(value(ending.out.get(3)?));
-    Some(say(
-        "hp{}.bad marks {} data blocks, and a table lists at most 126",
-        &[unit, count],
-    ))
+    let whole = u64::from(blocks(kind)).saturating_mul(512);
+    let text =
+        "hp{0}.dsk has {1} bytes, and a whole {2} has {3}: if that is the right kind, the rest may be a footer of SIMH's, which 'truncate -s {3} hp{0}.dsk' removes";
+    let kind = Text(kind_name(kind));
+    Some(say(text, &[Number(unit), Number(length), kind, Number(whole)]))
 }
 
 /// Why `bad144` or `format` refused.
 fn tool_refusal<'a>(ending: &Ending<'a>) -> Option<Sentence<'a>> {
     let (unit, drive) = target(ending.words)?;
-    let unit = u64::from(unit);
-    if let Some(sentence) = add_refusal(ending, unit, drive) {
-        return Some(sentence);
-    }
-    if let Some(sentence) = block_refusal(ending, unit, drive) {
-        return Some(sentence);
-    }
-    table_refusal(ending, unit, drive)
+    let at = match word(ending.out, 1) {
+        b"no" | b"too" => 2,
+        _ => 1,
+    };
+    let number = value(word(ending.out, at + 1));
+    let spare = replacement(drive, number.min(125) as u32);
+    let last = data_limit(drive).saturating_sub(1);
+    let pieces = [
+        Number(u64::from(unit)),
+        Text(kind_name(drive)),
+        Number(number),
+        Number(u64::from(spare)),
+        Number(value(word(ending.words, 4))),
+        Number(u64::from(last)),
+    ];
+    Some(say(text_of(TOOL_FAULTS, word(ending.out, at))?, &pieces))
 }
 
 /// Why a transfer was refused. A dump covers whole blocks at the end of partition `b`.
 fn transfer_refusal<'a>(ending: &Ending<'a>) -> Option<Sentence<'a>> {
     let (unit, drive) = target(ending.words)?;
-    let letter = match ending.words {
-        [_, _, _, _, [letter], ..] => *letter,
-        _ => b'b',
-    };
-    let part = part_of(letter)?;
+    let letter = ending.words.get(4).copied().unwrap_or(b"b");
+    let part = part_of(*letter.first()?)?;
     let whole = u64::from(part_range(drive, part).size).saturating_mul(512);
     let given = ending.script.given;
     let (most, at, size) = match ending.words {
@@ -264,23 +182,22 @@ fn transfer_refusal<'a>(ending: &Ending<'a>) -> Option<Sentence<'a>> {
             (8_388_608, whole.saturating_sub(size), size)
         }
     };
-    if given > most {
-        return Some(say(
-            "standard input has more than {} bytes, the most that is written at once",
-            &[Number(most)],
-        ));
-    }
+    let part = Text(str::from_utf8(letter).unwrap_or(""));
+    let kind = Text(kind_name(drive));
     let end = at.saturating_add(size);
-    let part = Letter(char::from(letter));
+    if given > most {
+        let text = "standard input has more than {0} bytes, the most that is written at once";
+        return Some(say(text, &[Number(most)]));
+    }
     if end > whole {
-        let last = end.saturating_sub(1).max(at);
+        let last = Number(end.saturating_sub(1).max(at));
         return Some(say(
-            "bytes {} to {} reach beyond partition {} of an {}, which has {} bytes ({} blocks)",
+            "bytes {0} to {1} reach beyond partition {2} of an {3}, which has {4} bytes ({5} blocks)",
             &[
                 Number(at),
-                Number(last),
+                last,
                 part,
-                Text(kind_name(drive)),
+                kind,
                 Number(whole),
                 Number(whole / 512),
             ],
@@ -291,28 +208,23 @@ fn transfer_refusal<'a>(ending: &Ending<'a>) -> Option<Sentence<'a>> {
         [_, _, done] => (value(done), "written"),
         _ => return None,
     };
-    let block = at.saturating_add(done) / 512;
+    let block = Number(at.saturating_add(done) / 512);
+    let unit = Number(u64::from(unit));
     Some(say(
-        "block {} of partition {} of hp{}.dsk is marked and has no good replacement: {} bytes before it were {}",
-        &[
-            Number(block),
-            part,
-            Number(u64::from(unit)),
-            Number(done),
-            Text(what),
-        ],
+        "block {0} of partition {1} of hp{2}.dsk is marked and has no good replacement: {3} bytes before it were {4}",
+        &[block, part, unit, Number(done), Text(what)],
     ))
 }
 
 /// What a call on a file tried.
-fn tried<'a>(deed: Deed) -> Piece<'a> {
-    Text(match deed {
+fn tried(deed: Deed) -> &'static str {
+    match deed {
         Deed::Open => "open",
         Deed::Make => "open or make",
         Deed::Read => "read",
         Deed::Write => "write",
         Deed::Measure => "get the length of",
-    })
+    }
 }
 
 /// The reason if a call on the packs failed. For `format`, `dump` and `raw` it says how far the command came.
@@ -322,78 +234,66 @@ fn pack_failure<'a>(ending: &Ending<'a>) -> Option<Sentence<'a>> {
         Part::Image => "dsk",
         Part::Marks => "bad",
     };
-    let (tried, unit) = (tried(call.deed), Number(u64::from(call.unit)));
-    let (suffix, error) = (Text(suffix), Error(error));
-    let last = Number(u64::from(ending.packs.last));
-    let command = word(ending.words, 0);
-    let writes = is(command, "format") || is(command, "dump") || is(command, "raw");
-    Some(match ending.packs.written {
-        _ if !writes => say("cannot {} hp{}.{}: {}", &[tried, unit, suffix, error]),
-        0 => say(
-            "cannot {} hp{}.{}: {}; no block was written before",
-            &[tried, unit, suffix, error],
-        ),
-        1 => say(
-            "cannot {} hp{}.{}: {}; one block was written before, block {} of the pack",
-            &[tried, unit, suffix, error, last],
-        ),
-        written => say(
-            "cannot {} hp{}.{}: {}; {} blocks were written before, the last one block {} of the pack",
-            &[tried, unit, suffix, error, Number(written), last],
-        ),
-    })
+    let writes = matches!(word(ending.words, 0), b"format" | b"dump" | b"raw");
+    let text = match ending.packs.written {
+        _ if !writes => "cannot {0} hp{1}.{2}: {3}",
+        0 => "cannot {0} hp{1}.{2}: {3}; no block was written before",
+        1 => "cannot {0} hp{1}.{2}: {3}; one block was written before, block {5} of the pack",
+        _ =>
+            "cannot {0} hp{1}.{2}: {3}; {4} blocks were written before, the last one block {5} of the pack",
+    };
+    let pieces = [
+        Text(tried(call.deed)),
+        Number(u64::from(call.unit)),
+        Text(suffix),
+        Error(error),
+        Number(ending.packs.written),
+        Number(u64::from(ending.packs.last)),
+    ];
+    Some(say(text, &pieces))
 }
 
 /// The reason if a stream or the file of the trace failed.
-fn stream_failure<'a>(
-    stream: Option<(Deed, io::Error)>,
-    text: &'static str,
-    trace: Option<(Deed, io::Error)>,
-) -> Option<Sentence<'a>> {
+fn stream_failure<'a>(ending: &Ending<'a>) -> Option<Sentence<'a>> {
+    let (stream, text) = match ending.status {
+        4 => (
+            ending.script.failures.first,
+            "cannot read standard input: {0}",
+        ),
+        _ => (
+            ending.output.failures.first,
+            "cannot write to standard output: {0}",
+        ),
+    };
     if let Some((_, error)) = stream {
         return Some(say(text, &[Error(error)]));
     }
-    let (deed, error) = trace?;
-    if deed == Deed::Read && error.kind() == ErrorKind::NotFound {
-        let text = "there is no hp.trace in this folder: run 'hpsim play' first";
-        return Some(say(text, &[]));
-    }
-    Some(say("cannot {} hp.trace: {}", &[tried(deed), Error(error)]))
-}
-
-/// The reason if standard input could not be read, or the trace of `hpview`.
-fn input_failure<'a>(ending: &Ending<'a>) -> Option<Sentence<'a>> {
-    let stream = ending.script.failures.first;
-    stream_failure(stream, "cannot read standard input: {}", ending.trace)
-}
-
-/// The reason if standard output could not be written, or the trace of `hpsim`.
-fn output_failure<'a>(ending: &Ending<'a>) -> Option<Sentence<'a>> {
-    let stream = ending.output.failures.first;
-    stream_failure(stream, "cannot write to standard output: {}", ending.trace)
+    let (deed, error) = ending.trace?;
+    let text = match deed {
+        Deed::Read if error.kind() == ErrorKind::NotFound => {
+            "there is no hp.trace in this folder: run 'hpsim play' first"
+        }
+        _ => "cannot {0} hp.trace: {1}",
+    };
+    Some(say(text, &[Text(tried(deed)), Error(error)]))
 }
 
 /// Why the events that the words of `hpview` name were refused: the run ends before the first of them.
 fn window_refusal<'a>(ending: &Ending<'a>) -> Option<Sentence<'a>> {
-    let (events, from) = match (ending.out, ending.words) {
-        ([_, _, events], [_, from, _]) => (Number(value(events)), Number(value(from))),
-        _ => return None,
-    };
-    Some(say(
-        "the run ends before event {}: the number of its events is {}",
-        &[from, events],
-    ))
+    let from = Number(value(word(ending.words, 1)));
+    let events = Number(value(ending.out.get(2)?));
+    let text = "the run ends before event {0}: the number of its events is {1}";
+    Some(say(text, &[from, events]))
 }
 
 /// The reason if there was no memory.
-fn no_memory<'a>(ending: &Ending<'a>) -> Option<Sentence<'a>> {
+fn no_memory<'a>(ending: &Ending<'a>) -> Sentence<'a> {
+    let words = "the words of the command, or for what is read ahead";
     let what = match ending.program {
-        Program::Hpsim => text_of(&NEEDS, word(ending.words, 0)).unwrap_or(
-            "the words of the command, or for what is read ahead",
-        ),
+        Program::Hpsim => text_of(NEEDS, word(ending.words, 0)).unwrap_or(words),
         Program::Hpview => "the script, the trace and the picture",
     };
-    Some(say("there is not enough memory for {}", &[Text(what)]))
+    say("there is not enough memory for {0}", &[Text(what)])
 }
 
 /// What is wrong with the words. None if nothing is found to be wrong.
@@ -405,17 +305,16 @@ fn words_fault<'a>(ending: &Ending<'a>) -> Option<Sentence<'a>> {
     checked.err()
 }
 
-/// The reason by the status. None if it is not known.
+/// The reason by the status and the program. None if it is not known.
 fn known<'a>(alloc: Global, ending: &Ending<'a>) -> Option<Sentence<'a>> {
     match ending.status {
         2 => words_fault(ending),
         3 => refusal(alloc, ending),
-        4 => input_failure(ending),
-        5 => output_failure(ending),
+        4 | 5 => stream_failure(ending),
         6 => pack_failure(ending),
         7 => long_image(ending),
         8 | 11 => tool_refusal(ending),
-        9 => no_memory(ending),
+        9 => Some(no_memory(ending)),
         10 => match ending.program {
             Program::Hpsim => transfer_refusal(ending),
             Program::Hpview => window_refusal(ending),
@@ -426,8 +325,6 @@ fn known<'a>(alloc: Global, ending: &Ending<'a>) -> Option<Sentence<'a>> {
 
 /// Why a run ended with a status other than 0.
 pub(crate) fn reason<'a>(alloc: Global, ending: &Ending<'a>) -> Sentence<'a> {
-    known(alloc, ending).unwrap_or(say(
-        "the run ended with status {}",
-        &[Number(u64::from(ending.status))],
-    ))
+    let status = Number(u64::from(ending.status));
+    known(alloc, ending).unwrap_or(say("the run ended with status {0}", &[status]))
 }

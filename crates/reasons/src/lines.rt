@@ -1,6 +1,6 @@
 // The lines of a script, and which field of a refused line is wrong.
-use crate::fields::Allowed::{Digits, Numbers, Words};
-use crate::fields::{BYTE, Field, KIND, PART, UNIT, left_over, only, optional, walk};
+use crate::fields::{BYTE, Field, KIND, PART, UNIT, end, only, optional, walk};
+use crate::sentence::Piece::{Digits, Numbers, Text};
 use crate::sentence::{Sentence, say};
 use crate::words::{block_field, is, named, word};
 use mass_text::{Fields, Radix, number};
@@ -9,12 +9,12 @@ use std::alloc::{AllocError, Global};
 
 const VERB: Field = Field(
     "first word",
-    Words(
+    Text(
         "unit, read, write, arrive, turn, move, attend, noise, fault, offline, online, lock, unlock, drain",
     ),
 );
 
-const CACHED_VERB: Field = Field("first word", Words("unit, read, write, sync"));
+const CACHED_VERB: Field = Field("first word", Text("unit, read, write, sync"));
 
 const ID: Field = Field("ID", Numbers(0, 4_294_967_295));
 
@@ -26,15 +26,13 @@ const TIMES: Field = Field("TIMES", Numbers(1, 1000));
 
 const PLACE: Field = Field("BITS", Numbers(0, 4127));
 
-const ADAPTER: Field = Field("A", Numbers(0, 3));
+const WHAT: Field = Field("WHAT", Text("seek, opi, dte, hcrc, late"));
 
-const WHAT: Field = Field("WHAT", Words("seek, opi, dte, hcrc, late"));
+const CODE: Field = Field("CODE", Text("+400, -400, +800, -800, +1200, -1200"));
 
-const CODE: Field = Field("CODE", Words("+400, -400, +800, -800, +1200, -1200"));
+const FILL: Field = Field("kind of data", Text("fill"));
 
-const FILL: Field = Field("kind of data", Words("fill"));
-
-const CONTENT: Field = Field("kind of data", Words("fill, seq, hex"));
+const CONTENT: Field = Field("kind of data", Text("fill, seq, hex"));
 
 /// A line of a text by its number, counted from 1, without its LF and CR. It is empty if there is no such line.
 pub(crate) fn line_of(text: &[u8], line: u64) -> &[u8] {
@@ -91,13 +89,10 @@ fn kind_at(script: &[u8], field: &[u8]) -> DriveKind {
 /// An error if there is something wrong with the words that follow the blocks or the bytes of a request.
 fn check_tail<'a>(words: &[&'a [u8]]) -> Result<(), Sentence<'a>> {
     let rest = optional(words, "off", &[Field("N of off", Numbers(0, 511))])?;
-    match optional(rest, "last", &[Field("M of last", Numbers(1, 512))])? {
-        [] => Ok(()),
-        [word, ..] => Err(left_over(
-            word,
-            "{} cannot stand there: only these may follow: [off N] [last M], in this order",
-        )),
-    }
+    end(
+        optional(rest, "last", &[Field("M of last", Numbers(1, 512))])?,
+        "{0} cannot stand there: only these may follow: [off N] [last M], in this order",
+    )
 }
 
 /// An error if there is something wrong with the fields of a `write`.
@@ -114,9 +109,8 @@ fn check_write<'a>(words: &[&'a [u8]]) -> Result<(), Sentence<'a>> {
     check_tail(walk(rest, &[content])?)
 }
 
-/// An error if there is something wrong with the fields of a `noise`.
-fn check_noise<'a>(script: &[u8], words: &[&'a [u8]]) -> Result<(), Sentence<'a>> {
-    let kind = kind_at(script, word(words, 0));
+/// An error if there is something wrong with the fields of a `noise` of a unit of this kind.
+fn check_noise<'a>(kind: DriveKind, words: &[&'a [u8]]) -> Result<(), Sentence<'a>> {
     let rest = walk(words, &[UNIT, block_field(kind)])?;
     let places = match rest {
         [word, rest @ ..] if is(word, "until") => walk(rest, &[CODE])?,
@@ -129,52 +123,33 @@ fn check_noise<'a>(script: &[u8], words: &[&'a [u8]]) -> Result<(), Sentence<'a>
     Ok(())
 }
 
-/// An error if there is something wrong with the fields of a `turn`.
-fn check_turn<'a>(script: &[u8], words: &[&'a [u8]]) -> Result<(), Sentence<'a>> {
-    let kind = kind_at(script, word(words, 0));
-    let last = u64::from(geometry_of(kind).sectors).saturating_sub(1);
-    only(words, &[UNIT, Field("S", Numbers(0, last))])
-}
-
-/// An error if there is something wrong with the fields of a line of `play`.
-fn check_played<'a>(script: &[u8], words: &[&'a [u8]]) -> Result<(), Sentence<'a>> {
-    let rest = walk(words, &[VERB])?;
-    match word(words, 0) {
-        b"unit" => only(rest, &[UNIT, KIND]),
-        b"read" => check_tail(walk(rest, &[ID, UNIT, PART, BLOCK, COUNT])?),
-        b"write" => check_write(rest),
-        b"turn" => check_turn(script, rest),
-        b"move" | b"attend" => only(rest, &[ADAPTER]),
-        b"noise" => check_noise(script, rest),
-        b"fault" => only(rest, &[UNIT, WHAT, TIMES]),
-        b"drain" => only(rest, &[]),
-        _ => only(rest, &[UNIT]),
-    }
-}
-
-/// An error if there is something wrong with the fields of a line of `cached`.
-fn check_cached<'a>(words: &[&'a [u8]]) -> Result<(), Sentence<'a>> {
-    let rest = walk(words, &[CACHED_VERB])?;
-    match word(words, 0) {
-        b"unit" => only(rest, &[UNIT, KIND]),
-        b"read" => only(rest, &[ID, UNIT, BLOCK, COUNT]),
-        b"write" => only(rest, &[ID, UNIT, BLOCK, COUNT, FILL, BYTE]),
-        _ => only(rest, &[]),
-    }
-}
-
 /// An error if a field of a line is faulty by itself. The line stands in a script of `cached` if `is_cached`, otherwise of `play`.
 pub(crate) fn check_line<'a>(
     script: &[u8],
     words: &[&'a [u8]],
     is_cached: bool,
 ) -> Result<(), Sentence<'a>> {
-    match words {
-        [[0xEF, 0xBB, 0xBF, ..], ..] => Err(say(
-            "it begins with a byte-order mark, so save the script without one",
-            &[],
-        )),
-        _ if is_cached => check_cached(words),
-        _ => check_played(script, words),
+    let verb = word(words, 0);
+    if verb.starts_with(b"\xEF\xBB\xBF") {
+        let text = "it begins with a byte-order mark, so save the script without one";
+        return Err(say(text, &[]));
+    }
+    let rest = walk(words, &[if is_cached { CACHED_VERB } else { VERB }])?;
+    let kind = kind_at(script, word(rest, 0));
+    match verb {
+        b"unit" => only(rest, &[UNIT, KIND]),
+        b"read" if is_cached => only(rest, &[ID, UNIT, BLOCK, COUNT]),
+        b"write" if is_cached => only(rest, &[ID, UNIT, BLOCK, COUNT, FILL, BYTE]),
+        b"read" => check_tail(walk(rest, &[ID, UNIT, PART, BLOCK, COUNT])?),
+        b"write" => check_write(rest),
+        b"turn" => {
+            let last = u64::from(geometry_of(kind).sectors).saturating_sub(1);
+            only(rest, &[UNIT, Field("S", Numbers(0, last))])
+        }
+        b"move" | b"attend" => only(rest, &[Field("A", Numbers(0, 3))]),
+        b"noise" => check_noise(kind, rest),
+        b"fault" => only(rest, &[UNIT, WHAT, TIMES]),
+        b"drain" | b"sync" => only(rest, &[]),
+        _ => only(rest, &[UNIT]),
     }
 }

@@ -5,12 +5,11 @@ use std::{fmt, io};
 /// How many bytes of a word are shown at most.
 const MOST: usize = 40;
 
-/// What a sentence says in the place of `{}`.
+/// What a sentence says in the place of a number in braces.
 #[derive(Clone, Copy)]
 pub enum Piece<'a> {
     Nothing,
     Text(&'a str),
-    Letter(char),
     Number(u64),
     /// The numbers from the first one to the second one.
     Numbers(u64, u64),
@@ -22,7 +21,8 @@ pub enum Piece<'a> {
     Error(io::Error),
 }
 
-/// A sentence: the line of the script that is faulty, if there is one, a text, and what stands in the place of each `{}` of the text.
+/// A sentence: the line of the script that is faulty, if there is one, and a text with its pieces. The first piece stands in the place
+/// of each `{0}`, the next one in the place of each `{1}`, and so on.
 #[derive(Clone, Copy)]
 pub struct Sentence<'a> {
     line: Option<u64>,
@@ -71,11 +71,10 @@ impl Display for Piece<'_> {
         match self {
             Piece::Nothing => Ok(()),
             Piece::Text(text) => f.write_str(text),
-            Piece::Letter(letter) => Display::fmt(letter, f),
             Piece::Number(number) => Display::fmt(number, f),
-            Piece::Word(word) => put_word(word, f),
             Piece::Numbers(low, high) => write!(f, "{low} to {high}"),
             Piece::Digits(count) => write!(f, "{count} hexadecimal digits"),
+            Piece::Word(word) => put_word(word, f),
             Piece::Error(error) => Display::fmt(error, f),
         }
     }
@@ -86,12 +85,10 @@ impl Display for Sentence<'_> {
         if let Some(line) = self.line {
             write!(f, "line {line} of the script: ")?;
         }
-        let mut pieces = self.pieces.iter();
-        for (at, text) in self.text.split("{}").enumerate() {
-            if at > 0 {
-                if let Some(piece) = pieces.next() {
-                    write!(f, "{piece}")?;
-                }
+        for part in self.text.split('{') {
+            let (place, text) = part.split_once('}').unwrap_or(("", part));
+            if let Ok(place) = place.parse::<usize>() {
+                Display::fmt(&piece_at(&self.pieces, place), f)?;
             }
             f.write_str(text)?;
         }

@@ -103,13 +103,16 @@ usage:
   SCRIPT   the script that 'hpsim play' made hp.trace from
 ";
 
-/// What `help COMMAND` prints.
-pub(crate) static HELPS: [(&str, &str); 7] = [
-    ("play", PLAY),
-    ("cached", CACHED),
-    ("bad144", BAD144),
-    ("format", FORMAT),
-    ("raw", RAW),
-    ("dump", DUMP),
-    ("exercise", EXERCISE),
-];
+/// What a command does. None if there is no such command.
+pub(crate) fn help_of(command: &[u8]) -> Option<&'static str> {
+    match command {
+        b"play" => Some(PLAY),
+        b"cached" => Some(CACHED),
+        b"bad144" => Some(BAD144),
+        b"format" => Some(FORMAT),
+        b"raw" => Some(RAW),
+        b"dump" => Some(DUMP),
+        b"exercise" => Some(EXERCISE),
+        _ => None,
+    }
+}

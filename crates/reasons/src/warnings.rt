@@ -2,7 +2,7 @@
 use crate::ending::kind_name;
 use crate::sentence::Piece::{Number, Text};
 use crate::sentence::{Sentence, say};
-use crate::words::{check_command, is, target, word};
+use crate::words::{check_command, target, word};
 use bad144_table::table_of;
 use outside_files::files::FilePacks;
 use outside_files::folder::Part;
@@ -45,27 +45,21 @@ fn warning<R: Files + AllocGlobal>(rt: &R, words: &[&[u8]]) -> Option<Sentence<'
 where
     R::File: FileExt,
 {
-    if check_command(words).is_err() {
-        return None;
-    }
+    check_command(words).ok()?;
     let (unit, kind) = target(words)?;
     let number = Number(u64::from(unit));
-    let (command, verb) = (word(words, 0), word(words, 1));
-    let is_tool = is(command, "bad144");
-    if is(command, "format") || is_tool && is(verb, "fresh") {
-        let (old, new) = (kind_name(other_kind(rt, unit, kind)?), kind_name(kind));
-        return Some(say(
-            "hp{}.dsk has the bad-sector table of an {}, and is written as an {} now",
-            &[number, Text(old), Text(new)],
-        ));
+    match (word(words, 0), word(words, 1)) {
+        (b"format", _) | (b"bad144", b"fresh") => {
+            let (old, new) = (kind_name(other_kind(rt, unit, kind)?), kind_name(kind));
+            let text = "hp{0}.dsk has the bad-sector table of an {1}, and is written as an {2} now";
+            Some(say(text, &[number, Text(old), Text(new)]))
+        }
+        (b"bad144", _) | (_, b"read") if is_missing(rt, unit) => {
+            let text = "hp{0}.dsk does not exist, and is taken as an empty pack";
+            Some(say(text, &[number]))
+        }
+        _ => None,
     }
-    if (is_tool || is(verb, "read")) && is_missing(rt, unit) {
-        return Some(say(
-            "hp{}.dsk does not exist, and is taken as an empty pack",
-            &[number],
-        ));
-    }
-    None
 }
 
 /// Prints a warning if a command reads a pack whose image is missing, or if it writes a new table to a pack that has the table of

@@ -1,7 +1,6 @@
 // The words of a command line, and which of them is wrong.
-use crate::fields::Allowed::{Numbers, Words};
 use crate::fields::{Field, KIND, PART, UNIT, only, optional, walk};
-use crate::sentence::Piece::Word;
+use crate::sentence::Piece::{Numbers, Text, Word};
 use crate::sentence::{Sentence, say};
 use mass_text::{Radix, number};
 use pack_geometry::{DriveKind, blocks, kind_of};
@@ -9,24 +8,18 @@ use std::alloc::{AllocError, Global};
 
 const COMMAND: Field = Field(
     "COMMAND",
-    Words("play, cached, bad144, format, raw, dump, exercise, help"),
+    Text("play, cached, bad144, format, raw, dump, exercise, help"),
 );
 
-const TOOL: Field = Field("word after bad144", Words("list, add, fresh, mark"));
+const TOOL: Field = Field("word after bad144", Text("list, add, fresh, mark"));
 
-const WAY: Field = Field("word after raw", Words("read, write"));
+const WAY: Field = Field("word after raw", Text("read, write"));
 
 const SERIAL: Field = Field("SERIAL", Numbers(0, 4_294_967_295));
 
 const PLACE: Field = Field("AT", Numbers(0, 1_099_511_627_775));
 
 const LENGTH: Field = Field("LEN", Numbers(0, 16_777_216));
-
-const SIZE: Field = Field("N", Numbers(1, 4096));
-
-const SEED: Field = Field("N", Numbers(0, u64::MAX));
-
-const FORM: Field = Field("FORM", Words("svg, text, tsv, summary, json"));
 
 /// The words of a command line as bytes. An error if there is no memory for the list.
 pub fn bytes_of<'a>(alloc: Global, words: &'a [String]) -> Result<Vec<&'a [u8]>, AllocError> {
@@ -47,11 +40,13 @@ pub(crate) fn word<'a>(words: &[&'a [u8]], at: usize) -> &'a [u8] {
     words.get(at).copied().unwrap_or(b"")
 }
 
-/// The text that a table has for a word. None if the table does not have the word.
-pub(crate) fn text_of(table: &[(&'static str, &'static str)], word: &[u8]) -> Option<&'static str> {
-    for (name, text) in table {
+/// The text that a table has for a word. Each line of the table is a word, a colon and its text. None if the table does not have the
+/// word.
+pub(crate) fn text_of(table: &'static str, word: &[u8]) -> Option<&'static str> {
+    for line in table.lines() {
+        let (name, text) = line.split_once(": ")?;
         if is(word, name) {
-            return Some(*text);
+            return Some(text);
         }
     }
     None
@@ -98,60 +93,38 @@ fn check_add<'a>(words: &[&'a [u8]]) -> Result<(), Sentence<'a>> {
     match optional(optional(ways, "copy", &[])?, "mark", &[])? {
         [] => Ok(()),
         [word, ..] => Err(say(
-            "{} cannot stand there: only these may follow: [copy] [mark], in this order",
+            "{0} cannot stand there: only these may follow: [copy] [mark], in this order",
             &[Word(word)],
         )),
-    }
-}
-
-/// An error if there is something wrong with the words after `bad144`.
-fn check_tool<'a>(words: &[&'a [u8]]) -> Result<(), Sentence<'a>> {
-    let rest = walk(words, &[TOOL])?;
-    match word(words, 0) {
-        b"add" => check_add(rest),
-        b"fresh" => only(rest, &[UNIT, KIND, SERIAL]),
-        _ => only(rest, &[UNIT, KIND]),
-    }
-}
-
-/// An error if there is something wrong with the words after `raw`.
-fn check_raw<'a>(words: &[&'a [u8]]) -> Result<(), Sentence<'a>> {
-    let rest = walk(words, &[WAY])?;
-    match word(words, 0) {
-        b"read" => only(rest, &[UNIT, KIND, PART, PLACE, LENGTH]),
-        _ => only(rest, &[UNIT, KIND, PART, PLACE]),
     }
 }
 
 /// An error if something is found to be wrong with the words of a command line of `hpsim`.
 pub(crate) fn check_command<'a>(words: &[&'a [u8]]) -> Result<(), Sentence<'a>> {
     let rest = walk(words, &[COMMAND])?;
-    match word(words, 0) {
-        b"cached" => only(rest, &[SIZE]),
-        b"exercise" => only(rest, &[SEED]),
-        b"dump" => only(rest, &[UNIT, KIND]),
-        b"format" => only(rest, &[UNIT, KIND, SERIAL]),
-        b"bad144" => check_tool(rest),
-        b"raw" => check_raw(rest),
+    match (word(words, 0), word(rest, 0)) {
+        (b"cached", _) => only(rest, &[Field("N", Numbers(1, 4096))]),
+        (b"exercise", _) => only(rest, &[Field("N", Numbers(0, u64::MAX))]),
+        (b"dump", _) => only(rest, &[UNIT, KIND]),
+        (b"format", _) => only(rest, &[UNIT, KIND, SERIAL]),
+        (b"bad144", b"add") => check_add(walk(rest, &[TOOL])?),
+        (b"bad144", b"fresh") => only(rest, &[TOOL, UNIT, KIND, SERIAL]),
+        (b"bad144", _) => only(rest, &[TOOL, UNIT, KIND]),
+        (b"raw", b"read") => only(rest, &[WAY, UNIT, KIND, PART, PLACE, LENGTH]),
+        (b"raw", _) => only(rest, &[WAY, UNIT, KIND, PART, PLACE]),
         _ => only(rest, &[]),
     }
 }
 
 /// An error if something is found to be wrong with the words of a command line of `hpview`.
 pub(crate) fn check_view<'a>(words: &[&'a [u8]]) -> Result<(), Sentence<'a>> {
-    let rest = walk(words, &[FORM])?;
+    let form = Field("FORM", Text("svg, text, tsv, summary, json"));
+    let rest = walk(words, &[form])?;
     if is(word(words, 0), "summary") {
         return only(rest, &[]);
     }
     let most = 4_294_967_295;
-    let first = number(word(rest, 0), Radix::Decimal, most)
-        .unwrap_or(1)
-        .max(1);
-    only(
-        rest,
-        &[
-            Field("FROM", Numbers(1, most)),
-            Field("TO", Numbers(first, most)),
-        ],
-    )
+    let first = number(word(rest, 0), Radix::Decimal, most).unwrap_or(1);
+    let from = Field("FROM", Numbers(1, most));
+    only(rest, &[from, Field("TO", Numbers(first.max(1), most))])
 }
