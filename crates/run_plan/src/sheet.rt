@@ -2,7 +2,7 @@
 
 ghost use Rattle.std.specs.Prelude.{◌≡◌, ◌==◌, ◌++◌, IfOk, OnOk};
 ghost use Rattle.run_plan.specs.Window.{no_caption, title_of, column_of, arm_before, kind_of};
-ghost use Rattle.run_plan.specs.Units.{is_drawn, unit_drawn, units_shown};
+ghost use Rattle.run_plan.specs.Units.{has_request, is_drawn, unit_drawn, units_shown};
 
 use drive_pictures::{Request, kind_word};
 use run_picture::{Column, Note, Run, Window};
@@ -23,12 +23,18 @@ pub struct Sheet<'a> {
     pub notes: &'a [Note<'a>],
 }
 
+/// Whether some request is of a unit.
+fn has_request(requests: &[Request], unit: u8) -> bool
+    ensures { result ≡ has_request requests.now unit }
+{
+    requests.iter().any(|request| request.unit == unit)
+}
+
 /// Whether a drive is drawn: something is shown, and some request is of the drive.
 pub(crate) fn is_drawn(sheet: &Sheet<'_>, unit: u8) -> bool
     ensures { result ≡ is_drawn sheet.now unit }
 {
-    let mut requests = sheet.run.requests().iter();
-    !sheet.run.columns().is_empty() && requests.any(|request| request.unit == unit)
+    !sheet.run.columns().is_empty() && has_request(sheet.run.requests(), unit)
 }
 
 /// Puts a drive after others, if it is drawn.
