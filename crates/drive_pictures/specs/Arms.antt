@@ -4,16 +4,6 @@ use Rattle.drive_pictures.specs.declared.arms.Path.{Path}
 use Rattle.drive_pictures.specs.declared.arms.Arm.{Arm}
 use Rattle.drive_pictures.specs.Counts.{plus, apart}
 
--- WHERE AN ARM WAS SEEN: the first, the lowest, the highest and the last cylinder
-abbrev pub path_with : Option Path → ℕ → Option Path
-path_with None cylinder = Some (record { first = cylinder; lowest = cylinder; highest = cylinder; last = cylinder })
-path_with (Some path) cylinder = Some (record {
-  first = path.first;
-  lowest = min path.lowest cylinder;
-  highest = max path.highest cylinder;
-  last = cylinder;
-})
-
 -- a path, and one behind it
 abbrev pub paths_joined : Option Path → Option Path → Option Path
 paths_joined None behind = behind
@@ -28,14 +18,16 @@ paths_joined (Some before) (Some after) = Some (record {
 abbrev pub new_arm : Arm
 new_arm = record { cylinder = 0; target = 0; travel = 0; path = None }
 
+-- IT IS SEEN where it is
+abbrev pub seen_at : Arm → Arm
+seen_at arm = record arm {
+  path = paths_joined arm.path (Some (record { first = arm.cylinder; lowest = arm.cylinder; highest = arm.cylinder; last = arm.cylinder }));
+}
+
 -- it is seen where it is, and goes to a cylinder
 abbrev pub sent : ℕ → Arm → Arm
-sent target arm = record arm { target = target; path = path_with arm.path arm.cylinder }
+sent target arm = record (seen_at arm) { target = target }
 
 -- IT REACHES A CYLINDER, and has moved over those between
 abbrev pub reached : ℕ → Arm → Arm
-reached cylinder arm = record arm {
-  cylinder = cylinder;
-  travel = plus arm.travel (apart cylinder arm.cylinder);
-  path = path_with arm.path cylinder;
-}
+reached cylinder arm = seen_at (record arm { cylinder = cylinder; travel = plus arm.travel (apart cylinder arm.cylinder) })

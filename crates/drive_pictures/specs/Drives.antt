@@ -21,10 +21,8 @@ use Rattle.drive_pictures.specs.declared.drives.Change.{Change}
 use Rattle.drive_pictures.specs.declared.drives.Change.TheVariants as change
 use Rattle.drive_pictures.specs.Counts.{plus, apart}
 use Rattle.drive_pictures.specs.Trials.{new_trial, in_hand, wanted, transfer_letter, verdict_trial, verdict_letter}
-use Rattle.drive_pictures.specs.Letters.{is_on_its_way, is_ready, is_holding}
 use Rattle.drive_pictures.specs.Marks.{later, mark_of}
 use Rattle.drive_pictures.specs.Arms.{new_arm, sent, reached, paths_joined}
-use Rattle.drive_pictures.specs.declared.cells.Cell.{Cell}
 use Rattle.drive_pictures.specs.Cells.{new_cell, tallied}
 
 -- BEFORE THE RUN: idle on cylinder 0, online and not locked.
@@ -56,17 +54,15 @@ new_drive kind = record {
 abbrev pub shown : Mark → Seen → Seen
 shown m seen = record seen { mark = later seen.mark m }
 
--- AN EVENT MORE, by the letter that stands behind it
-abbrev pub more_if : Bool → ℕ → ℕ
-more_if true n = plus n 1
-more_if false n = n
-
+-- AN EVENT MORE, by the letter that stands behind it: the drive was ready, held its adapter, or was on its way
 abbrev pub counted : Letter → Times → Times
-counted l times = record {
-  way = more_if (is_on_its_way l) times.way;
-  ready = more_if (is_ready l) times.ready;
-  trans = more_if (is_holding l) times.trans;
-}
+counted letter.Idle times = times
+counted letter.Ready times = record times { ready = plus times.ready 1 }
+counted letter.Moves times = record times { trans = plus times.trans 1 }
+counted letter.Retries times = record times { trans = plus times.trans 1 }
+counted letter.Replaces times = record times { trans = plus times.trans 1 }
+counted letter.Moved times = record times { trans = plus times.trans 1 }
+counted l times = record times { way = plus times.way 1 }
 
 -- THE LETTER of a search: on the arm's cylinder it only turns
 abbrev pub going : Arm → ℕ → Letter
@@ -167,26 +163,21 @@ changed c drive = record drive {
   locked = locked_after c drive.locked;
 }
 
--- A REQUEST JOINS, at its cylinder where it has one. An idle drive waits from then on.
+-- A REQUEST THAT NO SCRIPT ASKED FOR is first seen where a line of the trace names it
+abbrev pub met : Drive → Drive
+met drive = record drive {
+  queue = record drive.queue { joined = plus drive.queue.joined 1; waiting = plus drive.queue.waiting 1 };
+}
+
+-- A REQUEST JOINS, at its cylinder. An idle drive waits from then on.
 abbrev pub asked_letter : Letter → Letter
 asked_letter letter.Idle = letter.Ready
 asked_letter l = l
 
 abbrev pub joined : ℕ → Drive → Drive
-joined cylinder drive = record drive {
+joined cylinder drive = record (met drive) {
   letter = asked_letter drive.letter;
-  queue = record drive.queue {
-    joined = plus drive.queue.joined 1;
-    waiting = plus drive.queue.waiting 1;
-    as_asked = plus drive.queue.as_asked (apart cylinder drive.queue.last);
-    last = cylinder;
-  };
-}
-
--- one that no script asked for is first seen where a line of the trace names it
-abbrev pub met : Drive → Drive
-met drive = record drive {
-  queue = record drive.queue { joined = plus drive.queue.joined 1; waiting = plus drive.queue.waiting 1 };
+  queue = record (met drive).queue { as_asked = plus drive.queue.as_asked (apart cylinder drive.queue.last); last = cylinder };
 }
 
 -- a mark
@@ -200,31 +191,28 @@ letter_behind waiting = if nat_lt 0 waiting then letter.Ready else letter.Idle
 abbrev pub freed : ℕ → Drive → Drive
 freed event drive = record drive {
   letter = letter_behind (drive.queue.waiting - 1);
-  trial = record drive.trial { hand = None; want = 0; fails = 0; marks = 0 };
+  trial = record new_trial { left = drive.trial.left };
   queue = record drive.queue { served = plus drive.queue.served 1; waiting = drive.queue.waiting - 1; free = event };
   since = blank;
 }
 
 -- AN EVENT ENDS, by the letter that stands behind it, and is seen in its column; and another begins, in which nothing is seen yet
-abbrev pub cell_with : Drive → Cell
-cell_with drive = record {
-  tally = tallied drive.letter drive.cell.tally;
-  path = paths_joined drive.cell.path drive.arm.path;
-  cylinder = drive.arm.cylinder;
-  waiting = max drive.cell.waiting drive.queue.waiting;
-  mark = later drive.cell.mark drive.seen.mark;
-  signal = later drive.cell.signal drive.seen.signal;
-  code = max drive.cell.code drive.seen.code;
-  tried = max drive.cell.tried drive.seen.tried;
-  offline = drive.cell.offline || drive.offline;
-  locked = drive.cell.locked || drive.locked;
-}
-
 abbrev pub event_counted : Drive → Drive
 event_counted drive = record drive {
   since = counted drive.letter drive.since;
   all = counted drive.letter drive.all;
-  cell = cell_with drive;
+  cell = record {
+    tally = tallied drive.letter drive.cell.tally;
+    path = paths_joined drive.cell.path drive.arm.path;
+    cylinder = drive.arm.cylinder;
+    waiting = max drive.cell.waiting drive.queue.waiting;
+    mark = later drive.cell.mark drive.seen.mark;
+    signal = later drive.cell.signal drive.seen.signal;
+    code = max drive.cell.code drive.seen.code;
+    tried = max drive.cell.tried drive.seen.tried;
+    offline = drive.cell.offline || drive.offline;
+    locked = drive.cell.locked || drive.locked;
+  };
 }
 
 abbrev pub unseen : Drive → Drive

@@ -1,11 +1,25 @@
 -- What the letters of a drive say.
-use Rattle.std.specs.Prelude.{Bool, true, false, List, [], ◌∷◌}
+use Rattle.std.specs.Prelude.{ℕ, Bool, true, false, List, [], ◌∷◌}
 use Rattle.drive_pictures.specs.declared.letters.Letter.{Letter}
 use Rattle.drive_pictures.specs.declared.letters.Letter.TheVariants.{Idle, Seeks, Turns, Recalibrates, Offsets, Arrived, Ready, Moves, Retries, Replaces, Moved}
 
 -- ALL OF THEM, each once, in the order in which a legend says what they mean
 abbrev pub all_letters : List Letter
 all_letters = Idle ∷ Seeks ∷ Turns ∷ Recalibrates ∷ Offsets ∷ Arrived ∷ Ready ∷ Moves ∷ Retries ∷ Replaces ∷ Moved ∷ []
+
+-- the number of each in that order
+abbrev pub number_of : Letter → ℕ
+number_of Idle = 0
+number_of Seeks = 1
+number_of Turns = 2
+number_of Recalibrates = 3
+number_of Offsets = 4
+number_of Arrived = 5
+number_of Ready = 6
+number_of Moves = 7
+number_of Retries = 8
+number_of Replaces = 9
+number_of Moved = 10
 
 -- a seek, a search, a recalibration or an offset is under way
 abbrev pub is_positioning : Letter → Bool
@@ -15,24 +29,9 @@ is_positioning Recalibrates = true
 is_positioning Offsets = true
 is_positioning letter = false
 
--- it positions, or has arrived and is not attended
-abbrev pub is_on_its_way : Letter → Bool
-is_on_its_way Arrived = true
-is_on_its_way letter = is_positioning letter
-
--- it is ready, and its adapter is busy
-abbrev pub is_ready : Letter → Bool
-is_ready Ready = true
-is_ready letter = false
-
 -- its sectors move
 abbrev pub is_moving : Letter → Bool
 is_moving Moves = true
 is_moving Retries = true
 is_moving Replaces = true
 is_moving letter = false
-
--- it holds its adapter: its sectors move, or have moved and are not attended
-abbrev pub is_holding : Letter → Bool
-is_holding Moved = true
-is_holding letter = is_moving letter

@@ -1,5 +1,5 @@
 -- The marks of an event, from the lightest to the gravest.
-use Rattle.std.specs.Prelude.{ℕ, nat_lt, Bool, true, false, if◌then◌else◌}
+use Rattle.std.specs.Prelude.{ℕ, nat_le, nat_lt, Bool, if◌then◌else◌}
 use Rattle.hardware_table.specs.declared.Moved.{Moved}
 use Rattle.hardware_table.specs.declared.Moved.TheVariants as verdict
 use Rattle.drive_pictures.specs.declared.marks.Mark.{Mark}
@@ -38,13 +38,7 @@ later mark other = if nat_lt (weight_of mark) (weight_of other) then other else 
 
 -- a sector could not be moved as it was, or a request was stopped
 abbrev pub is_trouble : Mark → Bool
-is_trouble Burst = true
-is_trouble MarkedSector = true
-is_trouble Fault = true
-is_trouble Hard = true
-is_trouble TriedOffline = true
-is_trouble Stopped = true
-is_trouble mark = false
+is_trouble mark = nat_le (weight_of Burst) (weight_of mark)
 
 -- the mark of a sector's verdict
 abbrev pub mark_of : Moved → Mark

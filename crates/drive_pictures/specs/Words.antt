@@ -4,8 +4,6 @@ use Rattle.pack_geometry.specs.declared.DriveKind.{DriveKind}
 use Rattle.pack_geometry.specs.declared.DriveKind.TheVariants as kind
 use Rattle.drive_pictures.specs.declared.letters.Letter.{Letter}
 use Rattle.drive_pictures.specs.declared.letters.Letter.TheVariants as letter
-use Rattle.drive_pictures.specs.declared.marks.Mark.{Mark}
-use Rattle.drive_pictures.specs.declared.marks.Mark.TheVariants as mark
 use Rattle.drive_pictures.specs.declared.requests.Outcome.{Outcome}
 use Rattle.drive_pictures.specs.declared.requests.Outcome.TheVariants as outcome
 
@@ -57,30 +55,3 @@ letter_word letter.Moves = codes "sectors move"
 letter_word letter.Retries = codes "tries again"
 letter_word letter.Replaces = codes "at a replacement"
 letter_word letter.Moved = codes "moved, interrupt up"
-
--- what happened at it
-abbrev pub mark_sign : Mark → List ℕ
-mark_sign mark.Blank = codes " "
-mark_sign mark.AttentionUp = codes "'"
-mark_sign mark.AttentionTaken = codes "a"
-mark_sign mark.InterruptTaken = codes "i"
-mark_sign mark.Asked = codes "q"
-mark_sign mark.SectorMoved = codes "o"
-mark_sign mark.Answered = codes "v"
-mark_sign mark.Turned = codes "@"
-mark_sign mark.FaultArmed = codes "f"
-mark_sign mark.NoiseArmed = codes "n"
-mark_sign mark.Acknowledged = codes "P"
-mark_sign mark.Unlocked = codes "k"
-mark_sign mark.Locked = codes "l"
-mark_sign mark.Online = codes "u"
-mark_sign mark.Offline = codes "d"
-mark_sign mark.TryFailed = codes "t"
-mark_sign mark.OffsetPlus = codes "+"
-mark_sign mark.OffsetMinus = codes "-"
-mark_sign mark.Burst = codes "B"
-mark_sign mark.MarkedSector = codes "M"
-mark_sign mark.Fault = codes "F"
-mark_sign mark.Hard = codes "E"
-mark_sign mark.TriedOffline = codes "x"
-mark_sign mark.Stopped = codes "X"

@@ -1,7 +1,7 @@
 //! Where the arm of a drive is and goes, and where it was seen.
 
 ghost use Rattle.std.specs.Prelude.{◌≡◌};
-ghost use Rattle.drive_pictures.specs.Arms.{path_with, paths_joined, sent, reached, new_arm};
+ghost use Rattle.drive_pictures.specs.Arms.{paths_joined, seen_at, sent, reached};
 
 use crate::counts::plus;
 
@@ -16,32 +16,12 @@ pub struct Path {
 
 /// An arm: the cylinder where it is, the one to which it goes, how many cylinders it has moved over, and where it was seen
 /// in the event at hand.
-#[derive(Clone, Copy)]
+#[derive(Clone, Copy, Default)]
 pub struct Arm {
     pub cylinder: u32,
     pub target: u32,
     pub travel: u64,
     pub path: Option<Path>,
-}
-
-/// A path, and a cylinder where the arm was seen after it.
-fn path_with(path: Option<Path>, cylinder: u32) -> Option<Path>
-    ensures { result ≡ path_with path cylinder }
-{
-    match path {
-        None => Some(Path {
-            first: cylinder,
-            lowest: cylinder,
-            highest: cylinder,
-            last: cylinder,
-        }),
-        Some(path) => Some(Path {
-            first: path.first,
-            lowest: path.lowest.min(cylinder),
-            highest: path.highest.max(cylinder),
-            last: cylinder,
-        }),
-    }
 }
 
 /// A path, and another one after it.
@@ -63,23 +43,24 @@ pub(crate) fn join_paths(path: Option<Path>, behind: Option<Path>) -> Option<Pat
 }
 
 impl Arm {
-    /// An arm before the run: on cylinder 0.
-    pub fn new() -> Arm
-        ensures { result ≡ new_arm }
+    /// Notes where the arm is.
+    fn see(&mut self)
+        ensures { self.new ≡ seen_at self.old }
     {
-        Arm {
-            cylinder: 0,
-            target: 0,
-            travel: 0,
-            path: None,
-        }
+        let here = Path {
+            first: self.cylinder,
+            lowest: self.cylinder,
+            highest: self.cylinder,
+            last: self.cylinder,
+        };
+        self.path = join_paths(self.path, Some(here));
     }
 
     /// Notes the arm where it is, and sends it to a cylinder.
     pub(crate) fn send(&mut self, target: u32)
         ensures { self.new ≡ sent target self.old }
     {
-        self.path = path_with(self.path, self.cylinder);
+        self.see();
         self.target = target;
     }
 
@@ -89,6 +70,6 @@ impl Arm {
     {
         self.travel = plus(self.travel, u64::from(cylinder.abs_diff(self.cylinder)));
         self.cylinder = cylinder;
-        self.path = path_with(self.path, cylinder);
+        self.see();
     }
 }

@@ -8,25 +8,16 @@ use crate::counts::plus;
 use crate::letters::Letter;
 use crate::marks::Mark;
 
-/// After how many events each letter stands; after the others the drive is idle.
+/// After how many events each letter stands, by its number.
 #[derive(Clone, Copy)]
 pub struct Tally {
-    pub seeks: u64,
-    pub turns: u64,
-    pub recalibrates: u64,
-    pub offsets: u64,
-    pub arrived: u64,
-    pub ready: u64,
-    pub moves: u64,
-    pub retries: u64,
-    pub replaces: u64,
-    pub moved: u64,
+    pub counts: [u64; 11],
 }
 
 /// A drive in a column: its letters; where its arm was seen, and where it is after the last event; the most requests that
 /// wait; the gravest mark and signal, the widest offset in hundreds, the highest number of a try; and its condition after any
 /// event.
-#[derive(Clone, Copy)]
+#[derive(Clone, Copy, Default)]
 pub struct Cell {
     pub tally: Tally,
     pub path: Option<Path>,
@@ -40,42 +31,21 @@ pub struct Cell {
     pub locked: bool,
 }
 
-impl Tally {
-    /// No event.
-    fn new() -> Tally
-        ensures { result ≡ new_tally }
-    {
-        Tally {
-            seeks: 0,
-            turns: 0,
-            recalibrates: 0,
-            offsets: 0,
-            arrived: 0,
-            ready: 0,
-            moves: 0,
-            retries: 0,
-            replaces: 0,
-            moved: 0,
-        }
-    }
+impl Default for Tally {
+    ghost is_default = { λ tally. tally ≡ new_tally };
 
+    fn default() -> Tally {
+        Tally { counts: [0; 11] }
+    }
+}
+
+impl Tally {
     /// Counts one more event, after which a letter stands.
-    pub fn count(&mut self, letter: Letter)
+    pub(crate) fn count(&mut self, letter: Letter)
         ensures { self.new ≡ tallied letter self.old }
     {
-        match letter {
-            Letter::Idle => {}
-            Letter::Seeks => self.seeks = plus(self.seeks, 1),
-            Letter::Turns => self.turns = plus(self.turns, 1),
-            Letter::Recalibrates => self.recalibrates = plus(self.recalibrates, 1),
-            Letter::Offsets => self.offsets = plus(self.offsets, 1),
-            Letter::Arrived => self.arrived = plus(self.arrived, 1),
-            Letter::Ready => self.ready = plus(self.ready, 1),
-            Letter::Moves => self.moves = plus(self.moves, 1),
-            Letter::Retries => self.retries = plus(self.retries, 1),
-            Letter::Replaces => self.replaces = plus(self.replaces, 1),
-            Letter::Moved => self.moved = plus(self.moved, 1),
-        }
+        let at = letter.number();
+        self.counts[at] = plus(self.counts[at], 1);
     }
 }
 
@@ -84,17 +54,6 @@ impl Cell {
     pub fn new() -> Cell
         ensures { result ≡ new_cell }
     {
-        Cell {
-            tally: Tally::new(),
-            path: None,
-            cylinder: 0,
-            waiting: 0,
-            mark: Mark::Blank,
-            signal: Mark::Blank,
-            code: 0,
-            tried: 0,
-            offline: false,
-            locked: false,
-        }
+        Cell::default()
     }
 }

@@ -3,8 +3,7 @@
 ghost use Rattle.std.specs.Prelude.{◌≡◌, ◌<◌};
 ghost use Rattle.drive_pictures.specs.Arms.{sent};
 ghost use Rattle.trace_lines.specs.declared.telling.Told.TheVariants.{Sector};
-ghost use Rattle.drive_pictures.specs.Drives.{new_drive, new_seen, blank, counted, going, offset_mark, offset_hundreds, cylinder_blocks, verdict_arm, said, tells, changed, joined, met, marked, freed, event_counted, unseen, cell_with, cleared};
-ghost use Rattle.drive_pictures.specs.Trials.{is_at};
+ghost use Rattle.drive_pictures.specs.Drives.{new_drive, counted, offset_mark, offset_hundreds, cylinder_blocks, verdict_arm, said, tells, changed, joined, met, marked, freed, event_counted, unseen, cleared};
 
 use crate::arms::{Arm, join_paths};
 use crate::cells::Cell;
@@ -19,7 +18,7 @@ use trace_lines::Told;
 
 /// What is seen of a drive in the event at hand: the gravest mark, the signal, the offset that was set, in hundreds, and the
 /// number of the try that failed.
-#[derive(Clone, Copy)]
+#[derive(Clone, Copy, Default)]
 pub struct Seen {
     pub mark: Mark,
     pub signal: Mark,
@@ -28,7 +27,7 @@ pub struct Seen {
 }
 
 /// Events, counted by what a drive did after them: it was on its way, was ready and waited for its adapter, or held its adapter.
-#[derive(Clone, Copy)]
+#[derive(Clone, Copy, Default)]
 pub struct Times {
     pub way: u64,
     pub ready: u64,
@@ -37,7 +36,7 @@ pub struct Times {
 
 /// The requests of a drive: how many joined, were served, and wait; the event of the last end; the cylinder of the last that
 /// joined, and how far the arm would have moved from request to request in the order asked.
-#[derive(Clone, Copy)]
+#[derive(Clone, Copy, Default)]
 pub struct Queue {
     pub joined: u64,
     pub served: u64,
@@ -48,7 +47,7 @@ pub struct Queue {
 }
 
 /// A drive.
-#[derive(Clone, Copy)]
+#[derive(Clone, Copy, Default)]
 pub struct Drive {
     /// Its kind, if a script declares the drive.
     pub kind: Option<DriveKind>,
@@ -83,42 +82,13 @@ pub enum Change {
     Fault,
     /// The pack is turned.
     Turn,
-    /// The drive goes offline.
     Offline,
-    /// The drive comes online.
     Online,
-    /// The drive is locked.
     Lock,
-    /// The drive is unlocked.
     Unlock,
 }
 
-impl Seen {
-    /// Nothing.
-    fn new() -> Seen
-        ensures { result ≡ new_seen }
-    {
-        Seen {
-            mark: Mark::Blank,
-            signal: Mark::Blank,
-            code: 0,
-            tried: 0,
-        }
-    }
-}
-
 impl Times {
-    /// Times of no event.
-    pub fn new() -> Times
-        ensures { result ≡ blank }
-    {
-        Times {
-            way: 0,
-            ready: 0,
-            trans: 0,
-        }
-    }
-
     /// Counts one more event, after which a letter stands.
     fn count(&mut self, letter: Letter)
         ensures { self.new ≡ counted letter self.old }
@@ -128,49 +98,28 @@ impl Times {
             | Letter::Turns
             | Letter::Recalibrates
             | Letter::Offsets
-            | Letter::Arrived => {
-                self.way = plus(self.way, 1);
-            }
-            Letter::Ready => {
-                self.ready = plus(self.ready, 1);
-            }
+            | Letter::Arrived => self.way = plus(self.way, 1),
+            Letter::Ready => self.ready = plus(self.ready, 1),
             Letter::Moves | Letter::Retries | Letter::Replaces | Letter::Moved => {
-                self.trans = plus(self.trans, 1);
+                self.trans = plus(self.trans, 1)
             }
             Letter::Idle => {}
         }
     }
 }
 
-/// The letter of a search.
-fn search_letter(arm: Arm, cylinder: u32) -> Letter
-    ensures { result ≡ going arm cylinder }
-{
-    if cylinder == arm.cylinder {
-        Letter::Turns
-    } else {
-        Letter::Seeks
-    }
-}
-
-/// The mark of an offset.
-fn offset_mark(code: OffsetCode) -> Mark
-    ensures { result ≡ offset_mark code }
+/// The mark of an offset, and its hundreds.
+fn offset_seen(code: OffsetCode) -> (Mark, u32)
+    ensures mark { result.0 ≡ offset_mark code }
+    ensures hundreds { result.1 ≡ offset_hundreds code }
 {
     match code {
-        OffsetCode::Plus400 | OffsetCode::Plus800 | OffsetCode::Plus1200 => Mark::OffsetPlus,
-        OffsetCode::Minus400 | OffsetCode::Minus800 | OffsetCode::Minus1200 => Mark::OffsetMinus,
-    }
-}
-
-/// The hundreds of an offset.
-fn offset_hundreds(code: OffsetCode) -> u32
-    ensures { result ≡ offset_hundreds code }
-{
-    match code {
-        OffsetCode::Plus400 | OffsetCode::Minus400 => 4,
-        OffsetCode::Plus800 | OffsetCode::Minus800 => 8,
-        OffsetCode::Plus1200 | OffsetCode::Minus1200 => 12,
+        OffsetCode::Plus400 => (Mark::OffsetPlus, 4),
+        OffsetCode::Minus400 => (Mark::OffsetMinus, 4),
+        OffsetCode::Plus800 => (Mark::OffsetPlus, 8),
+        OffsetCode::Minus800 => (Mark::OffsetMinus, 8),
+        OffsetCode::Plus1200 => (Mark::OffsetPlus, 12),
+        OffsetCode::Minus1200 => (Mark::OffsetMinus, 12),
     }
 }
 
@@ -190,39 +139,7 @@ impl Drive {
     {
         Drive {
             kind,
-            letter: Letter::Idle,
-            arm: Arm::new(),
-            seen: Seen::new(),
-            trial: Trial {
-                hand: None,
-                want: 0,
-                left: 0,
-                fails: 0,
-                marks: 0,
-            },
-            queue: Queue {
-                joined: 0,
-                served: 0,
-                waiting: 0,
-                free: 0,
-                last: 0,
-                as_asked: 0,
-            },
-            since: Times::new(),
-            all: Times::new(),
-            offline: false,
-            locked: false,
-            cell: Cell::new(),
-        }
-    }
-
-    /// Whether the request at a place is in hand.
-    pub(crate) fn is_in_hand(&self, place: usize) -> bool
-        ensures { result ≡ is_at self.now.trial.hand place }
-    {
-        match self.trial.hand {
-            Some(other) => other == place,
-            None => false,
+            ..Drive::default()
         }
     }
 
@@ -276,17 +193,19 @@ impl Drive {
         ensures { self.new ≡ said deed.now self.old }
     {
         match *deed {
-            Told::Search { cylinder, .. } => {
-                let letter = search_letter(self.arm, cylinder);
-                self.go(letter, cylinder);
-            },
-            Told::Seek { cylinder } => self.go(Letter::Seeks, cylinder),
+            Told::Search { cylinder, .. } if cylinder == self.arm.cylinder => {
+                self.go(Letter::Turns, cylinder)
+            }
+            Told::Search { cylinder, .. } | Told::Seek { cylinder } => {
+                self.go(Letter::Seeks, cylinder)
+            }
             Told::Recal => self.go(Letter::Recalibrates, 0),
             Told::Offset { code } => {
+                let (mark, hundreds) = offset_seen(code);
                 let here = self.arm.cylinder;
                 self.go(Letter::Offsets, here);
-                self.mark(offset_mark(code));
-                self.seen.code = offset_hundreds(code);
+                self.mark(mark);
+                self.seen.code = hundreds;
             }
             Told::Centre | Told::Clear | Told::End => {}
             Told::Pack => self.mark(Mark::Acknowledged),
@@ -352,16 +271,13 @@ impl Drive {
     pub fn join(&mut self, cylinder: u32)
         ensures { self.new ≡ joined cylinder self.old }
     {
+        self.meet();
+        let apart = u64::from(cylinder.abs_diff(self.queue.last));
+        self.queue.as_asked = plus(self.queue.as_asked, apart);
+        self.queue.last = cylinder;
         if self.letter == Letter::Idle {
             self.letter = Letter::Ready;
         }
-        self.queue.joined = plus(self.queue.joined, 1);
-        self.queue.waiting = plus(self.queue.waiting, 1);
-        self.queue.as_asked = plus(
-            self.queue.as_asked,
-            u64::from(cylinder.abs_diff(self.queue.last)),
-        );
-        self.queue.last = cylinder;
     }
 
     /// A request for which no script asked is seen for the first time.
@@ -376,14 +292,14 @@ impl Drive {
     pub fn free(&mut self, event: u64)
         ensures { self.new ≡ freed event self.old }
     {
-        self.trial.hand = None;
-        self.trial.want = 0;
-        self.trial.fails = 0;
-        self.trial.marks = 0;
+        self.trial = Trial {
+            left: self.trial.left,
+            ..Trial::default()
+        };
         self.queue.served = plus(self.queue.served, 1);
         self.queue.waiting = self.queue.waiting.saturating_sub(1);
         self.queue.free = event;
-        self.since = Times::new();
+        self.since = Times::default();
         self.letter = if self.queue.waiting > 0 {
             Letter::Ready
         } else {
@@ -391,13 +307,21 @@ impl Drive {
         };
     }
 
-    /// What is seen of it is seen in its column.
-    fn show_in_column(&mut self)
-        ensures { self.new ≡ record self.old { cell = cell_with self.old } }
+    /// Another column begins.
+    pub fn clear(&mut self)
+        ensures { self.new ≡ cleared self.old }
     {
+        self.cell = Cell::default();
+    }
+
+    /// An event ends.
+    pub fn count_event(&mut self)
+        ensures { self.new ≡ event_counted self.old }
+    {
+        let letter = self.letter;
         let cell = self.cell;
         let mut tally = cell.tally;
-        tally.count(self.letter);
+        tally.count(letter);
         self.cell = Cell {
             tally,
             path: join_paths(cell.path, self.arm.path),
@@ -410,21 +334,6 @@ impl Drive {
             offline: cell.offline || self.offline,
             locked: cell.locked || self.locked,
         };
-    }
-
-    /// Another column begins.
-    pub fn clear(&mut self)
-        ensures { self.new ≡ cleared self.old }
-    {
-        self.cell = Cell::new();
-    }
-
-    /// An event ends.
-    pub fn count_event(&mut self)
-        ensures { self.new ≡ event_counted self.old }
-    {
-        self.show_in_column();
-        let letter = self.letter;
         self.since.count(letter);
         self.all.count(letter);
     }
@@ -434,6 +343,6 @@ impl Drive {
         ensures { self.new ≡ unseen self.old }
     {
         self.arm.path = None;
-        self.seen = Seen::new();
+        self.seen = Seen::default();
     }
 }

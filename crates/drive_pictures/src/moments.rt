@@ -22,19 +22,16 @@ pub enum Play {
 /// to do. Each moment has the number of the script's line.
 #[derive(Clone, Copy)]
 pub enum Moment {
-    /// A line of the script is played.
     Played {
         line: u32,
         play: Play,
     },
-    /// A deed at a unit, for the request of an id.
     Told {
         line: u32,
         unit: u8,
         id: u32,
         deed: Told,
     },
-    /// An event found nothing to do.
     Idle {
         line: u32,
     },
@@ -45,9 +42,7 @@ pub fn line_of(moment: &Moment) -> u32
     ensures { result ≡ line_of moment.now }
 {
     match *moment {
-        Moment::Played { line, .. } => line,
-        Moment::Told { line, .. } => line,
-        Moment::Idle { line } => line,
+        Moment::Played { line, .. } | Moment::Told { line, .. } | Moment::Idle { line } => line,
     }
 }
 
@@ -55,10 +50,7 @@ pub fn line_of(moment: &Moment) -> u32
 fn is_end_of_wait(deed: &Told) -> bool
     ensures { result ≡ is_end_of_wait deed.now }
 {
-    match deed {
-        Told::Arrive | Told::Sector { .. } => true,
-        _ => false,
-    }
+    matches!(deed, Told::Arrive | Told::Sector { .. })
 }
 
 /// Whether a deed begins an event after another on the same line: a positioning ends, a sector is tried, or an adapter is attended.
@@ -96,13 +88,7 @@ pub fn begins(before: Option<Moment>, moment: &Moment) -> bool
 {
     match before {
         None => true,
-        Some(last) => {
-            if line_of(&last) == line_of(moment) {
-                begins_at(&last, moment)
-            } else {
-                true
-            }
-        }
+        Some(last) => line_of(&last) != line_of(moment) || begins_at(&last, moment),
     }
 }
 
@@ -110,8 +96,5 @@ pub fn begins(before: Option<Moment>, moment: &Moment) -> bool
 pub fn is_idle(moment: &Moment) -> bool
     ensures { result ≡ is_idle moment.now }
 {
-    match moment {
-        Moment::Idle { .. } => true,
-        _ => false,
-    }
+    matches!(moment, Moment::Idle { .. })
 }

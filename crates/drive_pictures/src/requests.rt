@@ -1,7 +1,7 @@
 //! What becomes of a request.
 
-ghost use Rattle.std.specs.Prelude.{◌≡◌, max};
-ghost use Rattle.drive_pictures.specs.Requests.{new_request, queued, is_out_of_order, started, tried, heard, tells, stopped_by, answer, is_refused, refused, ended, left};
+ghost use Rattle.std.specs.Prelude.{◌≡◌};
+ghost use Rattle.drive_pictures.specs.Requests.{new_request, queued, is_out_of_order, started, heard, tells, stopped_by, answer, is_refused, refused, ended, left};
 
 use crate::counts::plus;
 use crate::drives::{Drive, Times};
@@ -10,9 +10,10 @@ use hardware_table::Moved;
 use trace_lines::Told;
 
 /// How a request was answered, as far as the trace tells.
-#[derive(Clone, Copy, PartialEq, Eq)]
+#[derive(Clone, Copy, Default, PartialEq, Eq)]
 pub enum Outcome {
     /// It is not answered yet.
+    #[default]
     Open,
     /// All of its blocks are done.
     Ok,
@@ -37,11 +38,9 @@ pub enum Outcome {
 }
 
 /// A request, and what became of it.
-#[derive(Clone, Copy)]
+#[derive(Clone, Copy, Default)]
 pub struct Request {
-    /// Its id.
     pub id: u32,
-    /// Its unit.
     pub unit: u8,
     /// Whether it writes.
     pub write: bool,
@@ -75,13 +74,6 @@ pub struct Request {
     pub trouble: bool,
 }
 
-/// The later of two events.
-fn later_event(event: u64, other: u64) -> u64
-    ensures { result ≡ max event other }
-{
-    event.max(other)
-}
-
 impl Request {
     /// A request when it is asked for, at an event and a line.
     pub fn new(event: u64, line: u32, unit: u8, id: u32, write: bool) -> Request
@@ -92,20 +84,8 @@ impl Request {
             unit,
             write,
             line,
-            cylinder: None,
-            why: None,
-            needed: 0,
             asked: event,
-            in_hand: None,
-            ended: None,
-            ended_line: 0,
-            rank: 0,
-            turn: 0,
-            times: Times::new(),
-            done: 0,
-            verdict: None,
-            outcome: Outcome::Open,
-            trouble: false,
+            ..Request::default()
         }
     }
 
@@ -123,32 +103,14 @@ impl Request {
     pub fn is_out_of_order(&self) -> bool
         ensures { result ≡ is_out_of_order self.now }
     {
-        if self.turn == 0 {
-            false
-        } else {
-            self.turn != self.rank
-        }
+        self.turn != 0 && self.turn != self.rank
     }
 
     /// It is in hand from the event that asks for it, or from the end of the request before it.
     fn start(&mut self, free: u64)
         ensures { self.new ≡ started free self.old }
     {
-        self.in_hand = Some(later_event(self.asked, free));
-    }
-
-    /// Takes in that a sector of it was tried.
-    fn try_sector(&mut self, verdict: Moved)
-        ensures { self.new ≡ tried verdict self.old }
-    {
-        match verdict {
-            Moved::Clean | Moved::Burst { .. } => self.done = plus(self.done, 1),
-            _ => {}
-        }
-        self.verdict = Some(verdict);
-        if mark_of(verdict).is_trouble() {
-            self.trouble = true;
-        }
+        self.in_hand = Some(self.asked.max(free));
     }
 
     /// Takes in what a line of the trace says of it.
@@ -157,7 +119,13 @@ impl Request {
     {
         match *deed {
             Told::Transfer { write, .. } => self.write = write,
-            Told::Sector { verdict, .. } => self.try_sector(verdict),
+            Told::Sector { verdict, .. } => {
+                if matches!(verdict, Moved::Clean | Moved::Burst { .. }) {
+                    self.done = plus(self.done, 1);
+                }
+                self.verdict = Some(verdict);
+                self.trouble = self.trouble || mark_of(verdict).is_trouble();
+            }
             Told::Try { .. } => self.trouble = true,
             _ => {}
         }
@@ -167,7 +135,7 @@ impl Request {
     pub fn tell(&mut self, place: usize, drive: &Drive, deed: &Told)
         ensures { self.new ≡ tells place drive.now deed.now self.old }
     {
-        if !drive.is_in_hand(place) {
+        if !drive.trial.is_at(place) {
             self.start(drive.queue.free);
         }
         self.hear(deed);
@@ -186,17 +154,10 @@ impl Request {
                 }
             }
             Some(Moved::Offline) => Outcome::Offline,
-            _ => {
-                if drive.trial.fails == 28 {
-                    Outcome::Fault
-                } else if drive.offline {
-                    Outcome::Offline
-                } else if drive.locked {
-                    Outcome::Locked
-                } else {
-                    Outcome::Stopped
-                }
-            }
+            _ if drive.trial.fails == 28 => Outcome::Fault,
+            _ if drive.offline => Outcome::Offline,
+            _ if drive.locked => Outcome::Locked,
+            _ => Outcome::Stopped,
         }
     }
 
@@ -215,13 +176,7 @@ impl Request {
     pub fn is_refused(&self, place: usize, drive: &Drive) -> bool
         ensures { result ≡ is_refused place drive.now self.now }
     {
-        match self.why {
-            Some(_) => true,
-            None => match drive.trial.hand {
-                Some(other) => other != place,
-                None => false,
-            },
-        }
+        self.why.is_some() || (drive.trial.hand.is_some() && !drive.trial.is_at(place))
     }
 
     /// Ends it, at an event and a line, as a request that was refused.
@@ -231,10 +186,7 @@ impl Request {
         self.in_hand = Some(event);
         self.ended = Some(event);
         self.ended_line = line;
-        self.outcome = match self.why {
-            Some(why) => why,
-            None => Outcome::Refused,
-        };
+        self.outcome = self.why.unwrap_or(Outcome::Refused);
         self.trouble = true;
     }
 

@@ -1,7 +1,7 @@
 //! The request in hand at a drive, and the tries at its block.
 
 ghost use Rattle.std.specs.Prelude.{◌≡◌};
-ghost use Rattle.drive_pictures.specs.Trials.{in_hand, transfer_letter, wanted, verdict_trial, verdict_letter};
+ghost use Rattle.drive_pictures.specs.Trials.{is_at, in_hand, transfer_letter, wanted, verdict_trial, verdict_letter};
 
 use crate::counts::plus;
 use crate::letters::Letter;
@@ -9,7 +9,7 @@ use hardware_table::Moved;
 
 /// The request in hand: its place among the requests, the blocks that it wants, the sectors left of its segment, and at the
 /// block at hand the tries that failed and the marks that were met.
-#[derive(Clone, Copy)]
+#[derive(Clone, Copy, Default)]
 pub struct Trial {
     pub hand: Option<usize>,
     pub want: u32,
@@ -19,17 +19,22 @@ pub struct Trial {
 }
 
 impl Trial {
+    /// Whether the request at a place is in hand.
+    pub(crate) fn is_at(&self, place: usize) -> bool
+        ensures { result ≡ is_at self.now.hand place }
+    {
+        match self.hand {
+            Some(other) => other == place,
+            None => false,
+        }
+    }
+
     /// Takes the request at a place in hand. It wants nothing yet, unless it was in hand before.
     pub(crate) fn take(&mut self, place: usize)
         ensures { self.new ≡ in_hand place self.old }
     {
-        match self.hand {
-            Some(other) => {
-                if other != place {
-                    self.want = 0;
-                }
-            }
-            None => self.want = 0,
+        if !self.is_at(place) {
+            self.want = 0;
         }
         self.hand = Some(place);
     }
@@ -81,13 +86,7 @@ pub(crate) fn verdict_letter(verdict: Moved, left: u32) -> Letter
     ensures { result ≡ verdict_letter verdict left }
 {
     match verdict {
-        Moved::Clean => {
-            if left > 0 {
-                Letter::Moves
-            } else {
-                Letter::Moved
-            }
-        }
+        Moved::Clean if left > 0 => Letter::Moves,
         _ => Letter::Moved,
     }
 }

@@ -1,7 +1,7 @@
 //! The words and signs of a picture, as tables.
 
 ghost use Rattle.std.specs.Prelude.{◌≡◌};
-ghost use Rattle.drive_pictures.specs.Words.{kind_word, outcome_word, letter_sign, letter_word, mark_sign};
+ghost use Rattle.drive_pictures.specs.Words.{kind_word, outcome_word, letter_sign, letter_word};
 
 use crate::letters::Letter;
 use crate::marks::Mark;
@@ -77,34 +77,13 @@ pub fn letter_word(letter: Letter) -> &'static str
     }
 }
 
+/// The signs of the marks, in their order.
+static SIGNS: [&'static str; 24] = [
+    " ", "'", "a", "i", "q", "o", "v", "@", "f", "n", "P", "k", "l", "u", "d", "t", "+", "-", "B",
+    "M", "F", "E", "x", "X",
+];
+
 /// The sign of a mark.
-pub fn mark_sign(mark: Mark) -> &'static str
-    ensures { result.now ≡ mark_sign mark }
-{
-    match mark {
-        Mark::Blank => " ",
-        Mark::AttentionUp => "'",
-        Mark::AttentionTaken => "a",
-        Mark::InterruptTaken => "i",
-        Mark::Asked => "q",
-        Mark::SectorMoved => "o",
-        Mark::Answered => "v",
-        Mark::Turned => "@",
-        Mark::FaultArmed => "f",
-        Mark::NoiseArmed => "n",
-        Mark::Acknowledged => "P",
-        Mark::Unlocked => "k",
-        Mark::Locked => "l",
-        Mark::Online => "u",
-        Mark::Offline => "d",
-        Mark::TryFailed => "t",
-        Mark::OffsetPlus => "+",
-        Mark::OffsetMinus => "-",
-        Mark::Burst => "B",
-        Mark::MarkedSector => "M",
-        Mark::Fault => "F",
-        Mark::Hard => "E",
-        Mark::TriedOffline => "x",
-        Mark::Stopped => "X",
-    }
+pub fn mark_sign(mark: Mark) -> &'static str {
+    SIGNS[mark.weight() as usize]
 }

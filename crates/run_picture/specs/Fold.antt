@@ -15,7 +15,6 @@ use Rattle.drive_pictures.specs.declared.moments.Moment.TheVariants.{Played, Tol
 use Rattle.drive_pictures.specs.declared.moments.Play.{Play}
 use Rattle.drive_pictures.specs.declared.moments.Play.TheVariants.{Ask, Other}
 use Rattle.drive_pictures.specs.declared.moments.Play.TheVariants as play
-use Rattle.drive_pictures.specs.declared.drives.Change.{Change}
 use Rattle.drive_pictures.specs.declared.requests.Outcome.{Outcome}
 use Rattle.drive_pictures.specs.declared.requests.Outcome.TheVariants as outcome
 use Rattle.drive_pictures.specs.declared.requests.Request.{Request}
@@ -182,14 +181,11 @@ declared unit kind known = record known {
 }
 
 -- A LINE OF THE SCRIPT
-abbrev pub changed_at : ℕ → Change → Known → Known
-changed_at unit change known = record known {
-  drives = slice_set known.drives unit (changed change (drive_at known.drives unit));
-}
-
 abbrev pub played : ℕ → Play → Known → Known
 played line (Ask r write) known = asked line r write known
-played line (play.Change unit change) known = changed_at unit change known
+played line (play.Change unit change) known = record known {
+  drives = slice_set known.drives unit (changed change (drive_at known.drives unit));
+}
 played line Other known = known
 
 -- A MOMENT, within its event
@@ -229,11 +225,8 @@ column_with last known =
     let head = headed (line_of last) (is_idle last) known.drives known.head in
     column_closed (is_full head known.window known.event) head known
 
-abbrev pub window_begun : Known → Known
-window_begun known = record known { start = known.drives; drives = map cleared known.drives }
-
 abbrev pub shown_by : Bool → Bool → Moment → Known → Known
-shown_by true inside last known = window_begun known
+shown_by true inside last known = record known { start = known.drives; drives = map cleared known.drives }
 shown_by false true last known = column_with last known
 shown_by false false last known = known
 

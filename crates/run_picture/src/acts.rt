@@ -16,7 +16,7 @@ const FRAMES: u64 = 16_384;
 
 /// What is seen of a whole run at a glance: the most drives that positioned after one event, and the line of the first such
 /// event; the events after which sectors moved, and those of them after which a drive positioned.
-#[derive(Clone, Copy)]
+#[derive(Clone, Copy, Default)]
 pub struct Glance {
     pub most: usize,
     pub most_line: u32,
@@ -63,10 +63,17 @@ pub fn admit(kind: Option<DriveKind>, asked: &Asked, lent: u64) -> Result<u32, O
     }
 }
 
-/// A request is asked for at its drive.
-pub fn submit(admitted: Result<u32, Outcome>, frames: u64, drive: &mut Drive, request: &mut Request)
+/// A request is asked for at its drive, with `lent` frames lent before. The result is how many frames are lent then.
+pub fn submit(
+    admitted: Result<u32, Outcome>,
+    frames: u64,
+    lent: u64,
+    drive: &mut Drive,
+    request: &mut Request,
+) -> u64
     ensures drive { drive.new ≡ drive_asked admitted drive.old }
     ensures request { request.new ≡ request_asked admitted frames drive.old.queue.joined request.old }
+    ensures lent { result ≡ lent_asked admitted frames lent }
 {
     drive.mark(Mark::Asked);
     match admitted {
@@ -75,18 +82,12 @@ pub fn submit(admitted: Result<u32, Outcome>, frames: u64, drive: &mut Drive, re
             request.cylinder = Some(cylinder);
             request.needed = frames;
             request.rank = drive.queue.joined;
+            plus(lent, frames)
         }
-        Err(why) => request.why = Some(why),
-    }
-}
-
-/// How many frames are lent after a request was asked for.
-pub fn lend(admitted: Result<u32, Outcome>, frames: u64, lent: u64) -> u64
-    ensures { result ≡ lent_asked admitted frames lent }
-{
-    match admitted {
-        Ok(_) => plus(lent, frames),
-        Err(_) => lent,
+        Err(why) => {
+            request.why = Some(why);
+            lent
+        }
     }
 }
 
@@ -161,13 +162,7 @@ fn moves(drive: &Drive) -> bool
 pub fn positioning(drives: &[Drive]) -> usize
     ensures { result ≡ positioning drives.now }
 {
-    let mut count = 0usize;
-    for drive in drives {
-        if positions(drive) {
-            count += 1;
-        }
-    }
-    count
+    drives.iter().filter(|drive| positions(drive)).count()
 }
 
 /// Whether sectors move.
@@ -178,18 +173,6 @@ fn moving(drives: &[Drive]) -> bool
 }
 
 impl Glance {
-    /// A glance before the run.
-    pub fn new() -> Glance
-        ensures { result ≡ record { most = 0; most_line = 0; moving = 0; both = 0 } }
-    {
-        Glance {
-            most: 0,
-            most_line: 0,
-            moving: 0,
-            both: 0,
-        }
-    }
-
     /// An event ends: takes in how many drives position then, and whether sectors move.
     pub fn see(&mut self, event: u64, line: u32, drives: &[Drive])
         ensures { self.new ≡ glance_after event line drives.now self.old }

@@ -1,16 +1,14 @@
 //! The fold: what is known of a run after each moment.
 
 ghost use Rattle.std.specs.Prelude.{◌≡◌, ◌<◌, map, IfOk, OnOk, slice_set};
-ghost use Rattle.run_picture.specs.Fold.{new_known, declared, asked, met_at, place_in, told_at, told, heard, step, finished, request_at, changed_at, column_closed, column_with, window_begun, event_shown, event_counted_in, event_ended, turned_behind, turned, ended_behind, events_in, IsHeard};
+ghost use Rattle.run_picture.specs.Fold.{new_known, declared, asked, met_at, place_in, told_at, told, heard, step, finished, request_at, column_with, event_shown, event_ended, turned, ended_behind, events_in, IsHeard};
 ghost use Rattle.run_picture.specs.Places.{place_of};
 ghost use Rattle.drive_pictures.specs.Requests.{left};
 
-use crate::acts::{Glance, act, admit, begin_events, count_events, frames_of, lend, submit};
+use crate::acts::{Glance, act, admit, begin_events, count_events, frames_of, submit};
 use crate::columns::{Column, Head, Window, clear_cells};
 use crate::places::Places;
-use drive_pictures::{
-    Asked, Change, Drive, Moment, Play, Request, Told, begins, is_idle, line_of, plus,
-};
+use drive_pictures::{Asked, Drive, Moment, Play, Request, Told, begins, is_idle, line_of, plus};
 use pack_geometry::DriveKind;
 use std::alloc::{AllocError, Global};
 use std::marker::Model;
@@ -92,7 +90,7 @@ impl Run {
             lent: 0,
             event: 0,
             before: None,
-            glance: Glance::new(),
+            glance: Glance::default(),
             window,
             head: Head::new(),
             start: [Drive::new(None); 32],
@@ -121,8 +119,7 @@ impl Run {
                 let mut request = Request::new(self.event, line, wish.unit, wish.id, write);
                 let admitted = admit(drive.kind, wish, self.lent);
                 let frames = frames_of(wish);
-                submit(admitted, frames, &mut drive, &mut request);
-                self.lent = lend(admitted, frames, self.lent);
+                self.lent = submit(admitted, frames, self.lent, &mut drive, &mut request);
                 self.places.add(wish.id)?;
                 self.requests.push(request)?;
                 self.drives[unit] = drive;
@@ -177,55 +174,29 @@ impl Run {
         Ok(())
     }
 
-    /// A drive is changed.
-    fn change(&mut self, unit: u8, change: Change)
-        requires { unit < 32 }
-        ensures { self.new ≡ changed_at unit change self.old }
-    {
-        self.drives[usize::from(unit)].change(change);
-    }
-
-    /// Ends the column at hand if it is whole; otherwise it goes on.
-    fn close_column(&mut self, full: bool, head: Head) -> Result<(), AllocError>
-        ensures { OnOk result (self.new ≡ column_closed full head self.old) }
-    {
-        if full {
-            self.columns.push(Column {
-                head,
-                drives: self.drives,
-            })?;
-            self.head = Head::new();
-            clear_cells(&mut self.drives);
-        } else {
-            self.head = head;
-        }
-        Ok(())
-    }
-
     /// Adds an event of the window to its column.
     fn add_to_column(&mut self, last: &Moment) -> Result<(), AllocError>
         ensures { OnOk result (self.new ≡ column_with last.now self.old) }
     {
-        let mut head = self.head;
-        head.add(line_of(last), is_idle(last), &self.drives);
-        let full = head.is_full(&self.window, self.event);
-        self.close_column(full, head)
+        self.head.add(line_of(last), is_idle(last), &self.drives);
+        if self.head.is_full(&self.window, self.event) {
+            self.columns.push(Column {
+                head: self.head,
+                drives: self.drives,
+            })?;
+            self.head = Head::new();
+            clear_cells(&mut self.drives);
+        }
+        Ok(())
     }
 
-    /// The window begins.
-    fn begin_window(&mut self)
-        ensures { self.new ≡ window_begun self.old }
-    {
-        self.start = self.drives;
-        clear_cells(&mut self.drives);
-    }
-
-    /// An event is shown, if it is one of the window.
+    /// Shows an event that is one of the window; the drives before the window are kept.
     fn show_event(&mut self, last: &Moment) -> Result<(), AllocError>
         ensures { OnOk result (self.new ≡ event_shown last.now self.old) }
     {
         if self.window.is_before(self.event) {
-            self.begin_window();
+            self.start = self.drives;
+            clear_cells(&mut self.drives);
             Ok(())
         } else if self.window.is_inside(self.event) {
             self.add_to_column(last)
@@ -234,26 +205,22 @@ impl Run {
         }
     }
 
-    /// An event is counted.
-    fn count_event(&mut self, last: &Moment)
-        ensures { self.new ≡ event_counted_in last.now self.old }
-    {
-        self.glance.see(self.event, line_of(last), &self.drives);
-        count_events(&mut self.drives);
-    }
-
     /// An event ends, whose last moment is given.
     fn end_event(&mut self, last: &Moment) -> Result<(), AllocError>
         ensures { OnOk result (self.new ≡ event_ended last.now self.old) }
     {
-        self.count_event(last);
+        self.glance.see(self.event, line_of(last), &self.drives);
+        count_events(&mut self.drives);
         self.show_event(last)
     }
 
-    /// The event at hand ends, and another begins.
-    fn turn(&mut self) -> Result<(), AllocError>
-        ensures { OnOk result (self.new ≡ turned_behind self.old.before self.old) }
+    /// If a moment begins another event, the event at hand ends.
+    fn turn_for(&mut self, moment: &Moment) -> Result<(), AllocError>
+        ensures { OnOk result (self.new ≡ turned moment.now self.old) }
     {
+        if !begins(self.before, moment) {
+            return Ok(());
+        }
         match self.before {
             None => Ok(()),
             Some(last) => {
@@ -265,38 +232,20 @@ impl Run {
         }
     }
 
-    /// The event at hand ends if a moment begins another one.
-    fn turn_for(&mut self, moment: &Moment) -> Result<(), AllocError>
-        ensures { OnOk result (self.new ≡ turned moment.now self.old) }
-    {
-        if begins(self.before, moment) {
-            self.turn()
-        } else {
-            Ok(())
-        }
-    }
-
     /// A moment, within its event.
     fn hear(&mut self, moment: &Moment) -> Result<(), AllocError>
         requires { IsHeard moment.now }
         ensures { OnOk result (self.new ≡ heard moment.now self.old) }
     {
         match moment {
-            Moment::Played {
-                line,
-                play: Play::Ask { request, write },
-            } => self.ask(*line, request, *write),
-            Moment::Played {
-                play: Play::Change { unit, change },
-                ..
-            } => {
-                self.change(*unit, *change);
-                Ok(())
-            }
-            Moment::Played {
-                play: Play::Other,
-                ..
-            } => Ok(()),
+            Moment::Played { line, play } => match play {
+                Play::Ask { request, write } => self.ask(*line, request, *write),
+                Play::Change { unit, change } => {
+                    self.drives[usize::from(*unit)].change(*change);
+                    Ok(())
+                }
+                Play::Other => Ok(()),
+            },
             Moment::Told {
                 line,
                 unit,

@@ -6,7 +6,6 @@ use Rattle.drive_pictures.specs.declared.requests.Request.{Request}
 use Rattle.run_plan.specs.declared.lanes.Lane.{Lane}
 use Rattle.run_plan.specs.declared.figures.Figures.{Figures}
 use Rattle.run_plan.specs.declared.plan.Plan.{Plan}
-use Rattle.run_plan.specs.Fields.{with_fields}
 use Rattle.run_plan.specs.Figures.{Sums, SumsUp, HasFigures, IsSummary, with_figures, names, travel_of, asked_of}
 
 -- a drive more, behind others
@@ -39,14 +38,14 @@ sum_step f lanes items lane i sum more same inside is so_far one =
 
 -- ALL OF THEM, and the line of all
 pub summary_is : (plan : Plan) (items : List Lane) (rows : List Request) (i travel as_asked : ℕ) (figures : Figures) (drives text : List ℕ) → items ≡ plan.lanes.items
-    → rows ≡ plan.rows.items → length items ≤ i → SumsUp plan.rows.items (take i plan.lanes.items) (with_fields names []) drives
+    → rows ≡ plan.rows.items → length items ≤ i → SumsUp plan.rows.items (take i plan.lanes.items) names drives
     → travel ≡ fold travel_of 0 (take i plan.lanes.items) → as_asked ≡ fold asked_of 0 (take i plan.lanes.items) → HasFigures rows figures
     → text ≡ with_figures (97 ∷ 108 ∷ 108 ∷ []) figures travel as_asked drives → IsSummary plan text
 summary_is plan items rows i travel as_asked figures drives text same those end each moved asked all is =
     let whole : take i plan.lanes.items ≡ plan.lanes.items = take_all i plan.lanes.items (subst (λ (xs : List Lane). length xs ≤ i) same end) in
     record {
       drives = drives;
-      each = subst (λ (xs : List Lane). SumsUp plan.rows.items xs (with_fields names []) drives) whole each;
+      each = subst (λ (xs : List Lane). SumsUp plan.rows.items xs names drives) whole each;
       figures = figures;
       all = subst (λ (xs : List Request). HasFigures xs figures) those all;
       line = is ∙ ap (λ n. with_figures (97 ∷ 108 ∷ 108 ∷ []) figures n as_asked drives) (moved ∙ ap (fold travel_of 0) whole)

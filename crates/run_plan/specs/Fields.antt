@@ -1,5 +1,5 @@
 -- LINES OF FIELDS: a tab stands between two of them, and LF behind the last.
-use Rattle.std.specs.Prelude.{ℕ, ◌/◌, ◌%◌, List, [], ◌∷◌, ◌++◌, fold, codes, decimal}
+use Rattle.std.specs.Prelude.{ℕ, ◌/◌, ◌%◌, List, ◌++◌, fold, codes, decimal}
 use Rattle.run_plan.specs.declared.fields.Field.{Field}
 use Rattle.run_plan.specs.declared.fields.Field.TheVariants as field
 
@@ -18,7 +18,3 @@ with_field text field = text ++ codes "\t" ++ field
 -- behind a text, a line of a first field and others
 abbrev pub with_line : List ℕ → List (List ℕ) → List ℕ → List ℕ
 with_line first others text = fold with_field (text ++ first) others ++ codes "\n"
-
-abbrev pub with_fields : List (List ℕ) → List ℕ → List ℕ
-with_fields [] text = text
-with_fields (first ∷ others) text = with_line first others text

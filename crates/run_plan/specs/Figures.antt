@@ -8,7 +8,7 @@ use Rattle.drive_pictures.specs.Requests.{queued, is_ok, is_out_of_order}
 use Rattle.run_plan.specs.declared.figures.Figures.{Figures}
 use Rattle.run_plan.specs.declared.lanes.Lane.{Lane}
 use Rattle.run_plan.specs.declared.plan.Plan.{Plan}
-use Rattle.run_plan.specs.Fields.{hundredths, with_fields}
+use Rattle.run_plan.specs.Fields.{hundredths, with_line}
 
 abbrev pub is_of : ℕ → Request → Bool
 is_of unit r = r.unit == unit
@@ -36,24 +36,15 @@ abbrev pub median_text : ℕ → List ℕ
 median_text two = hundredths (two / 2) (two % 2 * 50)
 
 -- THE LINES: the names of the fields; of each drive, and of all
-unfoldable pub names : List (List ℕ)
-names = codes "unit" ∷ codes "requests" ∷ codes "ok" ∷ codes "out of order" ∷ codes "mean wait" ∷ codes "median wait" ∷ codes "greatest wait" ∷ codes "cylinders moved" ∷ codes "in the order asked" ∷ []
-
-abbrev pub figure_fields : List ℕ → Figures → ℕ → ℕ → List (List ℕ)
-figure_fields first f travel as_asked =
-    first
-    ∷ decimal f.requests
-    ∷ decimal f.ok
-    ∷ decimal f.turned
-    ∷ mean_text f.sum f.requests
-    ∷ median_text f.two_medians
-    ∷ decimal f.greatest
-    ∷ decimal travel
-    ∷ decimal as_asked
-    ∷ []
+unfoldable pub names : List ℕ
+names = codes "unit\trequests\tok\tout of order\tmean wait\tmedian wait\tgreatest wait\tcylinders moved\tin the order asked\n"
 
 unfoldable pub with_figures : List ℕ → Figures → ℕ → ℕ → List ℕ → List ℕ
-with_figures first f travel as_asked text = with_fields (figure_fields first f travel as_asked) text
+with_figures first f travel as_asked text =
+    with_line first
+    (decimal f.requests ∷ decimal f.ok ∷ decimal f.turned ∷ mean_text f.sum f.requests ∷ median_text f.two_medians ∷ decimal f.greatest
+    ∷ decimal travel ∷ decimal as_asked ∷ [])
+    text
 
 -- of drives, one after another, behind a text
 pub record Sums (rows : List Request) (lane : Lane) (before after : List ℕ) : Type 0 where
@@ -73,7 +64,7 @@ asked_of sum lane = plus sum lane.as_asked
 
 pub record IsSummary (plan : Plan) (text : List ℕ) : Type 0 where
   pub drives : List ℕ
-  pub each : SumsUp plan.rows.items plan.lanes.items (with_fields names []) drives
+  pub each : SumsUp plan.rows.items plan.lanes.items names drives
   pub figures : Figures
   pub all : HasFigures plan.rows.items figures
   pub line : text ≡ with_figures (codes "all") figures (fold travel_of 0 plan.lanes.items) (fold asked_of 0 plan.lanes.items) drives

@@ -1,31 +1,30 @@
 -- THE LETTERS OF A DRIVE IN A COLUMN.
-use Rattle.std.specs.Prelude.{ℕ, ◌-◌, nat_le, if◌then◌else◌, fold}
+use Rattle.std.specs.Prelude.{ℕ, ◌-◌, nat_le, if◌then◌else◌, List, [], ◌∷◌, drop, fold, slice_index}
 use Rattle.drive_pictures.specs.declared.cells.Tally.{Tally}
 use Rattle.drive_pictures.specs.declared.letters.Letter.{Letter}
 use Rattle.drive_pictures.specs.declared.letters.Letter.TheVariants as letter
 use Rattle.drive_pictures.specs.Counts.{plus}
-use Rattle.drive_pictures.specs.Letters.{all_letters}
+use Rattle.drive_pictures.specs.Letters.{all_letters, number_of}
 
--- the events behind which it holds its adapter; and those behind which it does anything else but rest
+-- behind how many events a letter stands that is not idle, and some letters
+abbrev pub at : Tally → Letter → ℕ
+at t l = slice_index t.counts (number_of l)
+
+abbrev pub standing : Tally → List Letter → ℕ
+standing t letters = fold (λ n l. plus n (at t l)) 0 letters
+
+-- the events behind which it holds its adapter
 abbrev pub holding : Tally → ℕ
-holding t = plus (plus (plus t.moves t.retries) t.replaces) t.moved
+holding t = standing t (letter.Moves ∷ letter.Retries ∷ letter.Replaces ∷ letter.Moved ∷ [])
 
-abbrev pub waiting : Tally → ℕ
-waiting t = plus (plus (plus (plus (plus t.seeks t.turns) t.recalibrates) t.offsets) t.arrived) t.ready
+-- the events behind which it does anything but rest
+abbrev pub busy : Tally → ℕ
+busy t = standing t (drop 1 all_letters)
 
 -- BEHIND HOW MANY of a column's events a letter stands
 abbrev pub count_of : Tally → ℕ → Letter → ℕ
-count_of t events letter.Idle = events - waiting t - holding t
-count_of t events letter.Seeks = t.seeks
-count_of t events letter.Turns = t.turns
-count_of t events letter.Recalibrates = t.recalibrates
-count_of t events letter.Offsets = t.offsets
-count_of t events letter.Arrived = t.arrived
-count_of t events letter.Ready = t.ready
-count_of t events letter.Moves = t.moves
-count_of t events letter.Retries = t.retries
-count_of t events letter.Replaces = t.replaces
-count_of t events letter.Moved = t.moved
+count_of t events letter.Idle = events - busy t
+count_of t events l = at t l
 
 -- THE LETTER THAT LEADS A COLUMN: of two the one of more events, of as many the second; and so of all, in their order
 unfoldable pub oftener : Tally → ℕ → Letter → Letter → Letter

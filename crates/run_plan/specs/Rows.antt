@@ -3,11 +3,11 @@ use Rattle.std.specs.Prelude.{ℕ, Bool, true, false, List, [], ◌∷◌, Optio
 use Rattle.drive_pictures.specs.declared.requests.Request.{Request}
 use Rattle.drive_pictures.specs.Requests.{queued}
 use Rattle.drive_pictures.specs.Words.{outcome_word}
-use Rattle.run_plan.specs.Fields.{with_fields}
+use Rattle.run_plan.specs.Fields.{with_line}
 
 -- the names of their fields
-unfoldable pub names : List (List ℕ)
-names = codes "id" ∷ codes "unit" ∷ codes "op" ∷ codes "cylinder" ∷ codes "line" ∷ codes "answer" ∷ codes "queued" ∷ codes "way" ∷ codes "ready" ∷ codes "transfer" ∷ []
+unfoldable pub names : List ℕ
+names = codes "id\tunit\top\tcylinder\tline\tanswer\tqueued\tway\tready\ttransfer\n"
 
 abbrev pub op_word : Bool → List ℕ
 op_word true = codes "write"
@@ -18,23 +18,13 @@ abbrev pub cylinder_text : Option ℕ → List ℕ
 cylinder_text None = []
 cylinder_text (Some cylinder) = decimal cylinder
 
-abbrev pub fields_of : Request → List (List ℕ)
-fields_of r =
-    decimal r.id
-    ∷ decimal r.unit
-    ∷ op_word r.write
-    ∷ cylinder_text r.cylinder
-    ∷ decimal r.line
-    ∷ outcome_word r.outcome
-    ∷ decimal (queued r)
-    ∷ decimal r.times.way
-    ∷ decimal r.times.ready
-    ∷ decimal r.times.trans
-    ∷ []
-
 unfoldable pub with_row : List ℕ → Request → List ℕ
-with_row text r = with_fields (fields_of r) text
+with_row text r =
+    with_line (decimal r.id)
+    (decimal r.unit ∷ op_word r.write ∷ cylinder_text r.cylinder ∷ decimal r.line ∷ outcome_word r.outcome ∷ decimal (queued r) ∷ decimal r.times.way
+    ∷ decimal r.times.ready ∷ decimal r.times.trans ∷ [])
+    text
 
 -- ALL OF THEM, behind the names
 abbrev pub requests_of : List Request → List ℕ
-requests_of rows = fold with_row (with_fields names []) rows
+requests_of rows = fold with_row names rows

@@ -13,36 +13,39 @@ pub record IsPhrase (word : List ℕ) (number : ℕ) (phrase : Phrase) : Type 0 
   pub words : phrase.word.now ≡ word
   pub count : phrase.number ≡ number
 
--- what became of the requests: how many, how many of them ok, how many out of order
-pub record SaysRequests (sheet : Sheet) (s : Sentence) : Type 0 where
-  pub all : IsPhrase (codes "Requests: ") (length sheet.run.now.requests) s.first
-  pub ok : IsPhrase (codes "; ok: ") (count_by was_ok sheet.run.now.requests) s.second
-  pub turned : MatchOption s.third ⊥ (IsPhrase (codes "; served out of the order asked: ") (count_by is_out_of_order sheet.run.now.requests))
+-- TWO PHRASES, a third one or none, and a point
+pub record Says (first : List ℕ) (one : ℕ) (second : List ℕ) (two : ℕ) (IsThird : Option Phrase → Type 0) (s : Sentence) : Type 0 where
+  pub front : IsPhrase first one s.first
+  pub middle : IsPhrase second two s.second
+  pub third : IsThird s.third
   pub stop : s.end.now ≡ codes "."
 
-pub record SaysEvents (sheet : Sheet) (s : Sentence) : Type 0 where
-  pub events : IsPhrase (codes "Events: ") (events_in sheet.run.now.before sheet.run.now.event) s.first
-  pub per : IsPhrase (codes "; to a column: ") sheet.window.per s.second
-  pub two : MatchOption s.third (Unit {0}) (λ phrase. ⊥)
-  pub stop : s.end.now ≡ codes "."
+abbrev pub IsNone : Option Phrase → Type 0
+IsNone third = MatchOption third (Unit {0}) (λ phrase. ⊥)
+
+abbrev pub IsSome : List ℕ → ℕ → Option Phrase → Type 0
+IsSome word number third = MatchOption third ⊥ (IsPhrase word number)
+
+-- what became of the requests: how many, how many of them ok, how many out of order; and how many events there were
+abbrev pub SaysRequests : Sheet → Sentence → Type 0
+SaysRequests sheet = Says (codes "Requests: ") (length sheet.run.now.requests) (codes "; ok: ") (count_by was_ok sheet.run.now.requests)
+    (IsSome (codes "; served out of the order asked: ") (count_by is_out_of_order sheet.run.now.requests))
+
+abbrev pub SaysEvents : Sheet → Sentence → Type 0
+SaysEvents sheet = Says (codes "Events: ") (events_in sheet.run.now.before sheet.run.now.event) (codes "; to a column: ") sheet.window.per IsNone
 
 -- how many drives are shown, and how many positioned at once at most; and where first, if one did
 abbrev pub SaysFirst : ℕ → ℕ → Option Phrase → Type 0
-SaysFirst zero line third = MatchOption third (Unit {0}) (λ phrase. ⊥)
-SaysFirst (suc n) line third = MatchOption third ⊥ (IsPhrase (codes "; first at line: ") line)
+SaysFirst zero line = IsNone
+SaysFirst (suc n) line = IsSome (codes "; first at line: ") line
 
-pub record SaysPositioning (sheet : Sheet) (s : Sentence) : Type 0 where
-  pub drives : IsPhrase (codes "Drives: ") (length (units_shown sheet)) s.first
-  pub most : IsPhrase (codes "; positioning at once, at most: ") sheet.run.now.glance.most s.second
-  pub line : SaysFirst sheet.run.now.glance.most sheet.run.now.glance.most_line s.third
-  pub stop : s.end.now ≡ codes "."
+abbrev pub SaysPositioning : Sheet → Sentence → Type 0
+SaysPositioning sheet = Says (codes "Drives: ") (length (units_shown sheet)) (codes "; positioning at once, at most: ") sheet.run.now.glance.most
+    (SaysFirst sheet.run.now.glance.most sheet.run.now.glance.most_line)
 
 -- behind how many events sectors had moved, and behind how many of these another drive was positioning
-pub record SaysMoving (sheet : Sheet) (s : Sentence) : Type 0 where
-  pub moving : IsPhrase (codes "Events after which sectors moved: ") sheet.run.now.glance.moving s.first
-  pub both : IsPhrase (codes "; and another drive positioned: ") sheet.run.now.glance.both s.second
-  pub two : MatchOption s.third (Unit {0}) (λ phrase. ⊥)
-  pub stop : s.end.now ≡ codes "."
+abbrev pub SaysMoving : Sheet → Sentence → Type 0
+SaysMoving sheet = Says (codes "Events after which sectors moved: ") sheet.run.now.glance.moving (codes "; and another drive positioned: ") sheet.run.now.glance.both IsNone
 
 -- the four, in this order
 abbrev pub SumUp : Sheet → List Sentence → Type 0

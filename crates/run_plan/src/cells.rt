@@ -2,33 +2,34 @@
 
 ghost use Rattle.std.specs.Prelude.{◌≡◌, fold};
 ghost use Rattle.run_picture.specs.Fold.{drive_at};
-ghost use Rattle.run_plan.specs.Letters.{holding, waiting, count_of, oftener, lead_of};
+ghost use Rattle.run_plan.specs.Letters.{at, standing, holding, count_of, oftener, lead_of};
 
-use drive_pictures::{Cell, Letter, Tally, all_letters};
+use drive_pictures::{Cell, Letter, Tally, all_letters, plus};
 use run_picture::Column;
 
-/// After how many events of a column a drive positions or has arrived, or is ready.
-fn before_moving(tally: &Tally) -> u64
-    ensures { result ≡ waiting tally.now }
+/// After how many events a letter stands that is not idle.
+fn at(tally: &Tally, letter: Letter) -> u64
+    ensures { result ≡ at tally.now letter }
 {
-    tally
-        .seeks
-        .saturating_add(tally.turns)
-        .saturating_add(tally.recalibrates)
-        .saturating_add(tally.offsets)
-        .saturating_add(tally.arrived)
-        .saturating_add(tally.ready)
+    tally.counts[letter.number()]
+}
+
+/// After how many events some letters stand.
+fn standing(tally: &Tally, letters: &[Letter]) -> u64
+    ensures { result ≡ standing tally.now letters.now }
+{
+    let mut sum = 0u64;
+    for letter in letters.iter() {
+        sum = plus(sum, at(tally, *letter));
+    }
+    sum
 }
 
 /// After how many events of a column a drive holds its adapter.
 pub fn holding(tally: &Tally) -> u64
     ensures { result ≡ holding tally.now }
 {
-    tally
-        .moves
-        .saturating_add(tally.retries)
-        .saturating_add(tally.replaces)
-        .saturating_add(tally.moved)
+    standing(tally, &all_letters()[7..])
 }
 
 /// After how many of a column's events a letter stands; the column has `events` of them.
@@ -36,19 +37,8 @@ pub fn count_of(tally: &Tally, events: u64, letter: Letter) -> u64
     ensures { result ≡ count_of tally.now events letter }
 {
     match letter {
-        Letter::Idle => events
-            .saturating_sub(before_moving(tally))
-            .saturating_sub(holding(tally)),
-        Letter::Seeks => tally.seeks,
-        Letter::Turns => tally.turns,
-        Letter::Recalibrates => tally.recalibrates,
-        Letter::Offsets => tally.offsets,
-        Letter::Arrived => tally.arrived,
-        Letter::Ready => tally.ready,
-        Letter::Moves => tally.moves,
-        Letter::Retries => tally.retries,
-        Letter::Replaces => tally.replaces,
-        Letter::Moved => tally.moved,
+        Letter::Idle => events.saturating_sub(standing(tally, &all_letters()[1..])),
+        letter => at(tally, letter),
     }
 }
 

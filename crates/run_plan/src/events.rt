@@ -259,27 +259,6 @@ fn put_back(out: &mut Vec<u8>) -> Result<(), AllocError>
     put(out, "\n]}\n")
 }
 
-/// Puts the events of lanes.
-#[tactic(auto, unfolding(crate::specs::Events::with_names))]
-fn put_lanes(out: &mut Vec<u8>, plan: &Plan) -> Result<(), AllocError>
-    ensures { OnOk result (out.new.items ≡ fold (with_lane plan.now.window) out.old.items plan.now.lanes.items) }
-{
-    for lane in plan.lanes.iter() {
-        put_lane(out, plan, lane)?;
-    }
-    Ok(())
-}
-
-/// Puts the spans of requests.
-fn put_requests(out: &mut Vec<u8>, rows: &[Request]) -> Result<(), AllocError>
-    ensures { OnOk result (out.new.items ≡ fold with_request out.old.items rows.now) }
-{
-    for request in rows.iter() {
-        put_request(out, request)?;
-    }
-    Ok(())
-}
-
 /// The trace events of a plan, as JSON: a process for each adapter, a thread for each drive, a slice for each bar that is not idle, for
 /// each column a counter of the arm's cylinder and one of the requests that wait, and a span for each request. An event of the run
 /// takes a microsecond.
@@ -288,8 +267,12 @@ pub fn events_text(alloc: Global, plan: &Plan) -> Result<Vec<u8>, AllocError>
 {
     let mut out = Vec::new(alloc);
     put_front(&mut out)?;
-    put_lanes(&mut out, plan)?;
-    put_requests(&mut out, plan.rows.as_slice())?;
+    for lane in plan.lanes.iter() {
+        put_lane(&mut out, plan, lane)?;
+    }
+    for request in plan.rows.iter() {
+        put_request(&mut out, request)?;
+    }
     put_back(&mut out)?;
     Ok(out)
 }

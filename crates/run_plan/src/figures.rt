@@ -59,11 +59,7 @@ pub(crate) fn count_turned(rows: &[Request]) -> usize
 fn waits_of(alloc: Global, rows: &[Request]) -> Result<Vec<u64>, AllocError>
     ensures { IfOk result (λ waits. waits.items ≡ map queued rows.now) }
 {
-    let mut waits = Vec::new(alloc);
-    for request in rows.iter() {
-        waits.push(request.queued())?;
-    }
-    Ok(waits)
+    rows.iter().map(|request| request.queued()).collect(alloc)
 }
 
 /// The sum of some numbers, which stops at 2^64 - 1.

@@ -41,11 +41,8 @@ pub fn letter_at(column: &Column, unit: u8) -> Letter
 fn letters_of(alloc: Global, columns: &[Column], unit: u8) -> Result<Vec<Letter>, AllocError>
     ensures { IfOk result (λ letters. letters.items ≡ map (letter_at unit) columns.now) }
 {
-    let mut letters = Vec::new(alloc);
-    for column in columns.iter() {
-        letters.push(letter_at(column, unit))?;
-    }
-    Ok(letters)
+    let letters = columns.iter().map(|column| letter_at(column, unit));
+    letters.collect(alloc)
 }
 
 /// Where a unit's arm was in a column, and how many requests waited.
@@ -63,11 +60,8 @@ fn point_at(column: &Column, unit: u8) -> Point
 fn points_of(alloc: Global, columns: &[Column], unit: u8) -> Result<Vec<Point>, AllocError>
     ensures { IfOk result (λ points. points.items ≡ map (point_at unit) columns.now) }
 {
-    let mut points = Vec::new(alloc);
-    for column in columns.iter() {
-        points.push(point_at(column, unit))?;
-    }
-    Ok(points)
+    let points = columns.iter().map(|column| point_at(column, unit));
+    points.collect(alloc)
 }
 
 /// The drive of a unit.

@@ -1,14 +1,14 @@
 //! The plan of a run, and its tables.
 
-ghost use Rattle.std.specs.Prelude.{◌≡◌, map, IfOk, OnOk};
+ghost use Rattle.std.specs.Prelude.{◌≡◌, ◌++◌, map, IfOk, OnOk};
 ghost use Rattle.run_plan.specs.Units.{units_shown};
-ghost use Rattle.run_plan.specs.Fields.{field_text, with_fields};
+ghost use Rattle.run_plan.specs.Fields.{field_text};
 ghost use Rattle.run_plan.specs.Figures.{names, with_figures, Sums, IsSummary};
 ghost use Rattle.run_plan.specs.Lanes.{told, lane_in};
 ghost use Rattle.run_plan.specs.Plans.{Plans};
 ghost use Rattle.run_plan.specs.Rows.{requests_of};
 
-use crate::fields::{Field, put_line};
+use crate::fields::{Field, put, put_line};
 use crate::figures::{Figures, figures_of, of_unit};
 use crate::lanes::{Lane, lane_of};
 use crate::rows::{put_names, put_row, rows_of};
@@ -105,21 +105,11 @@ fn put_figures(
 /// Puts the names of the fields of a summary.
 #[tactic(auto, unfolding(crate::specs::Figures::names))]
 fn put_summary_names(out: &mut Vec<u8>) -> Result<(), AllocError>
-    ensures { OnOk result (out.new.items ≡ with_fields names out.old.items) }
+    ensures { OnOk result (out.new.items ≡ out.old.items ++ names) }
 {
-    put_line(
+    put(
         out,
-        Field::Word("unit"),
-        &[
-            Field::Word("requests"),
-            Field::Word("ok"),
-            Field::Word("out of order"),
-            Field::Word("mean wait"),
-            Field::Word("median wait"),
-            Field::Word("greatest wait"),
-            Field::Word("cylinders moved"),
-            Field::Word("in the order asked"),
-        ],
+        "unit\trequests\tok\tout of order\tmean wait\tmedian wait\tgreatest wait\tcylinders moved\tin the order asked\n",
     )
 }
 

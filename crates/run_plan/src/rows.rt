@@ -1,11 +1,11 @@
 //! The requests of a plan, and their lines.
 
-ghost use Rattle.std.specs.Prelude.{◌≡◌, filter, IfOk, OnOk};
+ghost use Rattle.std.specs.Prelude.{◌≡◌, ◌++◌, filter, IfOk, OnOk};
 ghost use Rattle.run_plan.specs.Requests.{is_shown};
-ghost use Rattle.run_plan.specs.Fields.{field_text, with_fields};
+ghost use Rattle.run_plan.specs.Fields.{field_text};
 ghost use Rattle.run_plan.specs.Rows.{names, op_word, cylinder_text, with_row};
 
-use crate::fields::{Field, put_line};
+use crate::fields::{Field, put, put_line};
 use crate::sheet::Sheet;
 use crate::shown::is_shown;
 use drive_pictures::{Request, outcome_word};
@@ -44,22 +44,11 @@ fn cylinder_field(cylinder: Option<u32>) -> Field
 /// Puts the names of the fields.
 #[tactic(auto, unfolding(crate::specs::Rows::names))]
 pub(crate) fn put_names(out: &mut Vec<u8>) -> Result<(), AllocError>
-    ensures { OnOk result (out.new.items ≡ with_fields names out.old.items) }
+    ensures { OnOk result (out.new.items ≡ out.old.items ++ names) }
 {
-    put_line(
+    put(
         out,
-        Field::Word("id"),
-        &[
-            Field::Word("unit"),
-            Field::Word("op"),
-            Field::Word("cylinder"),
-            Field::Word("line"),
-            Field::Word("answer"),
-            Field::Word("queued"),
-            Field::Word("way"),
-            Field::Word("ready"),
-            Field::Word("transfer"),
-        ],
+        "id\tunit\top\tcylinder\tline\tanswer\tqueued\tway\tready\ttransfer\n",
     )
 }
 

@@ -1,11 +1,11 @@
 //! The requests that are shown.
 
-ghost use Rattle.std.specs.Prelude.{◌≡◌, ◌-◌, ◌≤◌, fold, length, IfOk, OnOk};
-ghost use Rattle.run_plan.specs.Requests.{is_shown, shown_count, is_few, is_listed, listed_with, listed_all, listed, highest_in, with_column, with_request, top_of, with_reach, scale_of};
-ghost use Rattle.run_plan.specs.Window.{arm_before};
+ghost use Rattle.std.specs.Prelude.{◌≡◌, ◌-◌, length, IfOk, OnOk};
+ghost use Rattle.run_plan.specs.Requests.{is_shown, shown_count, is_few, listed_with, listed_all, listed, with_column, with_request, top_of, scale_of};
 
+use crate::cells::cell_at;
 use crate::sheet::Sheet;
-use drive_pictures::{Cell, Request};
+use drive_pictures::Request;
 use run_picture::Column;
 use std::alloc::{AllocError, Global};
 
@@ -36,27 +36,16 @@ pub fn is_shown(sheet: &Sheet<'_>, request: &Request) -> bool
 fn count_shown(sheet: &Sheet<'_>) -> usize
     ensures { result ≡ shown_count sheet.now }
 {
-    let mut count: usize = 0;
-    for request in sheet.run.requests().iter() {
-        if is_shown(sheet, request) {
-            count += 1;
-        }
-    }
-    count
+    let requests = sheet.run.requests();
+    requests
+        .iter()
+        .filter(|request| is_shown(sheet, request))
+        .count()
 }
 
-/// Whether a request is listed, if there is room: one of the first ones, which are those with trouble or, if few are shown, all; or one
-/// of the others.
-#[tactic(auto, unfolding(crate::specs::Requests::is_listed))]
-fn is_listed(sheet: &Sheet<'_>, few: bool, first: bool, request: &Request) -> bool
-    ensures { result ≡ is_listed sheet.now few first request.now }
-{
-    let wanted = few || request.trouble;
-    is_shown(sheet, request) && (if first { wanted } else { !wanted })
-}
-
-/// Puts a request after those that are listed, if it is wanted and there is room.
-#[tactic(auto, unfolding(crate::specs::Requests::listed_with))]
+/// Puts a request after those that are listed, if it is shown, there is room, and it is one of the first ones, which are those with
+/// trouble or, if few are shown, all; or one of the others.
+#[tactic(auto, unfolding(crate::specs::Requests::is_listed, crate::specs::Requests::listed_with))]
 fn list_request(
     listed: &mut Vec<Request>,
     sheet: &Sheet<'_>,
@@ -66,7 +55,8 @@ fn list_request(
 ) -> Result<(), AllocError>
     ensures { OnOk result (listed.new.items ≡ listed_with sheet.now few first listed.old.items request.now) }
 {
-    if is_listed(sheet, few, first, request) && listed.len() < MOST {
+    let wanted = few || request.trouble;
+    if is_shown(sheet, request) && (if first { wanted } else { !wanted }) && listed.len() < MOST {
         listed.push(*request)?;
     }
     Ok(())
@@ -87,16 +77,6 @@ fn list_all(
     Ok(())
 }
 
-/// The requests that are listed.
-fn list(alloc: Global, sheet: &Sheet<'_>, few: bool) -> Result<Vec<Request>, AllocError>
-    ensures { IfOk result (λ requests. requests.items ≡ listed sheet.now few) }
-{
-    let mut listed = Vec::new(alloc);
-    list_all(&mut listed, sheet, few, true)?;
-    list_all(&mut listed, sheet, few, false)?;
-    Ok(listed)
-}
-
 impl Shown {
     /// The requests that a sheet shows. If there are at most 256, all are listed. Otherwise those with trouble are listed first, and
     /// then others, until 256 are listed.
@@ -107,7 +87,9 @@ impl Shown {
     {
         let count = count_shown(sheet);
         let few = count <= MOST;
-        let listed = list(alloc, sheet, few)?;
+        let mut listed = Vec::new(alloc);
+        list_all(&mut listed, sheet, few, true)?;
+        list_all(&mut listed, sheet, few, false)?;
         Ok(Shown { count, few, listed })
     }
 
@@ -119,24 +101,15 @@ impl Shown {
     }
 }
 
-/// The highest cylinder where an arm was in a column.
-fn highest_in(cell: &Cell) -> u32
-    ensures { result ≡ highest_in cell.now.path cell.now.cylinder }
-{
-    match cell.path {
-        Some(path) => path.highest.max(cell.cylinder),
-        None => cell.cylinder,
-    }
-}
-
 /// The higher of a cylinder and where a unit's arm was in a column.
 #[tactic(auto, unfolding(crate::specs::Requests::with_column))]
 fn with_column(unit: u8, top: u32, column: &Column) -> u32
     ensures { result ≡ with_column unit top column.now }
 {
-    match column.drives.get(usize::from(unit)) {
-        Some(drive) => top.max(highest_in(&drive.cell)),
-        None => top,
+    let cell = cell_at(column, unit);
+    match cell.path {
+        Some(path) => top.max(path.highest.max(cell.cylinder)),
+        None => top.max(cell.cylinder),
     }
 }
 
@@ -152,33 +125,18 @@ fn with_request(sheet: &Sheet<'_>, unit: u8, top: u32, request: &Request) -> u32
     }
 }
 
-/// The highest cylinder of a unit's arm.
-fn top_of_arm(sheet: &Sheet<'_>, unit: u8) -> u32
-    ensures { result ≡ fold (with_column unit) (arm_before sheet.now unit) sheet.now.run.now.columns }
+/// The highest cylinder of a unit, of its arm and of its requests.
+pub fn top_of(sheet: &Sheet<'_>, unit: u8) -> u32
+    ensures { result ≡ top_of sheet.now unit }
 {
     let mut top = sheet.arm_before(unit);
     for column in sheet.columns().iter() {
         top = with_column(unit, top, column);
     }
-    top
-}
-
-/// The highest cylinder of a unit, of its arm and of its requests.
-pub fn top_of(sheet: &Sheet<'_>, unit: u8) -> u32
-    ensures { result ≡ top_of sheet.now unit }
-{
-    let mut top = top_of_arm(sheet, unit);
     for request in sheet.run.requests().iter() {
         top = with_request(sheet, unit, top, request);
     }
     top
-}
-
-/// The higher of a cylinder and the highest one of a unit's arm and requests.
-fn with_reach(sheet: &Sheet<'_>, top: u32, unit: u8) -> u32
-    ensures { result ≡ with_reach sheet.now top unit }
-{
-    top.max(top_of(sheet, unit))
 }
 
 /// The cylinder at the top of the charts of all arms of some units: the highest one that an arm or a request of theirs reaches.
@@ -187,7 +145,7 @@ pub fn scale_of(sheet: &Sheet<'_>, units: &[u8]) -> u32
 {
     let mut top = 0;
     for unit in units.iter() {
-        top = with_reach(sheet, top, *unit);
+        top = top.max(top_of(sheet, *unit));
     }
     top
 }

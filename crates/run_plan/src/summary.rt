@@ -1,8 +1,8 @@
 //! A whole run at a glance, in sentences.
 
-ghost use Rattle.std.specs.Prelude.{◌≡◌, length};
+ghost use Rattle.std.specs.Prelude.{◌≡◌, length, codes};
 ghost use Rattle.run_plan.specs.Units.{units_shown};
-ghost use Rattle.run_plan.specs.Sentences.{SaysRequests, SaysEvents, SaysFirst, SaysPositioning, SaysMoving, SumUp};
+ghost use Rattle.run_plan.specs.Sentences.{IsPhrase, SaysRequests, SaysEvents, SaysFirst, SaysPositioning, SaysMoving, SumUp};
 
 use crate::figures::{count_ok, count_turned};
 use crate::sheet::{Sheet, is_drawn};
@@ -23,44 +23,50 @@ pub struct Sentence {
     pub end: &'static str,
 }
 
+/// Words, and a number after them.
+fn numbered(word: &'static str, number: u64) -> Phrase
+    ensures { IsPhrase word.now number result }
+{
+    Phrase { word, number }
+}
+
+/// A sentence that ends with a point.
+fn make_sentence(first: Phrase, second: Phrase, third: Option<Phrase>) -> Sentence
+    ensures first { result.first ≡ first }
+    ensures second { result.second ≡ second }
+    ensures third { result.third ≡ third }
+    ensures end { result.end.now ≡ codes "." }
+{
+    Sentence {
+        first,
+        second,
+        third,
+        end: ".",
+    }
+}
+
 /// What became of the requests.
 fn of_requests(sheet: &Sheet<'_>) -> Sentence
     ensures { SaysRequests sheet.now result }
 {
     let requests = sheet.run.requests();
-    Sentence {
-        first: Phrase {
-            word: "Requests: ",
-            number: requests.len() as u64,
-        },
-        second: Phrase {
-            word: "; ok: ",
-            number: count_ok(requests) as u64,
-        },
-        third: Some(Phrase {
-            word: "; served out of the order asked: ",
-            number: count_turned(requests) as u64,
-        }),
-        end: ".",
-    }
+    let turned = count_turned(requests) as u64;
+    make_sentence(
+        numbered("Requests: ", requests.len() as u64),
+        numbered("; ok: ", count_ok(requests) as u64),
+        Some(numbered("; served out of the order asked: ", turned)),
+    )
 }
 
 /// How many events there were.
 fn of_events(sheet: &Sheet<'_>) -> Sentence
     ensures { SaysEvents sheet.now result }
 {
-    Sentence {
-        first: Phrase {
-            word: "Events: ",
-            number: sheet.run.events(),
-        },
-        second: Phrase {
-            word: "; to a column: ",
-            number: sheet.window.per,
-        },
-        third: None,
-        end: ".",
-    }
+    make_sentence(
+        numbered("Events: ", sheet.run.events()),
+        numbered("; to a column: ", sheet.window.per),
+        None,
+    )
 }
 
 /// How many drives are shown.
@@ -83,10 +89,7 @@ fn first_at(most: usize, line: u32) -> Option<Phrase>
     if most == 0 {
         return None;
     }
-    Some(Phrase {
-        word: "; first at line: ",
-        number: u64::from(line),
-    })
+    Some(numbered("; first at line: ", u64::from(line)))
 }
 
 /// How many drives positioned at once.
@@ -94,18 +97,11 @@ fn of_positioning(sheet: &Sheet<'_>) -> Sentence
     ensures { SaysPositioning sheet.now result }
 {
     let glance = sheet.run.glance();
-    Sentence {
-        first: Phrase {
-            word: "Drives: ",
-            number: count_drives(sheet) as u64,
-        },
-        second: Phrase {
-            word: "; positioning at once, at most: ",
-            number: glance.most as u64,
-        },
-        third: first_at(glance.most, glance.most_line),
-        end: ".",
-    }
+    make_sentence(
+        numbered("Drives: ", count_drives(sheet) as u64),
+        numbered("; positioning at once, at most: ", glance.most as u64),
+        first_at(glance.most, glance.most_line),
+    )
 }
 
 /// How often sectors moved, and another drive positioned meanwhile.
@@ -113,18 +109,11 @@ fn of_moving(sheet: &Sheet<'_>) -> Sentence
     ensures { SaysMoving sheet.now result }
 {
     let glance = sheet.run.glance();
-    Sentence {
-        first: Phrase {
-            word: "Events after which sectors moved: ",
-            number: glance.moving,
-        },
-        second: Phrase {
-            word: "; and another drive positioned: ",
-            number: glance.both,
-        },
-        third: None,
-        end: ".",
-    }
+    make_sentence(
+        numbered("Events after which sectors moved: ", glance.moving),
+        numbered("; and another drive positioned: ", glance.both),
+        None,
+    )
 }
 
 /// The four sentences.

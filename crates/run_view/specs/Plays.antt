@@ -16,17 +16,14 @@ abbrev pub play_of : {D N : Type 0} → Statement D N → Option Play
 play_of (says.Unit u kind) = None
 play_of (says.Read request) = Some (play.Ask request false)
 play_of (says.Write request content) = Some (play.Ask request true)
-play_of (says.Arrive u) = Some play.Other
 play_of (says.Turn u sector) = Some (play.Change u change.Turn)
-play_of (says.Move a) = Some play.Other
-play_of (says.Attend a) = Some play.Other
 play_of (says.Noise u block span n) = Some (play.Change u change.Noise)
 play_of (says.Fault u what times) = Some (play.Change u change.Fault)
 play_of (says.Offline u) = Some (play.Change u change.Offline)
 play_of (says.Online u) = Some (play.Change u change.Online)
 play_of (says.Lock u) = Some (play.Change u change.Lock)
 play_of (says.Unlock u) = Some (play.Change u change.Unlock)
-play_of says.Drain = Some play.Other
+play_of statement = Some play.Other
 
 -- the drive that it names
 abbrev pub names_of : {D N : Type 0} → Statement D N → Option ℕ
@@ -35,15 +32,13 @@ names_of (says.Read request) = Some request.unit
 names_of (says.Write request content) = Some request.unit
 names_of (says.Arrive u) = Some u
 names_of (says.Turn u sector) = Some u
-names_of (says.Move a) = None
-names_of (says.Attend a) = None
 names_of (says.Noise u block span n) = Some u
 names_of (says.Fault u what times) = Some u
 names_of (says.Offline u) = Some u
 names_of (says.Online u) = Some u
 names_of (says.Lock u) = Some u
 names_of (says.Unlock u) = Some u
-names_of says.Drain = None
+names_of statement = None
 
 -- the drive is one of 32
 abbrev pub HasUnit : {D N : Type 0} → Statement D N → Type 0

@@ -3,11 +3,11 @@ use crate::{Seen, Watcher};
 use drive_pictures::{Moment, begins, plus};
 use std::alloc::AllocError;
 
-/// The last moment so far, and how many events began after the first one.
+/// The last moment so far, and the number of its event.
 #[derive(Clone, Copy)]
 pub(crate) struct Counter {
     before: Option<Moment>,
-    event: u64,
+    pub(crate) event: u64,
 }
 
 impl Counter {
@@ -33,13 +33,6 @@ impl Counter {
             None => 0,
             Some(_) => plus(self.event, 1),
         }
-    }
-
-    /// The number of the event of the last moment.
-    pub(crate) fn event(&self) -> u64
-        ensures { result ≡ self.now.event }
-    {
-        self.event
     }
 
     /// Takes in one more moment.

@@ -1,5 +1,6 @@
 // The script as it is played.
-ghost use Rattle.std.specs.Prelude.{◌≡◌, ◌<◌, ◌-◌, ◌^◌, ◌++◌, [], map, drop, slice_index_or, IfOk, OnOk, ℕ, List};
+ghost use Rattle.std.specs.Prelude.{◌≡◌, ◌<◌, ◌-◌, ◌^◌, ◌++◌, [], map, drop, slice_index_or, Some, IfOk, OnOk, ℕ, List};
+ghost use Rattle.drive_pictures.specs.declared.moments.Play.TheVariants as play;
 ghost use Rattle.std.specs.List.{All};
 ghost use Rattle.script_reader.specs.Grammar.{Spells};
 ghost use Rattle.script_lines.specs.Words.{all_verbs};
@@ -12,6 +13,16 @@ use crate::seen::Seen;
 use drive_pictures::{Change, Moment, Play};
 use script_reader::{Script, Statement, Stored, first_piece, read_back_law, without_cr};
 use std::alloc::{AllocError, Global};
+
+/// A drive is changed.
+fn change(unit: &u8, change: Change) -> Option<Play>
+    ensures { result ≡ Some (play.Change unit.now change) }
+{
+    Some(Play::Change {
+        unit: *unit,
+        change,
+    })
+}
 
 /// What a line of a script does that can be seen; `None` if it declares a drive.
 fn play_of(line: &Stored) -> Option<Play>
@@ -27,34 +38,13 @@ fn play_of(line: &Stored) -> Option<Play>
             request: *request,
             write: true,
         }),
-        Statement::Turn { unit, .. } => Some(Play::Change {
-            unit: *unit,
-            change: Change::Turn,
-        }),
-        Statement::Noise { unit, .. } => Some(Play::Change {
-            unit: *unit,
-            change: Change::Noise,
-        }),
-        Statement::Fault { unit, .. } => Some(Play::Change {
-            unit: *unit,
-            change: Change::Fault,
-        }),
-        Statement::Offline { unit } => Some(Play::Change {
-            unit: *unit,
-            change: Change::Offline,
-        }),
-        Statement::Online { unit } => Some(Play::Change {
-            unit: *unit,
-            change: Change::Online,
-        }),
-        Statement::Lock { unit } => Some(Play::Change {
-            unit: *unit,
-            change: Change::Lock,
-        }),
-        Statement::Unlock { unit } => Some(Play::Change {
-            unit: *unit,
-            change: Change::Unlock,
-        }),
+        Statement::Turn { unit, .. } => change(unit, Change::Turn),
+        Statement::Noise { unit, .. } => change(unit, Change::Noise),
+        Statement::Fault { unit, .. } => change(unit, Change::Fault),
+        Statement::Offline { unit } => change(unit, Change::Offline),
+        Statement::Online { unit } => change(unit, Change::Online),
+        Statement::Lock { unit } => change(unit, Change::Lock),
+        Statement::Unlock { unit } => change(unit, Change::Unlock),
         Statement::Arrive { .. }
         | Statement::Move { .. }
         | Statement::Attend { .. }

@@ -93,7 +93,7 @@ impl<'a> Watcher<'a> for Watch<'a> {
     fn see(&mut self, seen: &Seen<'a>) -> Result<(), AllocError> {
         self.run.step(&seen.moment)?;
         self.counter.count(&seen.moment);
-        let event = self.counter.event();
+        let event = self.counter.event;
         self.note(event, seen)
     }
 }
