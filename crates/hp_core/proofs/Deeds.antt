@@ -1,6 +1,6 @@
 -- What a deed that may come needs of its drive, its transfer and its adapter.
 use Rattle.std.proofs.Common.{◌≡◌, inl, inr, ℕ, ◌+◌, ◌*◌, ◌/◌, ◌^◌, ◌<◌, ◌≤◌, Bool, true, false, List, [], ◌∷◌, length, Option, Some, None, refl, sym, ap, ◌∙◌, subst, arith}
-use Rattle.std.specs.Prelude.{eqb, IsSome, if◌then◌else◌}
+use Rattle.std.specs.Prelude.{eqb, IsSome, if◌then◌else◌, unwrap_or}
 use Rattle.hardware_table.specs.declared.Work.TheVariants as work
 use Rattle.hardware_table.specs.Adapter.{AdapterState, next_block}
 use Rattle.driver_laws.proofs.invariant.Try.{failed_less}
@@ -19,7 +19,7 @@ use Rattle.request_slots.specs.Loaded.{loaded_buffer}
 use Rattle.request_slots.specs.Steps.{MayStep}
 use Rattle.transfer_engine.specs.declared.job.Job.{Job}
 use Rattle.transfer_engine.specs.declared.job.Segment.{Segment}
-use Rattle.transfer_engine.specs.State.{TransferState, IsJob, segment_by, segment_of}
+use Rattle.transfer_engine.specs.State.{TransferState, IsJob, begun, segment_by, segment_of}
 use Rattle.transfer_engine.specs.Calls.{entry_for}
 use Rattle.trace_replay.specs.Drives.{search_place}
 use Rattle.driver_machine.specs.declared.RetryStep.{RetryStep}
@@ -28,7 +28,7 @@ use Rattle.driver_machine.specs.declared.Task.{Task}
 use Rattle.driver_machine.specs.declared.Task.TheVariants.{Clear, Judge, Steps, Command}
 use Rattle.driver_machine.specs.declared.Phase.{Phase}
 use Rattle.driver_machine.specs.declared.Phase.TheVariants.{Waiting, Queued, Transferring, Due}
-use Rattle.driver_machine.specs.World.{World, Held, unit_at, adapter_at, slot_at, held_in, slot_in_hand, adapter_of, drive_of, transfer_of, job_of}
+use Rattle.driver_machine.specs.World.{World, UnitView, Held, no_transfer, unit_at, adapter_at, slot_at, held_in, slot_in_hand, adapter_of, drive_of, transfer_of, job_of}
 use Rattle.driver_machine.specs.Acts.{Of, Intr, Search, Do, Move, Pack, Dclr, Rtc, Ready, Repair, Forward, Continue, Try, scene_of}
 use Rattle.driver_machine.specs.Guards.{InHand, IsBusyFor, Allowed}
 use Rattle.driver_machine.specs.Sound.{Sound, Among, Once, IsShown, IsPhase, IsTask, IsBurstAt}
@@ -132,6 +132,12 @@ left_by : (index : Option ℕ) (job : Job) (done moved : ℕ) → done < job.cou
 left_by None job done moved left less = omega (arith, left, less)
 left_by (Some i) job done moved left less = omega (arith, left, less)
 
+-- a unit without a transfer has begun none
+nothing_begun : (v : UnitView) (job : Job) → v.transfer ≡ None → transfer_of v ≡ begun job → 1 ≤ job.count → ⊥
+nothing_begun v job none is some =
+    let count : 0 ≡ job.count = ap (λ (o : Option TransferState). (unwrap_or o no_transfer).job.count) (sym none) ∙ ap (λ (t : TransferState). t.job.count) is in
+    omega (arith, count, some)
+
 module _ (w : World) (line u id : ℕ) (s : Sound w) where
   pub there : InHand w u id → u < length w.units
   there i = subst (λ n. u < n) (sym s.units) i.unit
@@ -205,10 +211,13 @@ module _ (w : World) (line u id : ℕ) (s : Sound w) where
         | inr over ↦ steps_queued (unit_at w u).phase over.0.taken over.0.phase queued
       ])
 
-  pub steps_begun : (taken : ℕ) → InHand w u id → (unit_at w u).phase ≡ Due (Steps taken) → (unit_at w u).transfer ≡ Some (transfer_of (unit_at w u))
-  steps_begun taken i phase =
-      let is : IsTask (scene_of w u).unit (scene_of w u).held (Steps taken) = phase_is u (scene_of w u) (Due (Steps taken)) (scene_ok w u id s i) phase in
-      is.0.some
+  pub ready_begun : Allowed w (Of line u id (Ready (transfer_of (unit_at w u)))) → (unit_at w u).transfer ≡ Some (transfer_of (unit_at w u))
+  ready_begun may =
+      let due : IsDue (scene_of w u).unit (scene_of w u).held (Ready (transfer_of (unit_at w u))) = due_of u (Ready (transfer_of (unit_at w u))) (scene_of w u) may.1 in
+      elim due [
+        | inl start ↦ absurd (nothing_begun (unit_at w u) _ (phase_is u (scene_of w u) Waiting (scene_ok w u id s may.0) start.0).1 start.1 (is_job may.0).some)
+        | inr over ↦ (phase_is u (scene_of w u) (Due (Steps over.0.taken)) (scene_ok w u id s may.0) over.0.phase).0.some
+      ]
 
   -- where the blocks behind some that moved come next
   pub record GoesOn (moved : ℕ) : Type 0 where

@@ -11,3 +11,4 @@ pub mod Passes
 pub mod Units
 pub mod Steps
 pub mod Serving
+pub mod Acting

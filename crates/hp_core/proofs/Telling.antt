@@ -1,5 +1,5 @@
 -- From a change of the world and its line to what the act comes to.
-use Rattle.std.proofs.Common.{◌≡◌, ℕ, Bool, List, [], ◌∷◌, ◌++◌, drop, take, take-append-drop, refl, sym, ap, ◌∙◌, subst}
+use Rattle.std.proofs.Common.{◌≡◌, ℕ, Bool, List, [], ◌∷◌, ◌++◌, drop, take, take-append-drop, refl, sym, ap, ◌∙◌, subst, arith}
 use Rattle.std.specs.Prelude.{Result, Ok, Err, IfErr}
 use Rattle.std.proofs.lemmas.List.{append_assoc, append-nil}
 use Rattle.pack_geometry.specs.Pack.{Pack}
@@ -124,3 +124,16 @@ silent_act old new act apart may is change = record {
   };
   world = ap (λ (s : State). s.world) change;
 }
+
+-- AN ACT WITHOUT A LINE tells none.
+pub quiet_act : {O : Type 0} (tells : O → Bool) (taken : O → List ℕ) (faults : O → ℕ) (trace : O) (old new : State) (act : Act) → IsApart act → Allowed old.world act
+    → lines_of old.world act ≡ [] → new ≡ record old { world = after old.world act } → DoesAct tells taken faults trace trace old new (Ok tt) act
+quiet_act tells taken faults trace old new act apart may is change =
+    let silent : DoesSilently old new act = silent_act old new act apart may is change in
+    record {
+      outcome = λ told packs. silent.does told (tells trace) packs (taken trace);
+      world = silent.world;
+      stop = tt;
+      never_again = λ t. t;
+      cause = record { later = omega arith; failed = tt };
+    }

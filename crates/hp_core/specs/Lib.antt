@@ -1,6 +1,7 @@
 pub mod State
 pub mod Done
 pub mod Joins
+pub mod Deeds
 pub mod Passes
 pub use Rattle.hp_units.specs.Setups
 pub use Rattle.hp_units.specs.declared.setup.UnitSetup

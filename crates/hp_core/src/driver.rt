@@ -4,7 +4,6 @@ ghost use Rattle.outside_traits.specs.Puts.{Puts};
 ghost use Rattle.outside_traits.specs.Gathers.{Gathers};
 ghost use Rattle.main_memory.specs.Frames.{frames_needed};
 ghost use Rattle.driver_machine.specs.World.{unit_at, slot_at, held_in, slot_in_hand, job_of};
-ghost use Rattle.driver_machine.specs.Lines.{step_told};
 ghost use Rattle.trace_replay.specs.Moments as moments;
 ghost use Rattle.trace_replay.specs.requests.Requests.{Answer as AnswerTold};
 ghost use Rattle.trace_replay.specs.Text.{moment_text};
@@ -14,7 +13,6 @@ ghost use Rattle.hp_core.specs.Done.{Tells};
 
 use drive_model::NoiseBook;
 use driver_laws::answers::outcome::Stop;
-use driver_machine::RetryStep;
 use hardware_table::Moved;
 use hp_units::DiskUnit;
 use outside_traits::Gather;
@@ -59,24 +57,14 @@ impl Model for Core {
     ghost invariant = { λ d. IsKept d.row d.units.items d.slots d.answers };
 }
 
-/// What is told of a step of a retry.
-pub(crate) fn told_step(step: RetryStep) -> Told
-    ensures { (answer : AnswerTold) → deed_of answer result ≡ step_told step }
-{
-    match step {
-        RetryStep::Recalibrate => Told::Recal,
-        RetryStep::Seek { cylinder } => Told::Seek { cylinder },
-        RetryStep::Offset { code } => Told::Offset { code },
-    }
-}
-
 /// How many frames `count` blocks need that begin `offset` bytes into the first frame. The last block has `last` bytes.
-pub(crate) fn needed(count: u32, offset: u32, last: u32) -> u32
+pub fn frames_for(count: u32, offset: u32, last: u32) -> u32
     requires some { 1 ≤ count }
     requires few { count ≤ 127 }
     requires inside { offset < 512 }
     requires last { last ≤ 512 }
-    ensures { result ≡ frames_needed count offset last }
+    ensures needed { result ≡ frames_needed count offset last }
+    ensures few { result ≤ 128 }
 {
     (offset + 512 * (count - 1) + last + 511) / 512
 }

@@ -88,39 +88,6 @@ struct Tables {
     slots: Slots,
 }
 
-/// The book of noise, which is empty, and no answer.
-fn book_and_answers(
-    alloc: Global,
-    outstanding: u32,
-    noises: u32,
-) -> Result<(NoiseBook, Answers), NoMemory>
-    requires noises { noises ≤ 4096 }
-    ensures book { IfOk result (λ v. v.0 ≡ empty_book noises) }
-    ensures answers { IfOk result (λ v. v.1 ≡ record { made = []; most = min outstanding 16384 + 1 }) }
-{
-    let Ok(book) = NoiseBook::new(alloc, noises) else {
-        return Err(NoMemory);
-    };
-    let Ok(answers) = Answers::new(alloc, outstanding.min(16384) + 1) else {
-        return Err(NoMemory);
-    };
-    Ok((book, answers))
-}
-
-/// Nothing gathered, and slots, all free.
-fn gather_and_slots(alloc: Global, outstanding: u32) -> Result<(Gather, Slots), NoMemory>
-    ensures gather { IfOk result (λ v. v.0 ≡ []) }
-    ensures slots { IfOk result (λ v. v.1 ≡ replicate (min outstanding 16384) None) }
-{
-    let Ok(gather) = Gather::new(alloc, TRACE_ROOM) else {
-        return Err(NoMemory);
-    };
-    let Ok(slots) = Slots::new(alloc, outstanding) else {
-        return Err(NoMemory);
-    };
-    Ok((gather, slots))
-}
-
 impl Tables {
     /// Slots, all free; the book of noise, which is empty; no answer, and nothing gathered.
     fn new(alloc: Global, outstanding: u32, noises: u32) -> Result<Tables, NoMemory>
@@ -130,17 +97,11 @@ impl Tables {
         ensures gather { IfOk result (λ v. v.gather ≡ []) }
         ensures slots { IfOk result (λ v. v.slots ≡ replicate (min outstanding 16384) None) }
     {
-        let Ok((book, answers)) = book_and_answers(alloc, outstanding, noises) else {
-            return Err(NoMemory);
-        };
-        let Ok((gather, slots)) = gather_and_slots(alloc, outstanding) else {
-            return Err(NoMemory);
-        };
         Ok(Tables {
-            book,
-            answers,
-            gather,
-            slots,
+            book: NoiseBook::new(alloc, noises)?,
+            answers: Answers::new(alloc, outstanding.min(16384) + 1)?,
+            gather: Gather::new(alloc, TRACE_ROOM)?,
+            slots: Slots::new(alloc, outstanding)?,
         })
     }
 }

@@ -11,7 +11,7 @@ ghost use Rattle.request_slots.specs.Requests.{frames_lent, HasFree, IsAskable};
 ghost use Rattle.hp_core.specs.Joins.{MayJoin, IsPut, in_queue, Joins};
 ghost use Rattle.hp_core.specs.Done.{DoesSilently};
 
-use crate::driver::{Core, needed};
+use crate::driver::{Core, frames_for};
 use request_slots::Asked;
 
 impl Core {
@@ -25,7 +25,7 @@ impl Core {
     {
         let slot = self.slots.join(asked, bytes);
         self.slots.law();
-        self.frames += needed(asked.count, asked.offset, asked.last);
+        self.frames += frames_for(asked.count, asked.offset, asked.last);
         slot
     }
 

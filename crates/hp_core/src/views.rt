@@ -1,8 +1,6 @@
 // What can be seen of the driver.
-ghost use Rattle.std.specs.Prelude.{◌≡◌, ◌<◌, ◌/◌, ◌∷◌, ◌==◌, [], drop, not, length, true, false, IsSome, IfSome, IfNone};
-ghost use Rattle.pack_geometry.specs.Geometry.{IsInside};
+ghost use Rattle.std.specs.Prelude.{◌≡◌, ◌<◌, ◌∷◌, ◌==◌, [], drop, not, length, true, false, IsSome, IfSome, IfNone};
 ghost use Rattle.main_memory.specs.Bytes.{filled, IsFill};
-ghost use Rattle.trace_replay.specs.Seek.{position_for};
 ghost use Rattle.driver_machine.specs.World.{unit_at, adapter_at, slot_at, held_in, unit_of, block_in};
 ghost use Rattle.driver_machine.specs.Events.{can_arrive, can_move, lowest};
 ghost use Rattle.driver_machine.specs.Sound.{Sound};
@@ -12,9 +10,7 @@ use crate::driver::Core;
 use driver_machine::Made;
 use hp_units::DiskUnit;
 use hp_units::row::lowest;
-use pack_geometry::Place;
 use request_slots::Asked;
-use trace_replay::seek_engine::Position;
 
 // The units.
 impl Core {
@@ -24,16 +20,6 @@ impl Core {
         ensures { result.now ≡ unit_at self.now.world u }
     {
         &self.units[usize::from(u)]
-    }
-
-    /// The positioning that a unit needs for a first try at a place of its drive.
-    pub fn position(&self, u: u8, target: Place) -> Position
-        requires sound { Sound self.now.world }
-        requires unit { u < 32 }
-        requires target { IsInside (unit_at self.now.world u).drive.kind target }
-        ensures { result ≡ position_for (unit_at self.now.world u).drive.kind (unit_at self.now.world u).drive.cc ((unit_at self.now.world u).drive.la / 64) target true }
-    {
-        self.unit(u).position(target)
     }
 
     /// The lowest unit whose drive positions, found in one step. None if no drive positions.

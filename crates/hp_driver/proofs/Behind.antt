@@ -7,10 +7,9 @@ use Rattle.driver_laws.proofs.invariant.Sizes.{sizes_all}
 use Rattle.driver_machine.specs.Runs.{Run}
 use Rattle.driver_laws.proofs.invariant.Leads.{sound_along}
 use Rattle.hp_driver.proofs.Passes.{sound_after}
-use Rattle.driver_laws.specs.shown.QuietPasses.{Site, Told, Outcome}
+use Rattle.driver_laws.specs.shown.QuietPasses.{Site, Told, Outcome, AllFlip}
 use Rattle.driver_laws.specs.declared.answers.outcome.Stop.{Stop}
 use Rattle.driver_laws.specs.declared.answers.outcome.Stop.TheVariants.{Store, Sink}
-use Rattle.driver_laws.specs.shown.QuietPasses.{AllFlip}
 use Rattle.driver_laws.proofs.shown.QuietPasses.{acts_keep_noise}
 
 -- some acts ran, and left this world

@@ -15,8 +15,7 @@ use Rattle.driver_machine.specs.Events.{submit_acts, event_acts}
 use Rattle.driver_machine.specs.Sound.{Sound}
 use Rattle.driver_laws.specs.declared.answers.outcome.Stop.{Stop}
 use Rattle.driver_laws.specs.declared.answers.outcome.Stop.TheVariants.{Store, Sink}
-use Rattle.driver_laws.specs.shown.QuietPasses.{Does, StopsAtTrace}
-use Rattle.driver_laws.specs.shown.QuietPasses.{packs_after_all}
+use Rattle.driver_laws.specs.shown.QuietPasses.{Does, StopsAtTrace, packs_after_all}
 use Rattle.driver_laws.specs.shown.Bytes.{IsSureFor, IsSaid, StepsFrom, AreSteps, Bears}
 use Rattle.driver_laws.proofs.shown.Rests.{rest_bears}
 use Rattle.driver_laws.proofs.shown.QuietCalls.{submissions_bear, events_bear, takings_bear}

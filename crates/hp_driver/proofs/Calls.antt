@@ -12,13 +12,11 @@ use Rattle.driver_machine.specs.Sound.{AtWork}
 use Rattle.driver_machine.specs.Runs.{Works, MayCome}
 use Rattle.driver_laws.proofs.invariant.Calls.{event_works}
 use Rattle.hp_driver.proofs.Passes.{sound_after}
-use Rattle.driver_laws.specs.shown.QuietPasses.{stop_in}
+use Rattle.driver_laws.specs.shown.QuietPasses.{stop_in, IsReadOf}
 use Rattle.driver_laws.specs.declared.answers.outcome.Stop.{Stop}
 use Rattle.driver_laws.specs.declared.answers.outcome.Stop.TheVariants.{Store, Sink}
-use Rattle.driver_laws.specs.shown.QuietPasses.{IsReadOf}
 use Rattle.hp_core.proofs.Tries.{no_store}
-use Rattle.hp_driver.specs.Passes.{State, site}
-use Rattle.hp_driver.specs.Passes.{DoesSilently, HasCauses}
+use Rattle.hp_driver.specs.Passes.{State, site, DoesSilently, HasCauses}
 use Rattle.hp_driver.specs.Done.{DoesActs}
 use Rattle.hp_driver.specs.Subsystem.{Comes}
 use Rattle.hp_driver.specs.Calls.{Stands, Leaves, Happens}

@@ -10,8 +10,7 @@ use Rattle.driver_machine.specs.Events.{event_acts, arrive_acts, attend_acts}
 use Rattle.driver_machine.specs.Runs.{MayCome}
 use Rattle.driver_laws.specs.declared.answers.outcome.Stop.{Stop}
 use Rattle.driver_laws.specs.shown.QuietPasses.{IsReadOf}
-use Rattle.hp_driver.specs.Passes.{State}
-use Rattle.hp_driver.specs.Passes.{DoesSilently}
+use Rattle.hp_driver.specs.Passes.{State, DoesSilently}
 use Rattle.hp_driver.specs.Done.{DoesActs}
 use Rattle.hp_core.specs.Done.{DoesMove}
 use Rattle.hp_driver.specs.declared.drain.Event.{Event}

@@ -9,8 +9,7 @@ use Rattle.driver_machine.specs.Events.{Part, followed}
 use Rattle.driver_machine.specs.Sound.{Sound}
 use Rattle.driver_laws.proofs.invariant.Leads.{sound_along}
 use Rattle.driver_laws.proofs.invariant.Sound.{sound_after}
-use Rattle.hp_core.specs.Passes.{Site, Acts, Does, stop_in}
-use Rattle.hp_core.specs.Passes.{Stop}
+use Rattle.hp_core.specs.Passes.{Site, Acts, Does, stop_in, Stop}
 use Rattle.hp_core.proofs.Passes.{does_then, stopped_before, nothing_done}
 use Rattle.hp_core.specs.State.{State, site}
 use Rattle.hp_core.specs.Done.{DoesAct, DoesSilently}

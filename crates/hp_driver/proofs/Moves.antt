@@ -12,9 +12,7 @@ use Rattle.driver_machine.specs.Runs.{Run}
 use Rattle.driver_laws.proofs.invariant.Deeds.{deed_at}
 use Rattle.driver_laws.proofs.invariant.Due.{in_hand_one}
 use Rattle.driver_laws.proofs.invariant.Calls.{IsServing, serving}
-use Rattle.driver_laws.specs.shown.QuietPasses.{ReadAll}
-use Rattle.driver_laws.specs.shown.QuietPasses.{IsReadFrom}
-use Rattle.driver_laws.specs.shown.QuietPasses.{AllFlip}
+use Rattle.driver_laws.specs.shown.QuietPasses.{ReadAll, IsReadFrom, AllFlip}
 use Rattle.driver_laws.proofs.shown.QuietPasses.{strikes_flip}
 
 busy_too : (b c : Bool) → b && not c ≡ true → b ≡ true

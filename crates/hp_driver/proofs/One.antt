@@ -1,45 +1,51 @@
--- One deed that is done by a call, under whichever name it is due.
-use Rattle.std.proofs.Common.{◌≡◌, ◌⊎◌, inl, inr, ℕ, ◌+◌, ◌/◌, Bool, true, List, [], ◌∷◌, sym, ap, ◌∙◌, subst, arith, eq-eqb}
-use Rattle.std.specs.Prelude.{Result, Ok, if◌then◌else◌, ◌==◌, ◌≢◌}
+-- One deed, under whichever name it is due.
+use Rattle.std.proofs.Common.{◌≡◌, ◌⊎◌, inl, inr, ℕ, ◌+◌, ◌/◌, Bool, true, false, refl, sym, ap, ◌∙◌, arith, eq-eqb}
+use Rattle.std.specs.Prelude.{not, if◌then◌else◌, ◌==◌, ◌≢◌}
 use Rattle.std.proofs.lemmas.Bool.{ne_eqb}
 use Rattle.pack_geometry.specs.declared.Place.{Place}
+use Rattle.hardware_table.specs.declared.FaultKind.{FaultKind}
+use Rattle.hardware_table.specs.declared.Moved.{Moved}
+use Rattle.hardware_table.specs.declared.Moved.TheVariants as verdict
+use Rattle.hp_interrupts.specs.declared.Sensed.TheVariants as sense
 use Rattle.trace_replay.specs.declared.seek_engine.Position.{Position}
 use Rattle.trace_replay.specs.declared.seek_engine.Position.TheVariants.{Ready, Seek}
 use Rattle.trace_replay.specs.Seek.{position_for}
-use Rattle.transfer_engine.specs.State.{segment_of}
+use Rattle.transfer_engine.specs.State.{segment_of, failures_after}
+use Rattle.transfer_engine.specs.Calls.{step_for}
 use Rattle.hp_core.specs.Asked.{Asked}
 use Rattle.hp_core.specs.Requests.{asked_of}
 use Rattle.trace_replay.specs.declared.requests.answers.AnswerKind.TheVariants.{Error}
 use Rattle.trace_replay.specs.declared.requests.answers.Cause.{Cause}
-use Rattle.driver_machine.specs.World.{World, UnitView, Held, transfer_of}
-use Rattle.driver_machine.specs.Acts.{Of, Deed, Move, Continue, End}
-use Rattle.driver_machine.specs.Due.{failed, sensed, command_of, target_of, start_by, start_of, ready_for, finished, done_with}
-use Rattle.driver_machine.specs.Guards.{Allowed}
-use Rattle.hp_core.specs.Passes.{Stop}
-use Rattle.hp_core.specs.State.{State}
-use Rattle.hp_core.specs.Done.{DoesAct, DoesSilently}
-use Rattle.hp_driver.specs.Done.{DoesActs}
-use Rattle.hp_driver.proofs.Joined.{of_act, of_silent}
+use Rattle.driver_machine.specs.World.{UnitView, Held, transfer_of}
+use Rattle.driver_machine.specs.Acts.{Deed, Move, Continue, Try, End}
+use Rattle.driver_machine.specs.Due.{failed, sensed, command_of, target_of, start_by, start_of, ready_for, finished, done_with, judged, task_for, try_of}
 
--- what is due may come under its other name
-pub became : (w : World) (line u id : ℕ) (d e : Deed) → d ≡ e → Allowed w (Of line u id d) → Allowed w (Of line u id e)
-became w line u id d e same may = subst (λ (x : Deed). Allowed w (Of line u id x)) same may
+-- BY THE DRIVE STATUS: the end of the request, or the command, or PACK in front of it
+pub offline_by : (online locked : Bool) → sense.Offline ≡ (if not online then sense.Offline else if locked then sense.Locked else sense.Go) → (a b c : Deed)
+    → (if not online then a else if locked then b else c) ≡ a
+offline_by false locked is a b c = refl
+offline_by true true is a b c = absurd (cc)
+offline_by true false is a b c = absurd (cc)
 
--- and what is done under the one is done under the other
-pub as_well : {O A : Type 0} (tells : O → Bool) (taken : O → List ℕ) (faults : O → ℕ) (trace trace' : O) (old new : State) (result : Result A Stop) (line u id : ℕ) (d e : Deed) → d ≡ e
-    → DoesActs tells taken faults trace trace' old new result (Of line u id e ∷ []) → DoesActs tells taken faults trace trace' old new result (Of line u id d ∷ [])
-as_well tells taken faults trace trace' old new result line u id d e same is =
-    subst (λ (x : Deed). DoesActs tells taken faults trace trace' old new result (Of line u id x ∷ [])) (sym same) is
+pub locked_by : (online locked : Bool) → sense.Locked ≡ (if not online then sense.Offline else if locked then sense.Locked else sense.Go) → (a b c : Deed)
+    → (if not online then a else if locked then b else c) ≡ b
+locked_by false locked is a b c = absurd (cc)
+locked_by true true is a b c = refl
+locked_by true false is a b c = absurd (cc)
 
-pub told : {O : Type 0} (tells : O → Bool) (taken : O → List ℕ) (faults : O → ℕ) (trace trace' : O) (old new : State) (result : Result (Unit {0}) Stop) (line u id : ℕ) (d e : Deed) → d ≡ e
-    → DoesAct tells taken faults trace trace' old new result (Of line u id e) → DoesActs tells taken faults trace trace' old new result (Of line u id d ∷ [])
-told tells taken faults trace trace' old new result line u id d e same is =
-    as_well tells taken faults trace trace' old new result line u id d e same (of_act tells taken faults trace trace' old new result (Of line u id e) is)
+pub go_by : (online locked : Bool) → sense.Go ≡ (if not online then sense.Offline else if locked then sense.Locked else sense.Go) → (a b c : Deed)
+    → (if not online then a else if locked then b else c) ≡ c
+go_by false locked is a b c = absurd (cc)
+go_by true true is a b c = absurd (cc)
+go_by true false is a b c = refl
 
-pub silent : {O A : Type 0} (tells : O → Bool) (taken : O → List ℕ) (faults : O → ℕ) (trace : O) (old new : State) (x : A) (line u id : ℕ) (d e : Deed) → d ≡ e
-    → DoesSilently old new (Of line u id e) → DoesActs tells taken faults trace trace old new (Ok x) (Of line u id d ∷ [])
-silent tells taken faults trace old new x line u id d e same is =
-    as_well tells taken faults trace trace old new (Ok x) line u id d e same (of_silent tells taken faults trace old new x (Of line u id e) is)
+pub pack_by : (valid needs : Bool) → needs ≡ not valid → needs ≡ true → (a b : Deed) → (if valid then a else b) ≡ b
+pack_by true needs is up a b = absurd (cc)
+pack_by false needs is up a b = refl
+
+pub valid_by : (valid needs : Bool) → needs ≡ not valid → needs ≡ false → (a b : Deed) → (if valid then a else b) ≡ a
+valid_by true needs is down a b = refl
+valid_by false needs is down a b = absurd (cc)
 
 -- an error in front of any sector
 pub none_moved : (why : Cause) (v : UnitView) (done : ℕ) → done ≡ (transfer_of v).done → failed why 0 v ≡ End (Error why done)
@@ -70,6 +76,19 @@ pub command_as : (v : UnitView) (h : Held) (asked : Asked) (e : Deed) → asked 
     → sensed asked.write v (Move asked.write (segment_of (transfer_of v))) ≡ e → command_of v h ≡ e
 command_as v h asked e is same =
     ap (λ (a : Asked). sensed a.write v (Move a.write (segment_of (transfer_of v)))) (sym is) ∙ same
+
+-- A TRY FAILED at this block, where that many have now.
+pub try_as : (last : Moved) (moved : ℕ) (v : UnitView) (h : Held) (block failures : ℕ) → ((kind : FaultKind) × (last ≡ verdict.Faulted kind)) ⊎ (last ≡ verdict.Hard)
+    → block ≡ (segment_of (transfer_of v)).block + moved → failures ≡ failures_after moved (transfer_of v).failures
+    → Try moved block failures (task_for (step_for moved (transfer_of v)) (done_with moved v)) ≡ judged moved last v h
+try_as last moved v h block failures is at number =
+    ap (λ n. Try moved n failures (task_for (step_for moved (transfer_of v)) (done_with moved v))) at
+    ∙ ap (λ n. Try moved ((segment_of (transfer_of v)).block + moved) n (task_for (step_for moved (transfer_of v)) (done_with moved v))) number
+    ∙ sym (judged_so is)
+  where
+    judged_so : ((kind : FaultKind) × (last ≡ verdict.Faulted kind)) ⊎ (last ≡ verdict.Hard) → judged moved last v h ≡ try_of moved (transfer_of v)
+    judged_so (inl faulted) = ap (λ (m : Moved). judged moved m v h) faulted.1
+    judged_so (inr hard) = ap (λ (m : Moved). judged moved m v h) hard
 
 -- A SEGMENT THAT MOVED CLEAN: all blocks are done, or not
 module _ (moved done : ℕ) (v : UnitView) (h : Held) (asked : Asked) (is : asked ≡ asked_of h) (are : done ≡ done_with moved v) where

@@ -1,14 +1,14 @@
 -- The deed that is due at a unit is done, and what holds then.
-use Rattle.std.proofs.Common.{◌≡◌, ℕ, ◌<◌, Bool, List, [], ◌∷◌, length, Some, sym, ap, subst}
+use Rattle.std.proofs.Common.{◌≡◌, ℕ, ◌<◌, Bool, List, [], ◌∷◌, length, Option, Some, None, sym, ap, subst}
 use Rattle.std.specs.Prelude.{Result, Ok, Err, IfOk}
 use Rattle.hp_core.specs.Asked.{Asked}
 use Rattle.hp_core.specs.Requests.{asked_of}
-use Rattle.driver_machine.specs.declared.Task.{Task}
-use Rattle.driver_machine.specs.declared.Phase.{Phase}
-use Rattle.driver_machine.specs.declared.Phase.TheVariants.{Waiting, Due}
-use Rattle.driver_machine.specs.World.{World, unit_at}
+use Rattle.hp_core.specs.Deeds.{deed_in}
+use Rattle.hp_core.specs.declared.deed.Deed.{Deed as Named}
+use Rattle.hardware_table.specs.Adapter.{AdapterState}
+use Rattle.driver_machine.specs.World.{World, UnitView, Held, unit_at, adapter_at, adapter_of}
 use Rattle.driver_machine.specs.Acts.{Act, Of, Deed, after}
-use Rattle.driver_machine.specs.Due.{next_of, next_by, start_of, deed_for}
+use Rattle.driver_machine.specs.Due.{next_of}
 use Rattle.driver_machine.specs.Events.{next_acts}
 use Rattle.driver_machine.specs.Guards.{Allowed}
 use Rattle.driver_machine.specs.Sound.{Sound}
@@ -18,7 +18,7 @@ use Rattle.hp_driver.specs.Done.{DoesActs}
 use Rattle.hp_driver.specs.Free.{IsFree}
 use Rattle.hp_driver.specs.Hand.{hand_at}
 use Rattle.hp_driver.proofs.Joined.{said, failed, all_done}
-use Rattle.hp_driver.proofs.Next.{may_next, next_are, next_free, some_acts}
+use Rattle.hp_driver.proofs.Next.{may_next, next_are, next_free, none_next, some_acts}
 
 -- a deed is due for the request in hand, and its adapter is free where it has to be
 pub record IsDueHere (w : World) (u id : ℕ) (d : Deed) : Type 0 where
@@ -29,28 +29,22 @@ pub record IsDueHere (w : World) (u id : ℕ) (d : Deed) : Type 0 where
   pub named : id ≡ (hand_at w u).id
   pub next : next_of (unit_at w u) (hand_at w u) ≡ Some d
 
--- a start, or a task
-pub start_here : (w : World) (u : ℕ) (asked : Asked) → Sound w → u < 32 → IsFree w u → 0 < length (unit_at w u).queue → asked ≡ asked_of (hand_at w u)
-    → Waiting ≡ (unit_at w u).phase → IsDueHere w u asked.id (start_of (unit_at w u) (hand_at w u))
-start_here w u asked sound lt free some is phase = record {
+pub due_here : (w : World) (u : ℕ) (asked : Asked) (deed : Named) (v : UnitView) → Sound w → u < 32 → IsFree w u → 0 < length (unit_at w u).queue
+    → asked ≡ asked_of (hand_at w u) → v ≡ unit_at w u → ((h : Held) (a : AdapterState) → asked ≡ asked_of h → Some (deed_in deed v h a) ≡ next_of v h)
+    → IsDueHere w u asked.id (deed_in deed (unit_at w u) (hand_at w u) (adapter_at w (adapter_of u)).state)
+due_here w u asked deed v sound lt free some is here due = record {
   sound = sound;
   unit = lt;
   free = free;
   some = some;
   named = ap (λ (a : Asked). a.id) is;
-  next = ap (λ (p : Phase). next_by p (unit_at w u) (hand_at w u)) (sym phase);
+  next = sym (subst (λ (x : UnitView). Some (deed_in deed x (hand_at w u) (adapter_at w (adapter_of u)).state) ≡ next_of x (hand_at w u)) here (due (hand_at w u) (adapter_at w (adapter_of u)).state is));
 }
 
-pub task_here : (w : World) (u : ℕ) (asked : Asked) (task : Task) → Sound w → u < 32 → IsFree w u → 0 < length (unit_at w u).queue
-    → asked ≡ asked_of (hand_at w u) → Due task ≡ (unit_at w u).phase → IsDueHere w u asked.id (deed_for task (unit_at w u) (hand_at w u))
-task_here w u asked task sound lt free some is phase = record {
-  sound = sound;
-  unit = lt;
-  free = free;
-  some = some;
-  named = ap (λ (a : Asked). a.id) is;
-  next = ap (λ (p : Phase). next_by p (unit_at w u) (hand_at w u)) (sym phase);
-}
+pub none_here : (w : World) (line u : ℕ) (asked : Asked) (v : UnitView) → asked ≡ asked_of (hand_at w u) → v ≡ unit_at w u
+    → ((h : Held) (a : AdapterState) → asked ≡ asked_of h → ◌≡◌ {A = Option Deed} None (next_of v h)) → next_acts line u w ≡ []
+none_here w line u asked v is here due =
+    none_next w line u (sym (subst (λ (x : UnitView). ◌≡◌ {A = Option Deed} None (next_of x (hand_at w u))) here (due (hand_at w u) (adapter_at w (adapter_of u)).state is)))
 
 pub may_here : (w : World) (line u id : ℕ) (d : Deed) → IsDueHere w u id d → Allowed w (Of line u id d)
 may_here w line u id d is = may_next w line u id d is.named is.some is.sound is.unit is.free is.next

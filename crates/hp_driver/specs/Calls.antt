@@ -13,12 +13,9 @@ use Rattle.driver_machine.specs.Guards.{IsSetUp, IsFresh}
 use Rattle.driver_machine.specs.Sound.{Sound, AtWork}
 use Rattle.driver_laws.specs.declared.answers.outcome.Stop.{Stop}
 use Rattle.driver_laws.specs.declared.answers.outcome.Stop.TheVariants.{Sink}
-use Rattle.driver_laws.specs.shown.QuietPasses.{stop_in}
+use Rattle.driver_laws.specs.shown.QuietPasses.{stop_in, in_use, AllFlip}
 use Rattle.hp_driver.specs.Asked.{Asked}
-use Rattle.driver_laws.specs.shown.QuietPasses.{in_use}
-use Rattle.driver_laws.specs.shown.QuietPasses.{AllFlip}
-use Rattle.hp_driver.specs.Passes.{State}
-use Rattle.hp_driver.specs.Passes.{HasCauses}
+use Rattle.hp_driver.specs.Passes.{State, HasCauses}
 use Rattle.trace_replay.specs.declared.requests.request.Request.{Request}
 use Rattle.hp_driver.specs.Subsystem.{asked, is_move, Submits, Comes}
 use Rattle.hp_driver.specs.Bytes.{KeepsMaps, KeepsMapsIn}

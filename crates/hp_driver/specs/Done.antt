@@ -3,9 +3,7 @@ use Rattle.std.specs.Prelude.{◌≡◌, ℕ, Bool, IsTrue, List, Result, IfErr}
 use Rattle.pack_geometry.specs.Pack.{Pack}
 use Rattle.outside_traits.specs.Causes.{HasCause}
 use Rattle.driver_machine.specs.Acts.{Act}
-use Rattle.hp_core.specs.Passes.{Outcome, stop_in}
-use Rattle.hp_core.specs.Passes.{Stop}
-use Rattle.hp_core.specs.Passes.{Sink}
+use Rattle.hp_core.specs.Passes.{Outcome, stop_in, Stop, Sink}
 use Rattle.hp_core.specs.State.{State, site}
 
 -- ACTS AND THEIR LINES, whatever the packs hold: the call comes to what the acts come to. A failure has its cause, and is the

@@ -5,8 +5,6 @@ pub mod Passes
 pub mod Done
 pub mod Free
 pub mod Hand
-pub mod Before
-pub mod Commands
 pub mod Submissions
 pub mod Inputs
 pub use Rattle.hp_core.specs.Setups

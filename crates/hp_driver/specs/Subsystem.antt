@@ -20,12 +20,7 @@ use Rattle.driver_machine.specs.Runs.{MaySubmit, MayCome}
 pub use Rattle.driver_machine.specs.Writes.{is_move, writes_by, writes_next}
 use Rattle.driver_laws.specs.declared.answers.outcome.Stop.{Stop}
 use Rattle.driver_laws.specs.declared.answers.outcome.Stop.TheVariants.{Store, Sink}
-use Rattle.driver_laws.specs.shown.QuietPasses.{Site, Outcome, StopsBefore}
-use Rattle.driver_laws.specs.shown.QuietPasses.{in_use}
-use Rattle.driver_laws.specs.shown.QuietPasses.{IsReadOf}
-use Rattle.driver_laws.specs.shown.QuietPasses.{AllFlip}
-use Rattle.driver_laws.specs.shown.QuietPasses.{IsDraining}
-use Rattle.driver_laws.specs.shown.QuietPasses.{CanStart, AreAsked, Falls}
+use Rattle.driver_laws.specs.shown.QuietPasses.{Site, Outcome, StopsBefore, in_use, IsReadOf, AllFlip, IsDraining, CanStart, AreAsked, Falls}
 use Rattle.trace_replay.specs.declared.requests.request.Request.{Request}
 
 -- its world, how many requests may be outstanding at once, whether one of its calls has failed, and the text of the trace that it keeps

@@ -5,11 +5,10 @@ ghost use Rattle.driver_machine.specs.Events.{refusal_of};
 ghost use Rattle.hp_driver.specs.Subsystem.{asked};
 ghost use Rattle.hp_driver.specs.Calls.{Stands, MayAsk, IsAdmitted, asked_at, Asks};
 
-use crate::request::frames_for;
 use crate::submission;
 use driver_laws::answers::outcome::Stop;
 use driver_machine::{AnswerKind, Cause};
-use hp_core::{Asked, Core};
+use hp_core::{Asked, Core, frames_for};
 use main_memory::FRAMES;
 use outside_traits::traits::Sink;
 use partitions::{Admission, admit};
@@ -35,7 +34,8 @@ fn admitted(core: &Core, request: Request) -> Result<u32, AnswerKind>
         }),
         Admission::Eof => Err(AnswerKind::Eof),
         Admission::Inside { first } => {
-            if core.frames() + frames_for(request) > FRAMES {
+            let frames = frames_for(request.count, request.offset, request.last);
+            if core.frames() + frames > FRAMES {
                 Err(AnswerKind::Error {
                     cause: Cause::Frames,
                     done: 0,

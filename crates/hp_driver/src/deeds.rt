@@ -1,61 +1,50 @@
 // The deed that is due at a unit.
-ghost use Rattle.std.specs.Prelude.{◌≡◌, ◌≢◌, ◌<◌, ◌∷◌, [], true, false, drop, length, None, IfOk, IfSome, IfNone};
+ghost use Rattle.std.specs.Prelude.{◌≡◌, ◌≢◌, ◌<◌, ◌∷◌, [], true, false, drop, IfOk};
+ghost use Rattle.std.specs.Option.{option_map};
+ghost use Rattle.hardware_table.specs.Adapter.{AdapterState};
+ghost use Rattle.hp_core.specs.declared.deed.Deed.{Deed};
+ghost use Rattle.hp_core.specs.Deeds.{deed_in};
 ghost use Rattle.hp_core.specs.Requests.{asked_of};
 ghost use Rattle.driver_machine.specs.declared.Phase.TheVariants.{Queued, Due};
-ghost use Rattle.driver_machine.specs.World.{UnitView, Held, unit_at, adapter_at, adapter_of};
-ghost use Rattle.driver_machine.specs.Acts.{Of};
-ghost use Rattle.driver_machine.specs.Due.{next_by, deed_for, command_of};
+ghost use Rattle.driver_machine.specs.World.{Held, unit_at, adapter_at, adapter_of};
+ghost use Rattle.driver_machine.specs.Due.{next_of, deed_for, command_of};
 ghost use Rattle.driver_machine.specs.Events.{in_hand, next_acts};
-ghost use Rattle.driver_machine.specs.Guards.{Allowed};
 ghost use Rattle.driver_machine.specs.Sound.{Sound};
 ghost use Rattle.hp_driver.specs.Done.{DoesActs};
 ghost use Rattle.hp_driver.specs.Free.{IsFree};
-ghost use Rattle.hp_driver.specs.Hand.{hand_at};
+ghost use Rattle.hp_driver.specs.Hand.{IsAskedAt, hand_at};
 
 use crate::hand::asked_in_hand;
-use crate::starts::{command, go_steps, start};
+use crate::starts::{command, failed, next_step, start};
 use crate::verdicts::judge;
-use driver_machine::{AnswerKind, Cause, Phase, Task};
-use hp_core::{Asked, Core, Stop};
+use driver_machine::{Cause, Phase, Task};
+use hp_core::{Asked, Core, Deed, DiskUnit, Stop};
 use outside_traits::traits::Sink;
 
-/// Whether a unit that is here with the head of its queue waits for an event, so that nothing is due at it.
-fn is_between(phase: Phase) -> bool
-    ensures { result ≡ true → (v : UnitView) → (h : Held) → next_by phase v h ≡ None }
+/// The deed of a task that is due.
+fn task_deed(unit: &DiskUnit, asked: Asked, task: Task) -> Deed
+    requires hand { IsAskedAt unit.now asked }
+    requires phase { unit.now.phase ≡ Due task }
+    ensures { (h : Held) → (a : AdapterState) → asked ≡ asked_of h → deed_in result unit.now h a ≡ deed_for task unit.now h }
 {
-    match phase {
-        Phase::Waiting | Phase::Due { .. } => false,
-        Phase::Positioning { .. } | Phase::Queued | Phase::Transferring => true,
+    match task {
+        Task::Clear { moved, verdict } => Deed::Clear { moved, verdict },
+        Task::Judge { moved, verdict } => judge(unit, asked, moved, verdict),
+        Task::Steps { taken } => next_step(unit, asked, taken),
+        Task::Command => command(unit, asked),
+        Task::GiveUp { done } => failed(Cause::Fault { attempts: 28 }, done),
     }
 }
 
-/// Does the task that is due.
-fn work<T: Sink>(
-    core: &mut Core,
-    line: u64,
-    u: u8,
-    asked: Asked,
-    task: Task,
-    trace: &mut T,
-) -> Result<(), Stop>
-    requires sound { Sound core.old.world }
-    requires asked { asked ≡ asked_of (hand_at core.old.world u) }
-    requires phase { (unit_at core.old.world u).phase ≡ Due task }
-    requires may { Allowed core.old.world (Of line u asked.id (deed_for task (unit_at core.old.world u) (hand_at core.old.world u))) }
-    ensures { DoesActs T.tells T.taken T.faults trace.old trace.new core.old core.new result (Of line u asked.id (deed_for task (unit_at core.old.world u) (hand_at core.old.world u)) ∷ []) }
+/// The deed that is due at a unit for the request in hand. None if the unit waits for an event.
+fn due_deed(unit: &DiskUnit, asked: Asked) -> Option<Deed>
+    requires hand { IsAskedAt unit.now asked }
+    ensures { (h : Held) → (a : AdapterState) → asked ≡ asked_of h → option_map (λ (d : Deed). deed_in d unit.now h a) result ≡ next_of unit.now h }
 {
-    match task {
-        Task::Clear { moved, verdict } => core.clear(line, u, asked.id, moved, verdict, trace),
-        Task::Judge { moved, verdict } => judge(core, line, u, asked, moved, verdict, trace),
-        Task::Steps { taken } => go_steps(core, line, u, asked, taken, trace),
-        Task::Command => command(core, line, u, asked, trace),
-        Task::GiveUp { done } => {
-            let kind = AnswerKind::Error {
-                cause: Cause::Fault { attempts: 28 },
-                done,
-            };
-            core.end(line, u, asked.id, kind, trace)
-        }
+    match unit.phase() {
+        Phase::Waiting => Some(start(unit, asked)),
+        Phase::Due { task } => Some(task_deed(unit, asked, task)),
+        Phase::Positioning { .. } | Phase::Queued | Phase::Transferring => None,
     }
 }
 
@@ -76,24 +65,14 @@ pub(crate) fn next_deed<T: Sink>(
     ensures sound { IfOk result (λ more. Sound core.new.world) }
     ensures free { IfOk result (λ more. IsFree core.new.world u) }
 {
-    let phase = core.unit(u).phase();
-    if is_between(phase) {
-        return Ok(false);
-    }
     let Some(asked) = asked_in_hand(core, u) else {
         return Ok(false);
     };
-    match phase {
-        Phase::Waiting => {
-            start(core, line, u, asked, trace)?;
-            Ok(true)
-        }
-        Phase::Due { task } => {
-            work(core, line, u, asked, task, trace)?;
-            Ok(true)
-        }
-        Phase::Positioning { .. } | Phase::Queued | Phase::Transferring => Ok(false),
-    }
+    let Some(deed) = due_deed(core.unit(u), asked) else {
+        return Ok(false);
+    };
+    core.act(line, u, asked.id, deed, trace)?;
+    Ok(true)
 }
 
 /// Gives the first unit in the queue of its adapter, which is free, what is due for its transfer command: PACK, after which the command
@@ -110,7 +89,10 @@ pub(crate) fn choose<T: Sink>(core: &mut Core, line: u64, u: u8, trace: &mut T) 
     ensures free { IfOk result (λ _. IsFree core.new.world u) }
 {
     match asked_in_hand(core, u) {
-        Some(asked) => command(core, line, u, asked, trace),
+        Some(asked) => {
+            let deed = command(core.unit(u), asked);
+            core.act(line, u, asked.id, deed, trace)
+        }
         None => unreachable!(),
     }
 }

@@ -10,7 +10,7 @@ ghost use Rattle.driver_machine.specs.Writes.{writes_next};
 use crate::hand::{asked_in_hand, id_in_hand};
 use crate::turns::{due, start_adapter};
 use driver_machine::Phase;
-use hp_core::{Core, Stop};
+use hp_core::{Core, Deed, Stop};
 use outside_traits::traits::Sink;
 
 /// Ends the positioning of a unit's drive, if the drive is positioning. Stops if the trace fails.
@@ -25,7 +25,7 @@ pub fn arrive<T: Sink>(core: &mut Core, line: u64, u: u8, trace: &mut T) -> Resu
     let Some(asked) = asked_in_hand(core, u) else {
         return Ok(());
     };
-    core.arrive(line, u, asked.id, trace)
+    core.act(line, u, asked.id, Deed::Arrive, trace)
 }
 
 /// Whether the next sector that an adapter moves may be written.
@@ -57,7 +57,7 @@ fn data_interrupt<T: Sink>(core: &mut Core, line: u64, a: u8, trace: &mut T) -> 
     }
     let u = core.transferring(a);
     let id = id_in_hand(core, u);
-    core.interrupt(line, u, id, trace)?;
+    core.act(line, u, id, Deed::Interrupt, trace)?;
     due(core, line, u, trace)
 }
 
@@ -91,7 +91,7 @@ fn attention<T: Sink>(
     }
     let taken = steps_taken(unit.phase());
     let id = id_in_hand(core, u);
-    core.attend(line, u, id, taken, trace)?;
+    core.act(line, u, id, Deed::Attend { taken }, trace)?;
     due(core, line, u, trace)
 }
 

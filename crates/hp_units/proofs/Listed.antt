@@ -1,7 +1,7 @@
 -- A transfer is at a replacement exactly where its segment begins at or above the data limit.
 use Rattle.std.proofs.Common.{◌≡◌, refl, ap, ℕ, ◌+◌, ◌<◌, ◌≤◌, Option, Some, None, arith}
 use Rattle.pack_geometry.specs.declared.DriveKind.{DriveKind}
-use Rattle.pack_geometry.specs.declared.DriveKind.TheVariants.{Rp06, Rm03, Rm05}
+use Rattle.pack_geometry.specs.declared.DriveKind.TheVariants.{Rp06}
 use Rattle.pack_geometry.specs.Geometry.{limit_of, replacement_at, place_at}
 use Rattle.pack_geometry.specs.Homes.{index_in}
 use Rattle.pack_geometry.specs.TableSpelling.{Table}

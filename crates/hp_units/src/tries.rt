@@ -15,31 +15,7 @@ use drive_registers::OffsetCode;
 use driver_machine::{RetryStep, Task};
 use pack_geometry::{DriveKind, data_limit, place_of};
 use trace_replay::retry_offsets::{Step, next_step};
-use transfer_engine::{Next, Segment, Transfer};
-
-/// What the next transfer command moves. Without a transfer it moves nothing.
-pub(crate) fn segment_in(transfer: &Option<Transfer>) -> Segment
-    ensures { result ≡ segment_of (unwrap_or (option_map state_of transfer.now) no_transfer) }
-{
-    match transfer {
-        Some(transfer) => transfer.segment(),
-        None => Segment {
-            block: 0,
-            skip: 0,
-            count: 0,
-        },
-    }
-}
-
-/// How many blocks are done, from the first one on. Without a transfer none is done.
-pub(crate) fn done_in(transfer: &Option<Transfer>) -> u32
-    ensures { result ≡ (unwrap_or (option_map state_of transfer.now) no_transfer).done }
-{
-    match transfer {
-        Some(transfer) => transfer.done(),
-        None => 0,
-    }
-}
+use transfer_engine::{Next, Transfer};
 
 /// What follows the failures at the sector at hand. If there was none, the transfer comes at once.
 fn step_behind(failures: u32, reads: bool) -> Step
@@ -124,26 +100,13 @@ fn cylinder_of(transfer: &Transfer, kind: DriveKind) -> u32
 }
 
 /// The entry whose replacement takes the place of the sector behind `moved` others. None if the sector is itself a
-/// replacement, or if its place is not listed.
-pub(crate) fn listed_in(
-    transfer: &Option<Transfer>,
+/// replacement, as those lie at or above the data limit, or if its place is not listed.
+pub(crate) fn listed(
+    transfer: &Transfer,
     table: &Option<BadTable>,
     kind: DriveKind,
     moved: u32,
 ) -> Option<u8>
-    requires begun { option_map state_of transfer.now ≡ Some (unwrap_or (option_map state_of transfer.now) no_transfer) }
-    requires kind { (unwrap_or (option_map state_of transfer.now) no_transfer).job.kind ≡ kind }
-    requires moved { moved < (segment_of (unwrap_or (option_map state_of transfer.now) no_transfer)).count }
-    ensures { result ≡ entry_for moved table.now (unwrap_or (option_map state_of transfer.now) no_transfer) }
-{
-    match transfer {
-        Some(transfer) => listed(transfer, table, kind, moved),
-        None => unreachable!(),
-    }
-}
-
-/// The same for a transfer. A replacement lies at or above the data limit.
-fn listed(transfer: &Transfer, table: &Option<BadTable>, kind: DriveKind, moved: u32) -> Option<u8>
     requires kind { (state_of transfer.now).job.kind ≡ kind }
     requires moved { moved < (segment_of (state_of transfer.now)).count }
     ensures { result ≡ entry_for moved table.now (state_of transfer.now) }
@@ -206,14 +169,17 @@ pub(crate) fn continued(transfer: Transfer, moved: u32) -> Transfer
     }
 }
 
-/// How many tries failed at the sector behind `moved` others, counting one more failure.
-pub(crate) fn failures_at(transfer: &Transfer, moved: u32) -> u32
-    ensures { result ≡ failures_after moved (state_of transfer.now).failures }
+/// The block of the sector behind `moved` others, and how many tries at it failed, counting one more failure.
+pub(crate) fn failing(transfer: &Transfer, moved: u32) -> (u32, u32)
+    requires moved { moved < (segment_of (state_of transfer.now)).count }
+    ensures block { result.0 ≡ (segment_of (state_of transfer.now)).block + moved }
+    ensures failures { result.1 ≡ failures_after moved (state_of transfer.now).failures }
 {
+    let block = transfer.segment().block + moved;
     if moved == 0 {
-        transfer.failures() + 1
+        (block, transfer.failures() + 1)
     } else {
-        1
+        (block, 1)
     }
 }
 

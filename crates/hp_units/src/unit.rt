@@ -7,7 +7,7 @@ ghost use Rattle.hardware_table.specs.Drive.{DriveState, is_positioning, status}
 ghost use Rattle.hardware_table.specs.Events.{turned, online_set, locked_set, fault_armed, times_armed};
 ghost use Rattle.hp_interrupts.specs.Verdicts.{IsLeftBy, AreLeft, registers_of, cause_of};
 ghost use Rattle.trace_replay.specs.Seek.{position_for};
-ghost use Rattle.transfer_engine.specs.State.{segment_of};
+ghost use Rattle.transfer_engine.specs.State.{segment_of, failures_after};
 ghost use Rattle.transfer_engine.specs.Calls.{entry_for};
 ghost use Rattle.trace_replay.specs.Drives.{attached};
 ghost use Rattle.driver_machine.specs.World.{no_unit, new_unit, transfer_of, slot_in_hand};
@@ -16,7 +16,7 @@ ghost use Rattle.driver_machine.specs.Due.{steps_of};
 
 mod deeds;
 
-use crate::tries::{done_in, listed_in, segment_in, step_in};
+use crate::tries::{failing, listed, step_in};
 use bad144_table::BadTable;
 use bitflags::Flags;
 use disksort::SortQueue;
@@ -113,13 +113,6 @@ impl DiskUnit {
             drive: attached_drive(kind, unit),
             table,
         })
-    }
-
-    /// Whether the unit is set up.
-    pub fn is_declared(&self) -> bool
-        ensures { result ≡ self.now.declared }
-    {
-        self.declared
     }
 
     /// The slot of the request in hand. None if the queue is empty.
@@ -233,14 +226,24 @@ impl DiskUnit {
     pub fn segment(&self) -> Segment
         ensures { result ≡ segment_of (transfer_of self.now) }
     {
-        segment_in(&self.transfer)
+        match &self.transfer {
+            Some(transfer) => transfer.segment(),
+            None => Segment {
+                block: 0,
+                skip: 0,
+                count: 0,
+            },
+        }
     }
 
     /// How many blocks of the request in hand are done, from the first one on.
     pub fn done(&self) -> u32
         ensures { result ≡ (transfer_of self.now).done }
     {
-        done_in(&self.transfer)
+        match &self.transfer {
+            Some(transfer) => transfer.done(),
+            None => 0,
+        }
     }
 
     /// The next step of a retry, after `taken` steps. None if all steps are taken.
@@ -261,7 +264,24 @@ impl DiskUnit {
         requires moved { moved < (segment_of (transfer_of self.now)).count }
         ensures { result ≡ entry_for moved self.now.table (transfer_of self.now) }
     {
-        listed_in(&self.transfer, &self.table, self.kind(), moved)
+        match &self.transfer {
+            Some(transfer) => listed(transfer, &self.table, self.kind(), moved),
+            None => unreachable!(),
+        }
+    }
+
+    /// What a failed try at the sector behind `moved` others is told with: the block of that sector, and how many tries at it
+    /// have failed then.
+    pub fn failing(&self, moved: u32) -> (u32, u32)
+        requires begun { self.now.transfer ≡ Some (transfer_of self.now) }
+        requires moved { moved < (segment_of (transfer_of self.now)).count }
+        ensures block { result.0 ≡ (segment_of (transfer_of self.now)).block + moved }
+        ensures failures { result.1 ≡ failures_after moved (transfer_of self.now).failures }
+    {
+        match &self.transfer {
+            Some(transfer) => failing(transfer, moved),
+            None => unreachable!(),
+        }
     }
 
     /// Turns the pack until a sector comes under the heads.

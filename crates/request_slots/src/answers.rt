@@ -40,10 +40,7 @@ impl Answers {
         ensures some { IfSome result (λ made. self.now.made ≡ made ∷ drop 1 self.now.made) }
         ensures none { IfNone result (self.now.made ≡ []) }
     {
-        match self.waiting.front() {
-            Some(made) => Some(*made),
-            None => None,
-        }
+        self.waiting.front().copied()
     }
 
     /// Puts an answer behind those that wait.

@@ -1,16 +1,11 @@
 //! What waits in the driver: the slots of the outstanding requests, each with its buffer in main memory. This crate knows
 //! of frames, and no crate above does: there a request is seen with the blocks that its buffer holds.
 //!
-//! What is proved: `Slots` has the outstanding requests by slot, and contracts see each with the blocks that its buffer
-//! holds, of which the last one may be short. `join` takes a free slot, lends the frames and puts the blocks of a write
-//! there; `load` hands an adapter a part of the buffer; `step`, `complete`, `repair`, `end` and `leave` change that slot
-//! only; `block` reads a block of it, and `fill` gives a byte only if all bytes of the block are that byte. It is a law
-//! that no two requests share a frame. It is not proved that a free slot is found at once, however many requests are
-//! outstanding, or that a slot that was never taken is never touched.
-//!
-//! `Channel` is the state of an adapter with a queue of the units that wait for it, and `Answers` has the answers that
-//! wait to be taken: each method is the machine's function on what it holds (`self.new` is f of `self.old`). No call
-//! allocates except those that make a queue.
+//! What is proved: contracts see each request in `Slots` with the blocks that its buffer holds, of which the last one may be short, and
+//! each call changes the slot that it names only. It is a law that no two requests share a frame. Each method of `Channel` and of
+//! `Answers` is the machine's function on what it holds (`self.new` is f of `self.old`). No call allocates except those that make a
+//! queue. It is not proved that a free slot is found at once, however many requests are outstanding, or that a slot that was never taken
+//! is never touched.
 #![tactic(auto)]
 
 mod answers;

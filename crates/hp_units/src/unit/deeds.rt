@@ -8,7 +8,7 @@ ghost use Rattle.hardware_table.specs.Events.{arrived, attention_cleared};
 ghost use Rattle.hardware_table.specs.declared.Moved.{Moved};
 ghost use Rattle.hardware_table.specs.declared.Moved.TheVariants as verdict;
 ghost use Rattle.hp_interrupts.specs.Verdicts.{cause_of};
-ghost use Rattle.transfer_engine.specs.State.{IsJob, begun, segment_of, moved_on, forwarded, failures_after};
+ghost use Rattle.transfer_engine.specs.State.{IsJob, begun, segment_of, moved_on, forwarded};
 ghost use Rattle.transfer_engine.specs.Calls.{entry_for, step_for};
 ghost use Rattle.trace_replay.specs.Drives.{addressed};
 ghost use Rattle.driver_machine.specs.declared.Task.TheVariants as task;
@@ -19,7 +19,7 @@ ghost use Rattle.driver_machine.specs.Acts.{joined, searching, stepping, transfe
 ghost use Rattle.driver_machine.specs.Due.{task_for};
 
 use super::DiskUnit;
-use crate::tries::{continued, failures_at, forwarded_to, tried};
+use crate::tries::{continued, forwarded_to, tried};
 use bitflags::Flags;
 use drive_model::Drive;
 use drive_registers::{Function, Of, offset_word};
@@ -249,25 +249,19 @@ impl DiskUnit {
         };
     }
 
-    /// The try at the sector behind `moved` others failed. Gives the block of that sector, how many tries at it have
-    /// failed, and what comes next. After the last try the unit has no transfer.
-    pub fn retry(&mut self, moved: u32) -> (u32, u32, Task)
+    /// The try at the sector behind `moved` others failed. After the last try the unit has no transfer.
+    pub fn retry(&mut self, moved: u32)
         requires begun { self.old.transfer ≡ Some (transfer_of self.old) }
         requires moved { moved < (segment_of (transfer_of self.old)).count }
-        ensures block { result.0 ≡ (segment_of (transfer_of self.old)).block + moved }
-        ensures number { result.1 ≡ failures_after moved (transfer_of self.old).failures }
-        ensures next { result.2 ≡ task_for (step_for moved (transfer_of self.old)) ((transfer_of self.old).done + moved) }
-        ensures unit { self.new ≡ with_transfer (transfer_tried result.2 moved (transfer_of self.old)) result.2 self.old }
+        ensures { let next = task_for (step_for moved (transfer_of self.old)) ((transfer_of self.old).done + moved) in
+            self.new ≡ with_transfer (transfer_tried next moved (transfer_of self.old)) next self.old }
     {
         let Some(transfer) = self.transfer.take() else {
             unreachable!();
         };
-        let block = transfer.segment().block + moved;
-        let number = failures_at(&transfer, moved);
         let (transfer, task) = tried(transfer, moved);
         self.transfer = transfer;
         self.phase = Phase::Due { task };
-        (block, number, task)
     }
 
     /// Ends the request in hand: it leaves the queue, and its transfer is dropped.

@@ -15,4 +15,4 @@ pub returns : goal.returns
 returns g c =
     as_acts _ _ _ _ _ _ _ _ _ _
     (arrives _ c.args.line c.args.u _ (sym (c.if-not-is_positioning.ensures ∙ ap (λ (v : UnitView). can_arrive v) c.unit.ensures)) c.in-Some.ensures.some (ap (λ (asked : Asked). asked.id) c.in-Some.ensures.asked))
-    (of_act _ _ _ _ _ _ _ _ _ c.arrive.ensures)
+    (of_act _ _ _ _ _ _ _ _ _ c.act.ensures)

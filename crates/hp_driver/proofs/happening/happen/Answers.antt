@@ -1,5 +1,4 @@
-use Rattle.std.proofs.Common.{refl}
-use Rattle.std.proofs.Common.{subst}
+use Rattle.std.proofs.Common.{refl, subst}
 use Rattle.trace_replay.specs.Script as script
 use Rattle.hp_driver.specs.declared.drain.Event.{Event}
 use Rattle.hp_driver.specs.Inputs.{input_of}

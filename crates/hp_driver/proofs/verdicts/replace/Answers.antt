@@ -1,33 +1,24 @@
 use Rattle.std.proofs.Common.{ℕ, sym, ap, ◌∙◌}
 use Rattle.std.specs.Prelude.{Option}
 use Rattle.trace_replay.specs.declared.requests.answers.Cause.TheVariants.{Unforwarded}
-use Rattle.transfer_engine.specs.Calls.{entry_for}
-use Rattle.driver_machine.specs.World.{UnitView, unit_at, transfer_of}
+use Rattle.transfer_engine.specs.declared.job.Job.{Job}
 use Rattle.driver_machine.specs.Due.{forward_by}
-use Rattle.hp_driver.proofs.One.{became, told, silent, some_moved}
+use Rattle.hp_core.specs.declared.deed.Deed.{Deed}
+use Rattle.hp_core.specs.Deeds.{deed_in}
+use Rattle.hp_driver.proofs.Facts.{judged_in}
+use Rattle.hp_driver.proofs.One.{some_moved}
 use Rattle.hp_driver.proofs.verdicts.replace.Goals as goal
 
+pub entry-requires : goal.entry-requires
+entry-requires c =
+    let is = judged_in _ _ _ _ c.requires.hand c.requires.phase in
+    record { begun = is.0.some; kind = ap (λ (j : Job). j.kind) is.0.job; moved = is.2 }
+
 pub returns-in-Some : goal.returns-in-Some
-returns-in-Some g c =
-    silent _ _ _ _ _ _ _ _ _ _ _ _
-    (ap (λ (o : Option ℕ). forward_by o c.args.moved (unit_at c.args.core.now.world c.args.u)) (sym (c.in-Some.ensures ∙ ap (λ (v : UnitView). entry_for c.args.moved v.table (transfer_of v)) c.unit.ensures)))
-    c.forward.ensures
+returns-in-Some c = λ h a. ap (λ (o : Option ℕ). forward_by o c.args.moved c.args.unit.now) c.in-Some.ensures
 
 pub returns-in-None : goal.returns-in-None
-returns-in-None g c =
-    told _ _ _ _ _ _ _ _ _ _ _ _ _
-    (ap (λ (o : Option ℕ). forward_by o c.args.moved (unit_at c.args.core.now.world c.args.u)) (sym (c.in-None.ensures ∙ ap (λ (v : UnitView). entry_for c.args.moved v.table (transfer_of v)) c.unit.ensures))
-    ∙ some_moved Unforwarded c.args.moved (unit_at c.args.core.now.world c.args.u) _ c.requires.done)
-    c.end.ensures
-
-pub forward-requires : goal.forward-requires
-forward-requires g c = record {
-  sound = c.requires.sound;
-  may = became c.args.core.now.world c.args.line c.args.u c.args.id _ _ (ap (λ (o : Option ℕ). forward_by o c.args.moved (unit_at c.args.core.now.world c.args.u)) (sym (c.in-Some.ensures ∙ ap (λ (v : UnitView). entry_for c.args.moved v.table (transfer_of v)) c.unit.ensures))) c.requires.may;
-}
-
-pub end-requires : goal.end-requires
-end-requires g c = record {
-  sound = c.requires.sound;
-  may = became c.args.core.now.world c.args.line c.args.u c.args.id _ _ (ap (λ (o : Option ℕ). forward_by o c.args.moved (unit_at c.args.core.now.world c.args.u)) (sym (c.in-None.ensures ∙ ap (λ (v : UnitView). entry_for c.args.moved v.table (transfer_of v)) c.unit.ensures)) ∙ some_moved Unforwarded c.args.moved (unit_at c.args.core.now.world c.args.u) c.args.done c.requires.done) c.requires.may;
-}
+returns-in-None c = λ h a.
+    ap (λ (d : Deed). deed_in d c.args.unit.now h a) c.failed.ensures
+    ∙ sym (some_moved Unforwarded c.args.moved c.args.unit.now c.args.done c.requires.done)
+    ∙ ap (λ (o : Option ℕ). forward_by o c.args.moved c.args.unit.now) c.in-None.ensures

@@ -5,7 +5,7 @@ use Rattle.trace_replay.specs.Schedule.{step_after}
 use Rattle.transfer_engine.specs.State.{TransferState, failed}
 use Rattle.transfer_engine.specs.Calls.{state_of, with_state, step_for}
 use Rattle.transfer_engine.specs.declared.states.Transfer.{Transfer}
-use Rattle.transfer_engine.specs.declared.states.Transfer.TheVariants.{Direct, Forwarded, Continued}
+use Rattle.transfer_engine.specs.declared.states.Transfer.TheVariants.{Direct}
 use Rattle.driver_machine.specs.declared.Task.{Task}
 use Rattle.driver_machine.specs.Acts.{transfer_tried}
 use Rattle.driver_machine.specs.Due.{task_for}

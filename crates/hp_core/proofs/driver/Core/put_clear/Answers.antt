@@ -8,13 +8,15 @@ use Rattle.hp_core.proofs.Units.{of_unit, row_still, unit_inside}
 use Rattle.drive_registers.specs.declared.Function.TheVariants.{Clear as ClearFunction}
 use Rattle.driver_machine.specs.declared.Phase.TheVariants as phase
 use Rattle.driver_machine.specs.declared.Task.TheVariants as task
+use Rattle.hp_core.proofs.Scenes.{by_unit}
+use Rattle.hp_core.proofs.Deeds.{there, clear_ready}
 use Rattle.hp_core.proofs.driver.Core.put_clear.Goals as goal
 
 pub clear-requires : goal.clear-requires
-clear-requires c = record { ready = of_unit _ _ _ _ _ _ c.self.view_is c.from.ensures c.requires.unit c.index_mut.ensures.value (λ (v : UnitView). is_ready v.drive.work ≡ true) c.requires.ready }
+clear-requires c = record { ready = of_unit _ _ _ _ _ _ c.self.view_is c.from.ensures (there _ c.args.line _ _ c.requires.sound c.requires.may.0) c.index_mut.ensures.value (λ (v : UnitView). is_ready v.drive.work ≡ true) (clear_ready _ c.args.line _ _ c.requires.sound _ _ c.requires.may) }
 
 pub invariant_of-self : goal.invariant_of-self
-invariant_of-self c = record { positions = row_still _ _ _ _ _ _ c.self.view_is c.from.ensures c.requires.unit c.index_mut.ensures.value _ _ c.self.invariant.positions (ap can_arrive c.clear.ensures); room = c.self.invariant.room }
+invariant_of-self c = record { positions = row_still _ _ _ _ _ _ c.self.view_is c.from.ensures (there _ c.args.line _ _ c.requires.sound c.requires.may.0) c.index_mut.ensures.value _ _ c.self.invariant.positions (ap can_arrive c.clear.ensures); room = c.self.invariant.room }
 
 pub returns : goal.returns
-returns c = unit_inside _ _ _ _ _ _ c.self.view_is c.from.ensures c.requires.unit c.index_mut.ensures.value _ (going_to (phase.Due (task.Judge c.args.moved c.args.verdict)) (performed ClearFunction)) c.clear.ensures
+returns c = by_unit _ _ _ _ _ c.requires.may.0 (unit_inside _ _ _ _ _ _ c.self.view_is c.from.ensures (there _ c.args.line _ _ c.requires.sound c.requires.may.0) c.index_mut.ensures.value _ (going_to (phase.Due (task.Judge c.args.moved c.args.verdict)) (performed ClearFunction)) c.clear.ensures)

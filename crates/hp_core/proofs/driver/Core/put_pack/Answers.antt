@@ -6,16 +6,18 @@ use Rattle.hardware_table.specs.Drive.{is_ready}
 use Rattle.hardware_table.specs.Functions.{performed}
 use Rattle.hp_core.proofs.Units.{of_unit, row_still, unit_inside}
 use Rattle.drive_registers.specs.declared.Function.TheVariants.{Pack as PackFunction}
+use Rattle.hp_core.proofs.Scenes.{by_unit}
+use Rattle.hp_core.proofs.Deeds.{there, pack_can}
 use Rattle.hp_core.proofs.driver.Core.put_pack.Goals as goal
 
 pub pack-requires-clause-ready : goal.pack-requires-clause-ready
-pack-requires-clause-ready c = of_unit _ _ _ _ _ _ c.self.view_is c.from.ensures c.requires.unit c.index_mut.ensures.value (λ (v : UnitView). is_ready v.drive.work ≡ true) c.requires.ready
+pack-requires-clause-ready c = of_unit _ _ _ _ _ _ c.self.view_is c.from.ensures (there _ c.args.line _ _ c.requires.sound c.requires.may.0) c.index_mut.ensures.value (λ (v : UnitView). is_ready v.drive.work ≡ true) (pack_can _ c.args.line _ _ c.requires.sound c.requires.may).ready
 
 pub pack-requires-clause-online : goal.pack-requires-clause-online
-pack-requires-clause-online c = of_unit _ _ _ _ _ _ c.self.view_is c.from.ensures c.requires.unit c.index_mut.ensures.value (λ (v : UnitView). v.drive.online ≡ true) c.requires.online
+pack-requires-clause-online c = of_unit _ _ _ _ _ _ c.self.view_is c.from.ensures (there _ c.args.line _ _ c.requires.sound c.requires.may.0) c.index_mut.ensures.value (λ (v : UnitView). v.drive.online ≡ true) (pack_can _ c.args.line _ _ c.requires.sound c.requires.may).online
 
 pub invariant_of-self : goal.invariant_of-self
-invariant_of-self c = record { positions = row_still _ _ _ _ _ _ c.self.view_is c.from.ensures c.requires.unit c.index_mut.ensures.value _ _ c.self.invariant.positions (ap can_arrive c.pack.ensures); room = c.self.invariant.room }
+invariant_of-self c = record { positions = row_still _ _ _ _ _ _ c.self.view_is c.from.ensures (there _ c.args.line _ _ c.requires.sound c.requires.may.0) c.index_mut.ensures.value _ _ c.self.invariant.positions (ap can_arrive c.pack.ensures); room = c.self.invariant.room }
 
 pub returns : goal.returns
-returns c = unit_inside _ _ _ _ _ _ c.self.view_is c.from.ensures c.requires.unit c.index_mut.ensures.value _ (with_drive (performed PackFunction)) c.pack.ensures
+returns c = by_unit _ _ _ _ _ c.requires.may.0 (unit_inside _ _ _ _ _ _ c.self.view_is c.from.ensures (there _ c.args.line _ _ c.requires.sound c.requires.may.0) c.index_mut.ensures.value _ (with_drive (performed PackFunction)) c.pack.ensures)

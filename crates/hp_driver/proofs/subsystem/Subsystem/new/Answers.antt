@@ -1,6 +1,5 @@
 use Rattle.std.proofs.Common.{false, sym, subst}
-use Rattle.hp_driver.specs.Passes.{State}
-use Rattle.hp_driver.specs.Passes.{setups_of}
+use Rattle.hp_driver.specs.Passes.{State, setups_of}
 use Rattle.hp_driver.specs.Subsystem.{IsKept}
 use Rattle.hp_driver.proofs.Kept.{kept_new}
 use Rattle.hp_driver.proofs.subsystem.Subsystem.new.Goals as goal
