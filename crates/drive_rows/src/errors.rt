@@ -9,9 +9,8 @@ use mba_autoconf::{AttachFault, ProbeFault};
 use outside_traits::traits::{NoMemory, SinkFailed, SourceFailed, StoreFailed};
 use outside_traits::whole::ReadAllFault;
 use pack_format::FormatFault;
-use script_lines::{LineFault, ScriptKind};
+use script_lines::ScriptKind;
 use script_reader::ReadFault;
-use script_reader::cached::{CachedKind, CachedRefusal};
 use script_runs::PlayFault;
 use std::alloc::Global;
 use std::fmt::Display;
@@ -121,31 +120,12 @@ static TOOLS: [(ToolFault, &str); 8] = [
     (ToolFault::Sink, "the sink failed"),
 ];
 
-static LINES: [(LineFault, &str); 2] = [
-    (LineFault::Memory, "there is no memory"),
-    (
-        LineFault::Kind(ScriptKind::Word),
-        "the line is faulty: Word",
-    ),
-];
-
 static SCRIPTS: [(ReadFault, &str); 2] = [
     (ReadFault::Memory, "there is no memory"),
     (
         ReadFault::Refused {
             line: 2,
             kind: ScriptKind::Word,
-        },
-        "line 2 is refused",
-    ),
-];
-
-static CACHED: [(CachedRefusal, &str); 2] = [
-    (CachedRefusal::Memory, "there is no memory"),
-    (
-        CachedRefusal::Refused {
-            line: 2,
-            kind: CachedKind::Word,
         },
         "line 2 is refused",
     ),
@@ -218,9 +198,7 @@ fn texts_of_errors(rt: HostRuntime) {
 #[test]
 fn texts_of_refusals(rt: HostRuntime) {
     let alloc = rt.alloc();
-    assert!(rt; have_texts(alloc, &LINES));
     assert!(rt; have_texts(alloc, &SCRIPTS));
-    assert!(rt; have_texts(alloc, &CACHED));
     assert!(rt; have_texts(alloc, &LOADS));
     assert!(rt; have_texts(alloc, &PLAYS));
     assert!(rt; have_texts(alloc, &TRACES));

@@ -1,3 +1,2 @@
 pub mod Narrow
-mod Wrongs
 mod Wells

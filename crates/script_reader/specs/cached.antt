@@ -1,4 +1,3 @@
-pub mod Kinds
 pub mod Scripts
 pub mod Formed
 pub mod Meaning

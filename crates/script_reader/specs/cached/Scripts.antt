@@ -3,7 +3,6 @@ use Rattle.std.specs.Prelude.{◌≡◌, ℕ, List, map}
 use Rattle.partitions.specs.declared.Part.TheVariants.{C}
 use Rattle.script_lines.specs.declared.dialect.Dialect.TheVariants.{Cached}
 use Rattle.script_lines.specs.declared.kinds.ScriptKind.{ScriptKind}
-use Rattle.script_lines.specs.declared.statement.Content.{Content}
 use Rattle.script_lines.specs.declared.statement.Content.TheVariants as contents
 use Rattle.script_lines.specs.declared.statement.Line.{Line as AnyLine}
 use Rattle.script_lines.specs.declared.statement.Request.{Request}
@@ -12,13 +11,10 @@ use Rattle.script_lines.specs.declared.statement.Statement.TheVariants as any
 use Rattle.script_lines.specs.Known.{Known, Said, Numbered}
 use Rattle.script_lines.specs.Known as any_known
 use Rattle.script_reader.specs.Grammar as grammar
-use Rattle.script_reader.specs.declared.cached.kind.CachedRefusal.{CachedRefusal}
-use Rattle.script_reader.specs.declared.cached.kind.CachedRefusal.TheVariants.{Memory, Refused}
 use Rattle.script_reader.specs.declared.cached.statement.Asked.{Asked}
 use Rattle.script_reader.specs.declared.cached.statement.Statement.{Statement}
 use Rattle.script_reader.specs.declared.cached.statement.Statement.TheVariants as says
 use Rattle.script_reader.specs.declared.cached.statement.Line.{Line}
-use Rattle.script_reader.specs.cached.Kinds.{kind_of}
 
 -- ---- THE SAME of any script: whole blocks of partition `c`
 abbrev pub whole_blocks : Asked → Request
@@ -40,14 +36,10 @@ IsOfCache statement = (narrow : Statement) × (statement ≡ as_said narrow)
 abbrev pub asked_of : Request → Asked
 asked_of r = record { id = r.id; unit = r.unit; block = r.block; count = r.count }
 
-abbrev pub fill_of : {D : Type 0} → Content D → ℕ
-fill_of (contents.Fill b) = b
-fill_of content = 0
-
 abbrev pub narrowed : {D N : Type 0} → AnyStatement D N → Statement
 narrowed (any.Unit unit kind) = says.Unit unit kind
 narrowed (any.Read r) = says.Read (asked_of r)
-narrowed (any.Write r content) = says.Write (asked_of r) (fill_of content)
+narrowed (any.Write r (contents.Fill b)) = says.Write (asked_of r) b
 narrowed statement = says.Sync
 
 abbrev pub narrowed_line : {D N : Type 0} → AnyLine D N → Line
@@ -64,11 +56,6 @@ Spells bytes lines count = grammar.Spells Cached bytes (map as_line lines) count
 -- bytes spell no script: they are too many, or there is a first faulty line
 abbrev pub IsRefused : List ℕ → ℕ → ScriptKind → Type 0
 IsRefused bytes number kind = grammar.IsRefused Cached bytes number kind
-
--- a refusal says which line is the first faulty one, or that there was no memory
-abbrev pub Refuses : CachedRefusal → List ℕ → Type 0
-Refuses Memory bytes = Unit {0}
-Refuses (Refused line kind) bytes = IsRefused bytes line (kind_of kind)
 
 -- A SCRIPT: its lines, and how many lines there are in all; some bytes spell them
 pub record Script : Type 0 where

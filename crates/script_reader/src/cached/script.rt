@@ -2,10 +2,10 @@ ghost use Rattle.std.specs.Prelude.{◌≡◌, ◌⊎◌, ℕ, List, IfOk, IfErr
 ghost use Rattle.script_lines.specs.declared.kinds.ScriptKind.{ScriptKind};
 ghost use Rattle.script_reader.specs.declared.cached.statement.Line.{Line};
 ghost use Rattle.script_reader.specs.cached.Formed.{IsScript};
-ghost use Rattle.script_reader.specs.cached.Scripts.{asked_of, fill_of, narrowed, narrowed_line, Spells, IsRefused, Refuses};
+ghost use Rattle.script_reader.specs.Reading.{Refuses};
+ghost use Rattle.script_reader.specs.cached.Scripts.{asked_of, narrowed, narrowed_line, Spells, IsRefused};
 
 use crate::ReadFault;
-use crate::cached::kind::{CachedKind, CachedRefusal};
 use crate::cached::statement::{Asked, Line, Statement};
 use crate::script::{Stored, read_in};
 use fire_code::Noise;
@@ -25,16 +25,6 @@ fn asked(request: &Request) -> Asked
     }
 }
 
-/// The byte that a write fills its blocks with. No other content comes.
-fn fill(content: &Content<Span>) -> u8
-    ensures { result ≡ fill_of content.now }
-{
-    match content {
-        Content::Fill(byte) => *byte,
-        _ => 0,
-    }
-}
-
 /// What a line of the cache says. None of the lines that are left comes, except a drain.
 fn narrowed(statement: &script_lines::Statement<Span, Box<Noise>>) -> Statement
     ensures { result ≡ narrowed statement.now }
@@ -47,18 +37,21 @@ fn narrowed(statement: &script_lines::Statement<Span, Box<Noise>>) -> Statement
         script_lines::Statement::Read { request } => Statement::Read {
             asked: asked(request),
         },
-        script_lines::Statement::Write { request, content } => Statement::Write {
+        script_lines::Statement::Write {
+            request,
+            content: Content::Fill(fill),
+        } => Statement::Write {
             asked: asked(request),
-            fill: fill(content),
+            fill: *fill,
         },
         _ => Statement::Sync,
     }
 }
 
 /// Lines of the cache, without what other lines have.
-fn narrowed_lines(alloc: Global, lines: &[Stored]) -> Result<Vec<Line>, CachedRefusal>
+fn narrowed_lines(alloc: Global, lines: &[Stored]) -> Result<Vec<Line>, ReadFault>
     ensures ok { IfOk result (λ narrow. narrow.items ≡ map narrowed_line lines.now) }
-    ensures err { IfErr result (λ fault. fault ≡ CachedRefusal.Memory) }
+    ensures err { IfErr result (λ fault. fault ≡ ReadFault.Memory) }
 {
     let mut narrow = Vec::new(alloc);
     for line in lines {
@@ -87,22 +80,12 @@ impl Model for CachedScript {
     ghost invariant = { λ s. IsSpelled (record { lines = s.lines.items; count = s.count }) };
 }
 
-/// Reads a script from its bytes. It is refused exactly where the bytes spell none, with the first fault: Refused at line 0 as
-/// ScriptLong for more than 16 MiB; else the first line that is faulty, and its kind. Memory tells only that there was none.
-pub fn read_cached(alloc: Global, bytes: Vec<u8>) -> Result<CachedScript, CachedRefusal>
+/// Reads a script of the cache from its bytes, as `read_script` reads one of events.
+pub fn read_cached(alloc: Global, bytes: Vec<u8>) -> Result<CachedScript, ReadFault>
     ensures ok { IfOk result (λ script. Spells bytes.items script.lines script.count) }
-    ensures err { IfErr result (λ refusal. Refuses refusal bytes.items) }
+    ensures err { IfErr result (λ fault. Refuses Dialect.Cached fault bytes.items) }
 {
-    let script = match read_in(alloc, Dialect::Cached, bytes) {
-        Ok(script) => script,
-        Err(ReadFault::Memory) => return Err(CachedRefusal::Memory),
-        Err(ReadFault::Refused { line, kind }) => {
-            return Err(CachedRefusal::Refused {
-                line,
-                kind: CachedKind::named(kind),
-            });
-        }
-    };
+    let script = read_in(alloc, Dialect::Cached, bytes)?;
     let lines = narrowed_lines(alloc, script.lines())?;
     Ok(CachedScript {
         lines,
