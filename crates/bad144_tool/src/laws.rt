@@ -10,7 +10,7 @@ ghost use Rattle.bad144_tool.specs.Marking.{IsMarkedUp, Marks};
 ghost use Rattle.bad144_tool.specs.declared.fault.ToolFault.{ToolFault};
 ghost use Rattle.bad144_tool.specs.declared.edit.AddWay.{AddWay};
 
-use pack_geometry::packs::table_edit_law;
+use pack_geometry::table_edit_law;
 
 /// The law of an addition. If a block was added to the table of a unit's pack, that is an edit of the table: each data block except the
 /// new one keeps its content or stays unusable. Every other unit's pack is as before.

@@ -26,7 +26,7 @@ use Rattle.driver_laws.proofs.rules.Consistency.{moments_consistent}
 use Rattle.blocking_io.specs.Passes.{IsNextSector, with_next}
 use Rattle.driver_laws.specs.rules.Machine.{Blocks, Machine, idle, request_of, without, kind_of, meets, AreUsable, MayAnswer, blocks_after, blocks_done, done_in, after_answer, Steps}
 use Rattle.driver_laws.specs.rules.Machine.{submitted as machine_submitted}
-use Rattle.driver_laws.specs.rules.Stands.{Setup, home_at, home_in, held_at, HandStands, IsOutstanding, QueueStands, StandsFor, is_sure_among, sure_claims}
+use Rattle.driver_laws.specs.rules.Stands.{Setup, home_at, home_in, held_at, HandStands, IsOutstanding, QueueStands, StandsFor, is_sure_among}
 use Rattle.driver_laws.proofs.rules.Blocks.{begun_blocks, read_blocks}
 use Rattle.driver_laws.proofs.rules.Beginnings.{steps_join}
 use Rattle.driver_laws.proofs.rules.Hands.{written_more}
@@ -50,6 +50,7 @@ use Rattle.blocking_io.specs.Asking.{setup_at, Follows}
 use Rattle.blocking_io.specs.Stopping.{LeftAt, IsCut, begun}
 use Rattle.blocking_io.specs.Fronts.{OthersStay, HoldsFront, StoppedHoldsFront, AnsweredMovesClean}
 use Rattle.blocking_io.proofs.Passes.{done_few}
+use Rattle.driver_laws.proofs.rules.MomentSteps.{sure_claims}
 
 -- ---- WHERE THE MACHINE IS behind a submission and some answers: the request was refused, is outstanding, or was answered
 record IsSame (setup : Setup) (m : Machine) : Type 0 where

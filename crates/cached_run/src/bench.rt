@@ -1,7 +1,7 @@
 // What a script is played with.
 ghost use Rattle.std.specs.Prelude.{◌≡◌, ◌≤◌, [], false, IfOk};
 ghost use Rattle.driver_machine.specs.World.{new_world};
-ghost use Rattle.driver_laws.specs.answers.Passes.{AreSetups};
+ghost use Rattle.driver_laws.specs.invariant.Setups.{AreSetups};
 ghost use Rattle.script_runs.specs.Setups.{setups_of};
 ghost use Rattle.driver_laws.specs.rules.Entries.{empty_cache};
 ghost use Rattle.cached_run.specs.Lines.{IsRoomy};

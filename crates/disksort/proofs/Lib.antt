@@ -7,5 +7,4 @@ pub mod KeptJoins
 pub mod Onces
 pub mod Spells
 pub mod Takes
-pub mod Throughout
 pub mod Walks

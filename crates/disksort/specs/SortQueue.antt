@@ -1,5 +1,5 @@
 -- What contracts see of a sorted queue.
-use Rattle.std.specs.Prelude.{◌≡◌, ℕ, ◌<◌, ◌≤◌, Bool, true, false, List, ◌++◌, length, slice_index_or}
+use Rattle.std.specs.Prelude.{◌≡◌, ℕ, ◌<◌, ◌≤◌, true, false, List, ◌++◌, length}
 use Rattle.std.specs.List.{AllByRecursion}
 use Rattle.disksort.specs.declared.Waiter.{Waiter}
 use Rattle.disksort.specs.Buckets.{RunView, IsRun, Once, spelled}
@@ -17,10 +17,6 @@ cylinder_of waiter = waiter.cylinder
 -- those that wait: the first run, and then the second
 abbrev pub waiting_in : RunView → RunView → List ℕ → ℕ → ℕ → List Waiter
 waiting_in first second behind capacity cylinders = spelled capacity first behind cylinders ++ spelled capacity second behind cylinders
-
--- none of a list is before one that stands in front of it, be it next to it or not
-abbrev pub IsSortedThroughout : {A : Type 0} → (A → A → Bool) → List A → Type 0
-IsSortedThroughout {A} before xs = (i j : ℕ) (d : A) → i < j → j < length xs → before (slice_index_or xs j d) (slice_index_or xs i d) ≡ false
 
 -- What the buckets keep: both runs are linked, and what they spell is in service order. No number waits twice, and each
 -- is below the capacity. The second run is of cylinders below those of the first, and is empty where the first one is.

@@ -3,18 +3,16 @@
 //!
 //! What is proved: contracts see `SortQueue` as the list of waiters in the service order, which is a sort of the whole
 //! list by sweep, cylinder and order of joining; `insert`, `head`, `take_head`, `nth` and `len` are exact. The two runs
-//! of a queue lie in buckets by cylinder, and the invariant says that these spell the list. `service_order_law`: for
-//! every sequence of joins and leaves the queue is that sort, it is two ascending runs, and no waiter stands anywhere in
-//! front of one that is served before it.
+//! of a queue lie in buckets by cylinder, and the invariant says that these spell the list.
 //!
 //! Only tested, in `drive_rows`: worked values, beside their proofs.
 #![tactic(auto)]
 
-ghost use Rattle.std.specs.Prelude.{◌≡◌, ◌≢◌, ◌<◌, ◌≤◌, ◌⊎◌, ℕ, false, IsTrue, List, [], ◌∷◌, length, drop, All, IfOk, IsPermutation, slice_get};
-ghost use Rattle.trace_replay.specs.requests.ServiceOrder.{Waiting, Change, is_before, service_order, empty_service, service_after, queue_after, queue_of, queue_with, IsInOrder, IsTwoRuns, in_runs};
+ghost use Rattle.std.specs.Prelude.{◌≡◌, ◌≢◌, ◌<◌, ◌≤◌, ◌⊎◌, ℕ, false, IsTrue, [], length, drop, All, IfOk, slice_get};
+ghost use Rattle.trace_replay.specs.requests.ServiceOrder.{queue_with, IsInOrder};
 ghost use Rattle.disksort.specs.Buckets.{IsLowest};
 ghost use Rattle.disksort.specs.Runs.{seen};
-ghost use Rattle.disksort.specs.SortQueue.{cylinder_of, IsSortedThroughout};
+ghost use Rattle.disksort.specs.SortQueue.{cylinder_of};
 
 mod row;
 mod run;
@@ -153,18 +151,3 @@ impl SortQueue {
         self.first.append(&mut self.behind, number, cylinder);
     }
 }
-
-/// The laws of the service order. Whatever joins and leaves, the queue is the list of the requests that wait, sorted by
-/// the sweep that each request got when it joined, then by its cylinder, and then by its order of joining. The sort keeps
-/// all of them, and puts no request anywhere in front of one that is served before it. A queue in this order is two
-/// ascending runs, and a request that joins goes into its run behind the requests of the same cylinder.
-pub fn service_order_law()
-    ensures history { (changes : List (Change Waiter))
-        → queue_of (service_after cylinder_of empty_service changes) ≡ queue_after cylinder_of [] changes }
-    ensures same { (waiting : List (Waiting Waiter)) → IsPermutation waiting (service_order waiting) }
-    ensures sorted { (waiting : List (Waiting Waiter)) → IsSortedThroughout is_before (service_order waiting) }
-    ensures two_runs { (head : Waiter) (behind : List Waiter) → IsInOrder cylinder_of (head ∷ behind)
-        → IsTwoRuns cylinder_of head.cylinder (head ∷ behind) }
-    ensures in_its_run { (queue : List Waiter) (joining : Waiter) → IsInOrder cylinder_of queue
-        → queue_with cylinder_of joining queue ≡ in_runs cylinder_of joining queue }
-{}

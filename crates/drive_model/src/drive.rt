@@ -3,7 +3,6 @@ ghost use Rattle.std.specs.Prelude.{◌≡◌, ◌≤◌, ◌<◌, ◌+◌, ◌^
 ghost use Rattle.pack_geometry.specs.Geometry.{sectors_of};
 ghost use Rattle.hardware_table.specs.Drive.{new_drive, register_of, is_writable, with_register, is_ready, is_positioning, is_transferring, status, on, type_word};
 ghost use Rattle.hardware_table.specs.Functions.{is_addressed, refusals, effect, performed, needs_online, attached};
-ghost use Rattle.drive_registers.specs.declared.Function.TheVariants.{Clear, Preset};
 ghost use Rattle.hardware_table.specs.declared.Work.TheVariants.{Positioning};
 ghost use Rattle.hardware_table.specs.Events.{arrived, attention_cleared, transfer_ended, turned, online_set, locked_set, times_armed, fault_armed};
 
@@ -11,7 +10,7 @@ mod moves;
 
 use bitflags::Flags;
 use drive_registers::{
-    Ds, Er1, Er2, Function, OFFSET_CODE, Of, RM03_TYPE, RM05_TYPE, RP06_TYPE, code_of,
+    Ds, Er1, Function, OFFSET_CODE, Of, RM03_TYPE, RM05_TYPE, RP06_TYPE, code_of,
 };
 use hardware_table::{Armed, FaultKind, Register, Work};
 use pack_geometry::{DriveKind, geometry_of};
@@ -23,9 +22,9 @@ pub struct Drive {
     kind: DriveKind,
     serial: u16,
     cs1: u16,
-    er1: Er1,
-    er2: Er2,
-    offset: Of,
+    er1: u16,
+    er2: u16,
+    offset: u16,
     da: u16,
     dc: u16,
     cc: u16,
@@ -49,9 +48,9 @@ impl Model for Drive {
       kind = d.kind;
       serial = d.serial;
       cs1 = d.cs1;
-      er1 = d.er1.0;
-      er2 = d.er2.0;
-      offset = d.offset.0;
+      er1 = d.er1;
+      er2 = d.er2;
+      offset = d.offset;
       da = d.da;
       dc = d.dc;
       cc = d.cc;
@@ -76,9 +75,9 @@ impl Drive {
             kind,
             serial,
             cs1: 0,
-            er1: Er1::from_bits_retain(0),
-            er2: Er2::from_bits_retain(0),
-            offset: Of::from_bits_retain(0),
+            er1: 0,
+            er2: 0,
+            offset: 0,
             da: 0,
             dc: 0,
             cc: 0,
@@ -112,7 +111,8 @@ impl Drive {
         if refusals == 0 {
             self.perform(function);
         } else {
-            self.refuse(refusals);
+            self.er1 |= refusals;
+            self.attention = true;
         }
     }
 
@@ -138,11 +138,13 @@ impl Drive {
             Function::Search => self.position(self.dc, Some((self.da % 256) as u8)),
             Function::Recal => self.position(0, None),
             Function::Offset => self.position(self.cc, None),
-            Function::Centre => self.offset = Of::from_bits_retain(
-                self.offset.bits() & !OFFSET_CODE,
-            ),
-            Function::Clear => self.clear(),
-            Function::Preset => self.preset(),
+            Function::Centre => self.offset &= !OFFSET_CODE,
+            Function::Clear => {
+                (self.er1, self.er2) = (0, 0);
+                (self.ec1, self.ec2) = (0, 0);
+                self.attention = false;
+            }
+            Function::Preset => (self.dc, self.da, self.offset) = (0, 0, 0),
             Function::Pack => self.valid = true,
             Function::Read => self.work = Work::Transfer { write: false },
             Function::Write => self.work = Work::Transfer { write: true },
@@ -154,26 +156,6 @@ impl Drive {
         ensures { self.new ≡ record self.old { work = Positioning cylinder sector } }
     {
         self.work = Work::Positioning { cylinder, sector };
-    }
-
-    // Clears the errors and the attention.
-    fn clear(&mut self)
-        ensures { self.new ≡ effect Clear self.old }
-    {
-        self.er1 = Er1::from_bits_retain(0);
-        self.er2 = Er2::from_bits_retain(0);
-        self.ec1 = 0;
-        self.ec2 = 0;
-        self.attention = false;
-    }
-
-    // Clears the address and the offset.
-    fn preset(&mut self)
-        ensures { self.new ≡ effect Preset self.old }
-    {
-        self.dc = 0;
-        self.da = 0;
-        self.offset = Of::from_bits_retain(0);
     }
 
     /// Ends the positioning that is under way and raises the attention, whether the drive is online or not. True exactly
@@ -259,9 +241,9 @@ impl Drive {
         match register {
             Register::Cs1 => self.cs1,
             Register::Ds => self.status(),
-            Register::Er1 => self.er1.bits(),
-            Register::Er2 => self.er2.bits(),
-            Register::Of => self.offset.bits(),
+            Register::Er1 => self.er1,
+            Register::Er2 => self.er2,
+            Register::Of => self.offset,
             Register::Da => self.da,
             Register::Dc => self.dc,
             Register::Cc => self.cc,
@@ -279,7 +261,7 @@ impl Drive {
         ensures { self.new ≡ with_register register word self.old }
     {
         match register {
-            Register::Of => self.offset = Of::from_bits_retain(word),
+            Register::Of => self.offset = word,
             Register::Da => self.da = word,
             Register::Dc => self.dc = word,
             _ => {}
@@ -290,16 +272,16 @@ impl Drive {
     fn status(&self) -> u16
         ensures { result ≡ status self.now }
     {
-        let has_error = self.er1.bits() != 0 || self.er2.bits() != 0;
+        let has_error = self.er1 != 0 || self.er2 != 0;
         let is_positioning = matches!(self.work, Work::Positioning { .. });
         let is_ready = matches!(self.work, Work::Ready);
-        let status = bit(is_ready, Ds::DRY) | bit(self.valid, Ds::VV);
+        let status = on(is_ready, Ds::DRY.bits()) | on(self.valid, Ds::VV.bits());
         let status = Ds::DPR.bits() | status;
-        let status = bit(self.locked, Ds::WRL) | status;
-        let status = bit(self.online, Ds::MOL) | status;
-        let status = bit(is_positioning, Ds::PIP) | status;
-        let status = bit(has_error, Ds::ERR) | status;
-        bit(self.attention, Ds::ATA) | status
+        let status = on(self.locked, Ds::WRL.bits()) | status;
+        let status = on(self.online, Ds::MOL.bits()) | status;
+        let status = on(is_positioning, Ds::PIP.bits()) | status;
+        let status = on(has_error, Ds::ERR.bits()) | status;
+        on(self.attention, Ds::ATA.bits()) | status
     }
 
     // Whether Dc and Da name a sector of the drive.
@@ -316,31 +298,21 @@ impl Drive {
     fn refusals(&self, function: Function) -> u16
         ensures { result ≡ refusals function self.now }
     {
+        let outside = on(!self.is_addressed(), Er1::IAE.bits());
         match function {
-            Function::Seek | Function::Search | Function::Read => {
-                error(!self.is_addressed(), Er1::IAE)
-            }
-            Function::Write => {
-                error(!self.is_addressed(), Er1::IAE) | error(self.locked, Er1::WLE)
-            }
+            Function::Seek | Function::Search | Function::Read => outside,
+            Function::Write => outside | on(self.locked, Er1::WLE.bits()),
             Function::WriteHeader => Er1::ILF.bits(),
             _ => 0,
         }
     }
 }
 
-// A bit of the drive status if a condition holds, and 0 otherwise.
-fn bit(condition: bool, bit: Ds) -> u16
-    ensures { result ≡ on condition bit.0 }
+// Bits of a register if a condition holds, and 0 otherwise.
+fn on(condition: bool, bits: u16) -> u16
+    ensures { result ≡ on condition bits }
 {
-    if condition { bit.bits() } else { 0 }
-}
-
-// A bit of the first error register if a condition holds, and 0 otherwise.
-fn error(condition: bool, bit: Er1) -> u16
-    ensures { result ≡ on condition bit.0 }
-{
-    if condition { bit.bits() } else { 0 }
+    if condition { bits } else { 0 }
 }
 
 // The word in the drive type register.

@@ -4,6 +4,13 @@ ghost use Rattle.drive_registers.specs.Bits.{status_names, first_error_names, se
 
 use bitflags::{Flag, Flags};
 
+// These bits of a register, each with its name.
+macro_rules! named {
+    ($register:ident: $($bit:ident)*) => {
+        [$(Flag { name: stringify!($bit), value: $register::$bit }),*]
+    };
+}
+
 /// The drive status register.
 #[derive(Clone, Copy, PartialEq, Eq)]
 pub struct Ds(u16);
@@ -39,40 +46,7 @@ impl Ds {
     pub const VV: Ds = Ds(0o100);
 
     /// Each bit with its name.
-    const NAMES: [Flag<Ds>; 8] = [
-        Flag {
-            name: "ATA",
-            value: Ds::ATA,
-        },
-        Flag {
-            name: "ERR",
-            value: Ds::ERR,
-        },
-        Flag {
-            name: "PIP",
-            value: Ds::PIP,
-        },
-        Flag {
-            name: "MOL",
-            value: Ds::MOL,
-        },
-        Flag {
-            name: "WRL",
-            value: Ds::WRL,
-        },
-        Flag {
-            name: "DPR",
-            value: Ds::DPR,
-        },
-        Flag {
-            name: "DRY",
-            value: Ds::DRY,
-        },
-        Flag {
-            name: "VV",
-            value: Ds::VV,
-        },
-    ];
+    const NAMES: [Flag<Ds>; 8] = named!(Ds: ATA ERR PIP MOL WRL DPR DRY VV);
 }
 
 impl Er1 {
@@ -100,52 +74,7 @@ impl Er1 {
     pub const ILF: Er1 = Er1(0o1);
 
     /// Each bit with its name.
-    const NAMES: [Flag<Er1>; 11] = [
-        Flag {
-            name: "DCK",
-            value: Er1::DCK,
-        },
-        Flag {
-            name: "UNS",
-            value: Er1::UNS,
-        },
-        Flag {
-            name: "OPI",
-            value: Er1::OPI,
-        },
-        Flag {
-            name: "DTE",
-            value: Er1::DTE,
-        },
-        Flag {
-            name: "WLE",
-            value: Er1::WLE,
-        },
-        Flag {
-            name: "IAE",
-            value: Er1::IAE,
-        },
-        Flag {
-            name: "HCRC",
-            value: Er1::HCRC,
-        },
-        Flag {
-            name: "HCE",
-            value: Er1::HCE,
-        },
-        Flag {
-            name: "ECH",
-            value: Er1::ECH,
-        },
-        Flag {
-            name: "FER",
-            value: Er1::FER,
-        },
-        Flag {
-            name: "ILF",
-            value: Er1::ILF,
-        },
-    ];
+    const NAMES: [Flag<Er1>; 11] = named!(Er1: DCK UNS OPI DTE WLE IAE HCRC HCE ECH FER ILF);
 }
 
 impl Er2 {
@@ -155,16 +84,7 @@ impl Er2 {
     pub const SKI: Er2 = Er2(0o40000);
 
     /// Each bit with its name.
-    const NAMES: [Flag<Er2>; 2] = [
-        Flag {
-            name: "BSE",
-            value: Er2::BSE,
-        },
-        Flag {
-            name: "SKI",
-            value: Er2::SKI,
-        },
-    ];
+    const NAMES: [Flag<Er2>; 2] = named!(Er2: BSE SKI);
 }
 
 impl Of {
@@ -172,10 +92,7 @@ impl Of {
     pub const FMT22: Of = Of(0o10000);
 
     /// Each bit with its name.
-    const NAMES: [Flag<Of>; 1] = [Flag {
-        name: "FMT22",
-        value: Of::FMT22,
-    }];
+    const NAMES: [Flag<Of>; 1] = named!(Of: FMT22);
 }
 
 impl Flags for Ds {

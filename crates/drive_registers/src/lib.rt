@@ -14,44 +14,44 @@ mod bits;
 
 pub use bits::{Ds, Er1, Er2, Of};
 
-/// What a drive can be told to do.
+/// What a drive can be told to do, with the code of each function, without the bit GO.
 #[derive(Clone, Copy)]
 pub enum Function {
     /// Nothing.
-    Nop,
+    Nop = 0o00,
     /// Move the heads to the desired cylinder.
-    Seek,
+    Seek = 0o04,
     /// Recalibrate: move the heads to cylinder 0.
-    Recal,
+    Recal = 0o06,
     /// Drive clear: clear the error registers and the attention.
-    Clear,
+    Clear = 0o10,
     /// Move the heads off the cylinder's centre by the offset code.
-    Offset,
+    Offset = 0o14,
     /// Return to centre.
-    Centre,
+    Centre = 0o16,
     /// Read-in preset: clear the address and offset registers.
-    Preset,
+    Preset = 0o20,
     /// Pack acknowledge: the volume becomes valid.
-    Pack,
+    Pack = 0o22,
     /// Move the heads and wait for a sector.
-    Search,
+    Search = 0o30,
     /// Write data.
-    Write,
+    Write = 0o60,
     /// Write header and data.
-    WriteHeader,
+    WriteHeader = 0o62,
     /// Read data.
-    Read,
+    Read = 0o70,
 }
 
-/// How far the heads are moved off the centre of a cylinder, in microinches.
+/// How far the heads are moved off the centre of a cylinder, in microinches, with the code of each offset.
 #[derive(Clone, Copy, PartialEq, Eq)]
 pub enum OffsetCode {
-    Plus400,
-    Minus400,
-    Plus800,
-    Minus800,
-    Plus1200,
-    Minus1200,
+    Plus400 = 0o020,
+    Minus400 = 0o220,
+    Plus800 = 0o040,
+    Minus800 = 0o240,
+    Plus1200 = 0o060,
+    Minus1200 = 0o260,
 }
 
 /// The word in the drive type register of an RP06.
@@ -94,20 +94,7 @@ pub fn code_of(function: Function) -> u16
     ensures code { result ≡ function_code function }
     ensures in_field { function_field result ≡ result }
 {
-    match function {
-        Function::Nop => 0o00,
-        Function::Seek => 0o04,
-        Function::Recal => 0o06,
-        Function::Clear => 0o10,
-        Function::Offset => 0o14,
-        Function::Centre => 0o16,
-        Function::Preset => 0o20,
-        Function::Pack => 0o22,
-        Function::Search => 0o30,
-        Function::Write => 0o60,
-        Function::WriteHeader => 0o62,
-        Function::Read => 0o70,
-    }
+    function as u16
 }
 
 /// The code of an offset, as it stands in the low eight bits of the offset register. No two offsets have the same code,
@@ -118,12 +105,5 @@ pub fn offset_word(code: OffsetCode) -> u16
     ensures not_zero { 0 < result }
     ensures own { (other : OffsetCode) → offset_code other ≡ result → other ≡ code }
 {
-    match code {
-        OffsetCode::Plus400 => 0o020,
-        OffsetCode::Minus400 => 0o220,
-        OffsetCode::Plus800 => 0o040,
-        OffsetCode::Minus800 => 0o240,
-        OffsetCode::Plus1200 => 0o060,
-        OffsetCode::Minus1200 => 0o260,
-    }
+    code as u16
 }

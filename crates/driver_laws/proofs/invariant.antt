@@ -61,3 +61,4 @@ pub mod Calls
 pub mod Next
 pub mod Loops
 pub mod Sound
+pub mod Parts

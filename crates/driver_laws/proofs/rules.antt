@@ -72,3 +72,7 @@ pub mod Rooms
 mod Insertions
 pub mod Ones
 mod Flushes
+pub mod WholeBlocks
+pub mod CalmInputs
+pub mod IdsAsked
+pub mod MomentSteps

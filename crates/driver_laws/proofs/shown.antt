@@ -90,3 +90,4 @@ pub mod Fitting
 pub mod Counting
 pub mod QuietStarting
 pub mod QuietPasses
+pub mod Showing

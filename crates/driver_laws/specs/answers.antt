@@ -4,4 +4,3 @@ pub mod Counts
 pub mod Laws
 pub mod Ids
 pub mod Waiting
-pub mod Passes

@@ -1,3 +1,2 @@
-pub mod Kept
-pub mod Parts
+pub mod Setups
 pub mod InvariantKept

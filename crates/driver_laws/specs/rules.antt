@@ -22,7 +22,6 @@ pub mod Cleans
 pub mod Laid
 pub mod Bytes
 pub mod Pieces
-pub mod BytesLaws
 pub mod Requests
 pub mod Entries
 pub mod Calls

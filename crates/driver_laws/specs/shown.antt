@@ -1,15 +1,11 @@
 pub mod Stages
 pub mod Shows
-pub mod Laws
 pub mod Acts
 pub mod Within
 pub mod Calls
 pub mod Runs
 pub mod Noises
-pub mod Left
-pub mod Fronts
 pub mod Drains
-pub mod RunsActs
 pub mod RunsRuns
 pub mod NextBlock
 pub mod Reach

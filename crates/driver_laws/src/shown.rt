@@ -1,5 +1,5 @@
-//! The replay of the trace shows what the driver does (`replay`), the lines of the driver's calls follow there (`trace`),
-//! and what a drain and a call that stops come to there (`drains`). The functions here do nothing: each stands for a law.
+//! The replay of the trace shows what the driver does: the lines of the driver's calls follow there (`trace`), and what a
+//! drain comes to there (`drains`). The functions here do nothing: each stands for a law.
 //!
 //! What runs of the driver leave of its packs (`runs`), and how far their writes reach (`reach`).
 //!
@@ -9,6 +9,5 @@ pub mod bytes;
 pub mod drains;
 pub mod quiet;
 pub mod reach;
-pub mod replay;
 pub mod runs;
 pub mod trace;

@@ -10,8 +10,7 @@ use Rattle.pack_geometry.specs.Geometry.{sectors_of}
 use Rattle.trace_replay.specs.Seek.{is_near, distance, sector_before}
 use Rattle.trace_replay.specs.declared.seek_engine.Position.{Position}
 use Rattle.trace_replay.specs.declared.seek_engine.Position.TheVariants as position
-use Rattle.driver_machine.specs.Passes.{segment_of}
-use Rattle.driver_machine.specs.Passes.{entry_for}
+use Rattle.driver_machine.specs.Passes.{segment_of, entry_for}
 use Rattle.trace_replay.specs.declared.requests.answers.AnswerKind.TheVariants.{Error}
 use Rattle.trace_replay.specs.declared.requests.answers.Cause.TheVariants as cause
 use Rattle.driver_machine.specs.declared.RetryStep.{RetryStep}
@@ -23,7 +22,7 @@ use Rattle.driver_machine.specs.World.{UnitView, Held, transfer_of}
 use Rattle.driver_machine.specs.Acts as deed
 use Rattle.driver_machine.specs.Acts.{Deed}
 use Rattle.driver_machine.specs.Due.{target_of, position_of, done_with, steps_of, sensed, failed, start_by, forward_by, finished, judged, step_of, command_of, deed_for, next_by, next_of}
-use Rattle.driver_machine.specs.DueFacts.{MayGo, IsJudged, Ends, Offline, Locked, Left, Unforwarded, Tried, Finished, IsDue, Calls, AtStart, AtStep, AtTransfer, AtChoice, IsAtCommand}
+use Rattle.driver_machine.proofs.Dues.{Offline, Locked, Left, Unforwarded, Tried, Finished, AtStart, AtStep, AtTransfer, AtChoice, Calls, Ends, IsAtCommand, IsDue, IsJudged, MayGo}
 
 pub none_some : {A : Type 0} {x : A} → None ≡ Some x → ⊥
 none_some e = grind arith

@@ -17,8 +17,8 @@ use Rattle.driver_machine.specs.Acts as deed
 use Rattle.driver_machine.specs.Acts.{Deed, Scene, effect}
 use Rattle.driver_machine.specs.Due.{next_of, task_for}
 use Rattle.driver_machine.proofs.Measure.{judging_left, task_left, phase_left, deeds_left, is_resting}
-use Rattle.driver_machine.specs.DueFacts.{IsDue, IsJudged}
 use Rattle.driver_machine.proofs.DueFacts.{due_facts}
+use Rattle.driver_machine.proofs.Dues.{IsDue, IsJudged}
 
 -- a unit after a deed waits for an event, or fewer deeds are to come
 abbrev pub Falls : UnitView → UnitView → Type 0

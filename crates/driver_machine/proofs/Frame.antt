@@ -8,9 +8,9 @@ use Rattle.hardware_table.specs.Adapter.{drive_stepped, stepped, next_window}
 use Rattle.driver_machine.specs.World.{World, UnitView, AdapterView, unit_at, adapter_at, slot_at, no_unit, new_adapter_view, adapter_of, with_block_in}
 use Rattle.driver_machine.specs.Acts as deed
 use Rattle.driver_machine.specs.Acts.{Deed, Scene, with_scene}
-use Rattle.driver_machine.specs.Frame.{IsSame}
 use Rattle.driver_machine.proofs.KindStays.{arrived_kind, stepping_kind, searching_kind, transferring_kind, centred_kind}
 use Rattle.trace_replay.proofs.Kept.{performed_kind, stepped_kind}
+use Rattle.driver_machine.proofs.Frames.{IsSame}
 
 -- OTHERS are as they were, whatever the deed.
 pub other_unit : (w : World) (u p x : ℕ) (s : Scene) → x ≢ u → unit_at (with_scene w u p s) x ≡ unit_at w x

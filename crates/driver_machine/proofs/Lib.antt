@@ -4,3 +4,5 @@ pub mod Falls
 pub mod Frame
 pub mod KindStays
 pub mod Until
+pub mod Dues
+pub mod Frames

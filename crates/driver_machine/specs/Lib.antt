@@ -8,8 +8,6 @@ pub mod Guards
 pub mod Sound
 pub mod Runs
 pub mod Writes
-pub mod DueFacts
-pub mod Frame
 pub mod Passes
 pub mod Repaired
 pub mod Free

@@ -1,5 +1,5 @@
 -- The state of the driver between two acts: units, adapters, the slots of requests, noise, and answers that wait.
-use Rattle.std.specs.Prelude.{ℕ, zero, suc, take, drop, ◌+◌, Bool, true, false, List, [], ◌∷◌, ◌++◌, replicate, slice_index_or, slice_set, Option, None, unwrap_or}
+use Rattle.std.specs.Prelude.{ℕ, zero, suc, take, drop, Bool, true, false, List, [], ◌∷◌, ◌++◌, replicate, slice_index_or, slice_set, Option, None, unwrap_or}
 use Rattle.pack_geometry.specs.declared.DriveKind.{DriveKind}
 use Rattle.pack_geometry.specs.declared.DriveKind.TheVariants.{Rp06}
 use Rattle.pack_geometry.specs.TableSpelling.{Table}

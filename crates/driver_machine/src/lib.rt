@@ -10,7 +10,6 @@
 use drive_registers::OffsetCode;
 use hardware_table::Moved;
 
-pub mod due;
 pub mod ecc_repair;
 
 pub use trace_replay::requests::{Answer, AnswerKind, Cause};

@@ -1,7 +1,6 @@
 -- What the burst law says of verdicts, classes and words.
-use Rattle.std.proofs.Common.{◌≡◌, ℕ, ◌+◌, ◌-◌, ◌<◌, ◌≤◌, List, refl, sym, ap, ap₂, ◌∙◌, subst, arith, All, ◌/◌, ◌⊎◌, inl, inr, ◌↔◌, ◌==◌, Bool, true, false, cond, bit_xor}
+use Rattle.std.proofs.Common.{◌≡◌, ℕ, ◌+◌, ◌-◌, ◌<◌, ◌≤◌, List, refl, sym, ap, ap₂, ◌∙◌, subst, arith, All, ◌/◌, ◌↔◌, bit_xor}
 use lib.Bits.{xor_zero_r}
-use Rattle.std.specs.List.{list_any}
 use Rattle.std.proofs.lemmas.List.Elements.{All-head}
 use Rattle.fire_code.specs.Remainder.{remainder, times_x, repeat}
 use Rattle.fire_code.specs.Burst.{IsPlaces, IsShortBurst, IsBurst, IsUncorrectable, places_of, reversed}
@@ -15,7 +14,6 @@ use Rattle.fire_code.specs.declared.NoiseClass.TheVariants.{Short, Shown, Alias}
 use Rattle.fire_code.proofs.Rising.{places_of-odd}
 use Rattle.fire_code.proofs.Powers.{raised-is}
 use Rattle.fire_code.proofs.Bursts.{reversed-lt, reversed_twice, reversed_11, raised-places_of, same_burst, burst_not_zero}
-use Rattle.fire_code.proofs.Words.{bit_of_word-bits}
 use Rattle.fire_code.proofs.Flips.{flip_all-flipped, flip_all-remainder}
 use Rattle.fire_code.proofs.Noises.{rising_from_places}
 use Rattle.fire_code.proofs.Shifted.{shifted_unique}
@@ -105,15 +103,3 @@ right_flipped ks old c new d set right f = flipped_remainder ks old c new d set 
 
 pub repaired : (v : Verdict) (ks old : List ℕ) (c : ℕ) (new : List ℕ) (d : ℕ) → Judges v (word_remainder new d) → word_remainder old c ≡ 0 → IsShortBurst ks → IsFlipped ks old c new d → Names v ks
 repaired v ks old c new d j right b f = burst_named v ks b (subst (Judges v) (right_flipped ks old c new d b.set right f) j)
-
-flipped_twice : (b : Bool) (v : ℕ) → (v ≡ 0) ⊎ (v ≡ 1) → v ≡ cond b (1 - cond b (1 - v) v) (cond b (1 - v) v)
-flipped_twice true v (inl e) = omega arith
-flipped_twice true v (inr e) = omega arith
-flipped_twice false v h = refl
-
-pub flipped_back : (ks old new : List ℕ) (c d : ℕ) → IsFlipped ks old c new d → IsFlipped ks new d old c
-flipped_back ks old new c d f = record {
-  bits = λ k h.
-      flipped_twice (list_any (λ p. p == k) ks) (bit_of_word old c k) (bit_of_word-bits old c k)
-      ∙ ap (λ z. cond (list_any (λ p. p == k) ks) (1 - z) z) (sym (f.bits k h));
-}

@@ -21,5 +21,4 @@ pub mod LogTable
 pub mod Residues
 pub mod Clocks
 pub mod Repairs
-pub mod Periods
 pub mod Verdicts

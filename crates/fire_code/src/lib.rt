@@ -8,19 +8,17 @@
 //! What is proved: `encode` gives the one check that makes a word right; `syndrome` is the word's remainder, a sum over
 //! places; `judge` is exact for every data and check, and names exactly the burst that was applied to a right word;
 //! `class_of`, `apply` and `Noise::new` are exact; `judge_noise` is the verdict on any right word with these places
-//! flipped. `burst_law`: no short burst has remainder zero, two different short bursts have different remainders, each
-//! remainder has exactly one verdict, and powers of x repeat after 42,987 steps and not before.
+//! flipped. `burst_law`: no short burst has remainder zero, and two different short bursts have different remainders.
 //! Functions over the three tables prove them equal to the definition (`tables`, `logarithms`); the plain program has the same contracts.
 //!
 //! Only tested, in `drive_rows`: worked checks and verdicts.
 #![tactic(auto)]
 
-ghost use Rattle.std.specs.Prelude.{◌≡◌, ◌≢◌, ◌<◌, ◌^◌, ◌*◌, ◌≤◌, ◌+◌, ◌-◌, ◌%◌, ◌==◌, ℕ, List, take, cond, ◌↔◌, IsTrue, All, SomeIff, bit_xor, slice_index};
-ghost use Rattle.fire_code.specs.Remainder.{remainder as the_remainder, power as the_power};
-ghost use Rattle.fire_code.specs.Burst.{IsShortBurst, IsBurst, IsUncorrectable, places_of};
-ghost use Rattle.fire_code.specs.Verdict.{Judges, Names, verdict_of};
+ghost use Rattle.std.specs.Prelude.{◌≡◌, ◌≢◌, ◌<◌, ◌^◌, ◌*◌, ◌+◌, ◌-◌, ◌%◌, ◌==◌, ℕ, List, cond, ◌↔◌, IsTrue, All, SomeIff, bit_xor};
+ghost use Rattle.fire_code.specs.Remainder.{remainder as the_remainder};
+ghost use Rattle.fire_code.specs.Burst.{IsShortBurst, IsBurst, IsUncorrectable};
+ghost use Rattle.fire_code.specs.Verdict.{Judges, Names};
 ghost use Rattle.fire_code.specs.Word.{IsData, bit_of_word, word_remainder};
-ghost use Rattle.fire_code.specs.Repair.{burst_byte};
 ghost use Rattle.fire_code.specs.Noise.{IsNoise, IsAlias, IsFlipped, Classes};
 
 pub mod by_residues;
@@ -257,27 +255,9 @@ pub fn data_law(bytes: &[u8; 512])
     let _slice = bytes.as_slice();
 }
 
-/// The burst law: no short burst has the remainder zero, and two different short bursts have different remainders. Hence
-/// each remainder has exactly one verdict, which a search of all places and patterns finds, and each noise has one class.
-/// The verdict on the remainder of a short burst names that burst. An exclusive or of each byte of the data with the same
-/// byte of the burst restores the data, and places that are flipped twice are as they were. A burst begins in the word.
-/// Powers of x repeat after 21 * 2047 = 42,987 steps, and not before.
+/// The burst law: no short burst has the remainder zero, and two different short bursts have different remainders.
 pub fn burst_law()
     ensures not_zero { (places : List ℕ) → IsShortBurst places → the_remainder places ≢ 0 }
     ensures apart { (places others : List ℕ) → IsShortBurst places → IsShortBurst others
         → the_remainder places ≡ the_remainder others → places ≡ others }
-    ensures verdict { (one other : Verdict) (r : ℕ) → Judges one r → Judges other r → one ≡ other }
-    ensures found { (r : ℕ) → Judges (verdict_of r) r }
-    ensures class { (one other : NoiseClass) (places : List ℕ) → Classes one places → Classes other places
-        → one ≡ other }
-    ensures named { (v : Verdict) (places : List ℕ) → IsShortBurst places → Judges v (the_remainder places)
-        → Names v places }
-    ensures repairs { (at pattern i : ℕ) (old new : List ℕ) (c d : ℕ) → pattern < 2 ^ 11
-        → IsFlipped (places_of 11 (at - 1) pattern) old c new d
-        → i < 512 → slice_index old i < 2 ^ 8 → slice_index new i < 2 ^ 8
-        → bit_xor (slice_index new i) (burst_byte at pattern i) ≡ slice_index old i }
-    ensures back { (places old new : List ℕ) (c d : ℕ) → IsFlipped places old c new d
-        → IsFlipped places new d old c }
-    ensures begins { (at pattern r : ℕ) → IsBurst at pattern r → at ≤ 4128 }
-    ensures period { (e d : ℕ) → (the_power (e + d) ≡ the_power e) ↔ (d % 42987 ≡ 0) }
 {}

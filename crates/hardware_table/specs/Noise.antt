@@ -22,10 +22,6 @@ pub record IsAmong (live : List LiveNoise) (noise : LiveNoise) : Type 0 where
   pub block : noise.block ≡ kin.block
   pub places : noise.places ≡ kin.places
 
--- the live noise of one sector, in the order of its arming
-abbrev pub noise_at : ℕ → ℕ → List LiveNoise → List LiveNoise
-noise_at unit block live = filter (is_at unit block) live
-
 -- Live noise is kept in the order of its sectors, and at one sector in the order of its arming.
 abbrev pub sector_number : ℕ → ℕ → ℕ
 sector_number unit block = unit * 2 ^ 32 + block
@@ -78,15 +74,6 @@ after_strike unit block word [] = []
 after_strike unit block word (noise ∷ rest) =
     if is_at unit block noise then noise_left noise (span_left word noise.span) ++ rest
     else noise ∷ after_strike unit block word rest
-
--- the first noise of a list, and the list with that one used
-abbrev pub first_of : List LiveNoise → Option LiveNoise
-first_of [] = None
-first_of (noise ∷ rest) = Some noise
-
-abbrev pub first_struck : ℕ → List LiveNoise → List LiveNoise
-first_struck word [] = []
-first_struck word (noise ∷ rest) = noise_left noise (span_left word noise.span) ++ rest
 
 -- a book of noise: what is live, how much was ever armed, and how much may be
 pub record Book : Type 0 where

@@ -4,16 +4,14 @@
 //! Defined in `specs/`: the states of a drive and of an adapter as records, each row of the hardware table as a function on
 //! them, the verdict of a move, and live noise.
 //!
-//! What is proved: `status_law`: each status bit is on exactly if its condition holds. `noise_law`: at each sector noise
-//! stands in the order of its arming, and a strike uses the oldest and changes nothing else. `adapter_law`: each act
-//! keeps what holds of every adapter.
+//! What is proved: `status_law`: each status bit is on exactly if its condition holds. `adapter_law`: each act keeps what
+//! holds of every adapter.
 #![tactic(auto)]
 
-ghost use Rattle.std.specs.Prelude.{◌≡◌, ◌≢◌, ◌≤◌, ◌<◌, ◌+◌, ◌*◌, ◌==◌, ◌++◌, ℕ, Bool, true, false, List, [], ◌∷◌, All, bit_and, if◌then◌else◌};
+ghost use Rattle.std.specs.Prelude.{◌≡◌, ◌≤◌, ◌<◌, ◌+◌, ◌==◌, ℕ, Bool, true, false, List, bit_and, if◌then◌else◌};
 ghost use Rattle.drive_registers.specs.Bits as bits;
 ghost use Rattle.hardware_table.specs.Drive.{DriveState, status, has_error, is_positioning, is_ready, on};
-ghost use Rattle.hardware_table.specs.Noise.{LiveNoise, IsAmong, noise_at, is_at, first_of, oldest, with_noise, after_strike, first_struck, is_spent};
-ghost use Rattle.hardware_table.specs.Adapter.{AdapterState, IsAdapter, IsLoaded, bytes_between, registers_used, next_window, step_bytes, new_adapter, loaded, started, stepped, completed};
+ghost use Rattle.hardware_table.specs.Adapter.{AdapterState, IsAdapter, IsLoaded, next_window, step_bytes, new_adapter, loaded, started, stepped, completed};
 
 use drive_registers::OffsetCode;
 pub use fire_code::Noise;
@@ -124,30 +122,6 @@ pub fn status_law()
     ensures valid { (d : DriveState) → bit_and (status d) bits.volume_valid ≡ on d.valid bits.volume_valid }
 {}
 
-/// The law of noise. At each sector noise stands in the order of its arming: noise that is armed there comes behind the
-/// noise that is live there already, if it is to live at all, and changes nothing at any other sector. The oldest noise
-/// of a sector decides; a strike uses it once, or ends it, and changes nothing else. No arming and no strike makes noise
-/// of another unit, of another block or of other places than the noise that was armed: what holds of the unit, the block
-/// and the places of all noise when it is armed always holds of live noise.
-pub fn noise_law()
-    ensures armed { (live : List LiveNoise) → (noise : LiveNoise) → (unit block : ℕ)
-        → noise_at unit block (with_noise noise live)
-        ≡ (if is_at unit block noise then noise_at unit block live ++ (if is_spent noise.span then [] else noise ∷ [])
-        else noise_at unit block live) }
-    ensures oldest { (live : List LiveNoise) → (unit block : ℕ)
-        → oldest unit block live ≡ first_of (noise_at unit block live) }
-    ensures struck { (live : List LiveNoise) → (unit block word : ℕ)
-        → noise_at unit block (after_strike unit block word live) ≡ first_struck word (noise_at unit block live) }
-    ensures other_unit { (live : List LiveNoise) → (unit block word other_unit other : ℕ) → other_unit ≢ unit
-        → noise_at other_unit other (after_strike unit block word live) ≡ noise_at other_unit other live }
-    ensures other_block { (live : List LiveNoise) → (unit block word other_unit other : ℕ) → other ≢ block
-        → noise_at other_unit other (after_strike unit block word live) ≡ noise_at other_unit other live }
-    ensures each_armed { (live : List LiveNoise) → (noise : LiveNoise)
-        → All (IsAmong (noise ∷ live)) (with_noise noise live) }
-    ensures each_struck { (live : List LiveNoise) → (unit block word : ℕ)
-        → All (IsAmong live) (after_strike unit block word live) }
-{}
-
 /// The law of adapters. A new adapter is sound, and each act that may be done keeps it sound. A transfer that was just
 /// loaded can be started. While a transfer is under way, at least one sector of it is left; that sector moves the bytes
 /// of its block of the buffer, and a clean step puts the completion up exactly if that sector is the last one.
@@ -168,14 +142,4 @@ pub fn adapter_law()
         → step_bytes a ≡ (if next_window a + 1 == a.blocks then a.last else 512) }
     ensures last { (a : AdapterState) → IsAdapter a → a.busy ≡ true → a.completion ≡ false
         → (stepped Moved.Clean a).completion ≡ (a.moved + 1 == a.count) }
-{}
-
-/// The law of whole blocks: if the last block of a buffer has all its 512 bytes, each block of a transfer has 512 bytes.
-/// A transfer then uses one map register for each block, and one more if it does not begin at the start of a frame.
-pub fn whole_blocks_law()
-    ensures bytes { (blocks skip count : ℕ) → bytes_between blocks 512 skip count ≡ 512 * count }
-    ensures registers { (count offset : ℕ) → offset < 512
-        → registers_used (512 * count) offset ≡ (if offset == 0 then count else count + 1) }
-    ensures step { (a : AdapterState) → IsAdapter a → a.busy ≡ true → a.completion ≡ false → a.last ≡ 512
-        → step_bytes a ≡ 512 }
 {}

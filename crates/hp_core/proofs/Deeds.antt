@@ -32,7 +32,6 @@ use Rattle.driver_machine.specs.World.{World, Held, unit_at, adapter_at, slot_at
 use Rattle.driver_machine.specs.Acts.{Of, Intr, Search, Do, Move, Pack, Dclr, Rtc, Ready, Repair, Forward, Continue, Try, scene_of}
 use Rattle.driver_machine.specs.Guards.{InHand, IsBusyFor, Allowed}
 use Rattle.driver_machine.specs.Sound.{Sound, Among, Once, IsShown, IsPhase, IsTask, IsBurstAt}
-use Rattle.driver_machine.specs.DueFacts.{IsDue, IsAtCommand, IsStep}
 use Rattle.driver_laws.proofs.invariant.Scene.{phase_is, due_of, job_is, block_below, segment_some}
 use Rattle.driver_laws.proofs.invariant.Frame.{scene_ok, held_is, own_held, adapter_of-small}
 use Rattle.driver_laws.proofs.invariant.DeedFacts.{transfer_at}
@@ -42,6 +41,7 @@ use Rattle.driver_laws.proofs.invariant.Move.{at_command}
 use Rattle.driver_laws.proofs.invariant.End.{calls_still}
 use Rattle.driver_laws.proofs.invariant.Continue.{continue_phase}
 use Rattle.hp_core.specs.Done.{HasUnit, HasHand}
+use Rattle.driver_machine.proofs.Dues.{IsAtCommand, IsDue, IsStep}
 
 -- HOW MANY numbers below n differ: at most n.
 apart_each : (x : ℕ) (xs : List ℕ) → (Among x xs → ⊥) → AllByRecursion (λ y. eqb x y ≡ false) xs

@@ -2,7 +2,7 @@
 ghost use Rattle.std.specs.Prelude.{◌≡◌, ◌<◌, ◌≤◌, ◌+◌, [], Contains, length, min, replicate, slice_set, IfOk, None};
 ghost use Rattle.hardware_table.specs.Noise.{empty_book};
 ghost use Rattle.driver_machine.specs.World.{Setup, no_unit, new_unit, new_adapter_view, set_up, new_world};
-ghost use Rattle.driver_laws.specs.invariant.Parts.{AreSetups};
+ghost use Rattle.driver_laws.specs.invariant.Setups.{AreSetups};
 ghost use Rattle.hp_units.specs.Setups.{setup_of, setups_of};
 
 use crate::driver::Core;

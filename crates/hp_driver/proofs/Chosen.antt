@@ -9,13 +9,13 @@ use Rattle.driver_machine.specs.Acts.{Of, Deed, Scene, effect, scene_of, after}
 use Rattle.driver_machine.specs.Due.{command_of}
 use Rattle.driver_machine.specs.Guards.{May, IsChosen, Allowed}
 use Rattle.driver_machine.specs.Sound.{Sound, is_waiting}
-use Rattle.driver_machine.specs.DueFacts.{IsDue}
 use Rattle.driver_machine.proofs.DueFacts.{chosen_facts, false_true}
 use Rattle.driver_machine.proofs.Until.{own_unit}
 use Rattle.driver_laws.proofs.invariant.Deeds.{in_hand_is}
 use Rattle.driver_machine.specs.Free.{needs_free}
 use Rattle.hp_driver.specs.Free.{IsFree}
 use Rattle.hp_driver.specs.Hand.{hand_at}
+use Rattle.driver_machine.proofs.Dues.{IsDue}
 
 not_queued : (phase : Phase) (task : Task) → phase ≡ Due task → phase ≡ Queued → ⊥
 not_queued phase task due queued = absurd (cc)

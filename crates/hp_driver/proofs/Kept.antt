@@ -15,7 +15,7 @@ use Rattle.driver_machine.specs.Acts.{Taken, after}
 use Rattle.driver_machine.specs.Events.{next_event}
 use Rattle.driver_machine.specs.Refusals.{refuses}
 use Rattle.driver_machine.specs.Sound.{Sound, AtWork, IsMade, IsGiven}
-use Rattle.driver_laws.specs.invariant.Parts.{AreSetups}
+use Rattle.driver_laws.specs.invariant.Setups.{AreSetups}
 use Rattle.driver_laws.proofs.invariant.SlotsLists.{Contains-first}
 use Rattle.driver_laws.proofs.invariant.Starts.{sound_new, rests_new}
 use Rattle.driver_machine.specs.Runs.{CanCome, NoneOutstanding}

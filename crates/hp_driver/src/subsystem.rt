@@ -12,7 +12,7 @@ ghost use Rattle.driver_machine.specs.Guards.{IsSetUp};
 ghost use Rattle.driver_machine.specs.Acts.{Taken, after};
 ghost use Rattle.driver_machine.specs.Events.{next_event};
 ghost use Rattle.driver_machine.specs.Sound.{Sound, AtWork};
-ghost use Rattle.driver_laws.specs.invariant.Parts.{AreSetups};
+ghost use Rattle.driver_laws.specs.invariant.Setups.{AreSetups};
 ghost use Rattle.driver_machine.specs.Runs.{NoneOutstanding};
 ghost use Rattle.driver_laws.specs.shown.QuietPasses.{AllFlip};
 ghost use Rattle.driver_laws.specs.shown.QuietPasses.{stop_in};

@@ -8,11 +8,10 @@ use Rattle.std.specs.List.{Contains, slice_get}
 use Rattle.std.specs.Prelude.{Some}
 use Rattle.main_memory.specs.Bytes.{front, with_part}
 use Rattle.main_memory.specs.declared.span.Span.{Span}
-use Rattle.main_memory.specs.Frames.{frames_needed}
 use Rattle.main_memory.specs.Blocks.{Loan, IsLoan, IsSpan, in_frame, in_next, size_at, place_in, span_of, bytes_in, with_bytes_in, blocks_from}
 use Rattle.main_memory.specs.Memory.{Memory, IsLent, AreApart, with_block, blocks_of}
 use Rattle.main_memory.proofs.FrameLaws.{by_test}
-use Rattle.main_memory.proofs.ByteLaws.{Fits, with_part-none, length-front, Outside, length-joined, length-spread, joined-spread, joined-spread_other, joined_first, joined_second, set_first, set_second}
+use Rattle.main_memory.proofs.ByteLaws.{Fits, with_part-none, length-front, Outside, length-joined, length-spread, joined-spread, joined-spread_other, joined_first, joined_second}
 use Rattle.main_memory.proofs.LendLaws.{contains_at}
 
 -- two spans that share no byte of memory: their frames differ, but that one may end in a frame where the other begins
@@ -121,15 +120,6 @@ size_some loan k is = by_size loan k (λ last e. omega (arith, e, is.shape.last_
 
 pub size_few : (loan : Loan) (k : ℕ) → IsLoan loan → size_at loan k ≤ 512
 size_few loan k is = by_size loan k (λ last e. omega (arith, e, is.shape.last_few)) (λ other e. omega (arith, e))
-
-pub size_whole : (loan : Loan) (k : ℕ) → loan.last ≡ 512 → size_at loan k ≡ 512
-size_whole loan k whole = by_size loan k (λ last e. e ∙ whole) (λ other e. e)
-
-pub frames_whole : (count offset : ℕ) → 1 ≤ count → offset < 512 → frames_needed count offset 512 ≡ (if offset == 0 then count else count + 1)
-frames_whole count offset some inside =
-    by_test (offset == 0)
-    (λ start. let e : offset ≡ 0 = eqb-true _ _ start in rw start (omega arith))
-    (λ other. let ne : offset ≢ 0 = eqb-false _ _ other in rw other (omega arith))
 
 pub length-front_of : (loan : Loan) (k : ℕ) (block : List ℕ) → IsLoan loan → length block ≡ 512 → length (front (size_at loan k) block) ≡ size_at loan k
 length-front_of loan k block is whole = length-front (size_at loan k) block (omega (arith, size_few loan k is))
@@ -269,17 +259,3 @@ get_or-bytes_in span bytes at is size inside =
     ap (λ (b : Bool). get_or bytes (if b then 512 * span.frame + span.offset + at else 512 * span.next + (at - (512 - span.offset))) 0) second
     ∙ ap (λ (n : ℕ). get_or bytes (512 * span.next + (at - n)) 0) whole
     ∙ sym (joined_second (512 * span.frame + span.offset) (in_frame span) (512 * span.next) (in_next span) bytes (fits_span span _ is size) at (omega arith) (omega arith)))
-
-pub set-bytes_in : (span : Span) (bytes : List ℕ) (at byte : ℕ) → IsSpan span → length bytes ≡ 8388608 → at < span.len
-    → set bytes (place_in span at) byte ≡ with_bytes_in span (set (bytes_in span bytes) at byte) bytes
-unfolding bytes_in with_bytes_in
-set-bytes_in span bytes at byte is size inside =
-    by_test (nat_lt at (512 - span.offset))
-    (λ first. let lt : at < 512 - span.offset = ltb-true _ _ first in
-    ap (λ (b : Bool). set bytes (if b then 512 * span.frame + span.offset + at else 512 * span.next + (at - (512 - span.offset))) byte) first
-    ∙ set_first (512 * span.frame + span.offset) (in_frame span) (512 * span.next) (in_next span) bytes (fits_span span _ is size) at byte (omega arith))
-    (λ second. let ge : 512 - span.offset ≤ at = ltb-false _ _ second in
-    let whole : 512 - span.offset ≡ in_frame span = omega arith in
-    ap (λ (b : Bool). set bytes (if b then 512 * span.frame + span.offset + at else 512 * span.next + (at - (512 - span.offset))) byte) second
-    ∙ ap (λ (n : ℕ). set bytes (512 * span.next + (at - n)) byte) whole
-    ∙ set_second (512 * span.frame + span.offset) (in_frame span) (512 * span.next) (in_next span) bytes (fits_span span _ is size) at byte (omega arith) (omega arith))

@@ -1,11 +1,11 @@
 -- Laws of parts of bytes, and of two parts read and written as one.
-use Rattle.std.proofs.Common.{◌≡◌, ◌≢◌, ◌⊎◌, inl, inr, ℕ, ◌+◌, ◌-◌, ◌<◌, ◌≤◌, ◌==◌, nat_lt, List, [], ◌++◌, take, drop, length, get_or, sym, ap, ◌∙◌, arith}
-use Rattle.std.proofs.Common.{get_or-set_same, get_or-set_other}
-use Rattle.std.proofs.Math.ListN.{set, length-set, replicate}
-use Rattle.std.proofs.lemmas.Bool.{ltb-true, ltb-false, eqb-true, eqb-false}
+use Rattle.std.proofs.Common.{◌≡◌, ◌⊎◌, inl, inr, ℕ, ◌+◌, ◌-◌, ◌<◌, ◌≤◌, nat_lt, List, [], ◌++◌, take, drop, length, get_or, sym, ap, ◌∙◌, arith}
+use Rattle.std.proofs.Math.ListN.{set, replicate}
+use Rattle.std.proofs.Math.Seq.{take-set-lt}
+use Rattle.std.proofs.lemmas.Bool.{ltb-true, ltb-false}
 use Rattle.std.proofs.lemmas.Grind.{common_steps, same_number_lists}
 use Rattle.std.proofs.lemmas.List.{get_or-take, get_or-drop, get_or_append_left, get_or-append_right, length-replicate}
-use Rattle.std.proofs.Common.{length-append, append-nil}
+use Rattle.std.proofs.Common.{length-append}
 use Rattle.main_memory.specs.Bytes.{part, with_part, front, filled}
 use Rattle.main_memory.proofs.FrameLaws.{by_test}
 
@@ -33,10 +33,6 @@ pub front-whole : (size : ℕ) (bytes : List ℕ) → length bytes ≡ size → 
 unfolding front
 front-whole size bytes whole = grind (arith, common_steps)
 
-pub filled-whole : (size : ℕ) (bytes : List ℕ) → length bytes ≡ size → filled size bytes ≡ bytes
-unfolding filled
-filled-whole size bytes whole = let none : size - length bytes ≡ 0 = omega arith in rw none (append-nil bytes)
-
 pub length-filled : (size : ℕ) (bytes : List ℕ) → length bytes ≤ size → length (filled size bytes) ≡ size
 unfolding filled
 length-filled size bytes fits = omega (arith, length-append bytes (replicate (size - length bytes) 0), length-replicate {A = ℕ} (size - length bytes) 0)
@@ -44,6 +40,11 @@ length-filled size bytes fits = omega (arith, length-append bytes (replicate (si
 pub front-filled : (size len : ℕ) (bytes : List ℕ) → length bytes ≡ len → front len (filled size bytes) ≡ bytes
 unfolding front filled
 front-filled size len bytes is = grind (arith, common_steps)
+
+-- one of the first bytes set, where the others were filled up
+pub front-set : (size len at byte : ℕ) (bytes : List ℕ) → length bytes ≡ len → at < len → front len (set (filled size bytes) at byte) ≡ set bytes at byte
+unfolding front
+front-set size len at byte bytes is inside = take-set-lt len (filled size bytes) at byte inside ∙ ap (λ (xs : List ℕ). set xs at byte) (front-filled size len bytes is)
 
 three_before : (xs ys zs : List ℕ) (i : ℕ) → i < length xs → get_or (xs ++ (ys ++ zs)) i 0 ≡ get_or xs i 0
 three_before xs ys zs i h = grind (arith, common_steps)
@@ -92,23 +93,6 @@ pub record Fits (a s c o n : ℕ) : Type 0 where
   pub first : a + s ≤ n
   pub second : c + o ≤ n
   pub apart : 0 < o → (a + s ≤ c) ⊎ (c + o ≤ a)
-
-not_second : {X : Type 0} → (i a s c o : ℕ) → Outside i c o → (Outside i c o → a ≤ i → i < a + s → X) → (Outside i c o → Outside i a s → X) → X
-not_second i a s c o out first outside =
-    by_test (nat_lt i a)
-    (λ below. outside out (inl (ltb-true _ _ below)))
-    (λ above. by_test (nat_lt i (a + s))
-    (λ inside. first out (ltb-false _ _ above) (ltb-true _ _ inside))
-    (λ past. outside out (inr (ltb-false _ _ past))))
-
--- a value for each of three places: in the second part, in the first or in neither
-pub by_place : {X : Type 0} → (i a s c o : ℕ) → (c ≤ i → i < c + o → X) → (Outside i c o → a ≤ i → i < a + s → X) → (Outside i c o → Outside i a s → X) → X
-by_place i a s c o second first outside =
-    by_test (nat_lt i c)
-    (λ below. not_second i a s c o (inl (ltb-true _ _ below)) first outside)
-    (λ above. by_test (nat_lt i (c + o))
-    (λ inside. second (ltb-false _ _ above) (ltb-true _ _ inside))
-    (λ past. not_second i a s c o (inr (ltb-false _ _ past)) first outside))
 
 module _ (a s c o : ℕ) (block bytes : List ℕ) (whole : length block ≡ s + o) (fits : Fits a s c o (length bytes)) where
   length_first : length (take s block) ≡ s
@@ -218,65 +202,3 @@ module _ (a s c o : ℕ) (block bytes : List ℕ) (whole : length block ≡ s + 
       joined_second a' s' c' o' all there k low high
       ∙ spread_outside a s c o block bytes whole fits (c' + (k - s')) (second (k - s') inside).1 (second (k - s') inside).0
       ∙ sym (joined_second a' s' c' o' bytes others k low high)))
-
-module _ (a s c o : ℕ) (bytes : List ℕ) (fits : Fits a s c o (length bytes)) (at byte : ℕ) where
-  changed_whole : length (set (joined a s c o bytes) at byte) ≡ s + o
-  changed_whole = length-set (joined a s c o bytes) at byte ∙ length-joined a s c o bytes fits
-
-  same_second : (i : ℕ) → c ≤ i → i < c + o → at ≢ s + (i - c) → get_or (set (joined a s c o bytes) at byte) (s + (i - c)) 0 ≡ get_or bytes i 0
-  same_second i low high ne =
-      let back : c + ((s + (i - c)) - s) ≡ i = omega arith in
-      get_or-set_other (joined a s c o bytes) at (s + (i - c)) byte 0 (λ e. ne (sym e))
-      ∙ joined_second a s c o bytes fits (s + (i - c)) (omega arith) (omega arith) ∙ ap (λ (j : ℕ). get_or bytes j 0) back
-
-  same_first : (i : ℕ) → a ≤ i → i < a + s → at ≢ i - a → get_or (set (joined a s c o bytes) at byte) (i - a) 0 ≡ get_or bytes i 0
-  same_first i low high ne =
-      let back : a + (i - a) ≡ i = omega arith in
-      get_or-set_other (joined a s c o bytes) at (i - a) byte 0 (λ e. ne (sym e))
-      ∙ joined_first a s c o bytes fits (i - a) (omega arith) ∙ ap (λ (j : ℕ). get_or bytes j 0) back
-
-  here_is : at < s + o → get_or (set (joined a s c o bytes) at byte) at 0 ≡ byte
-  here_is inside = get_or-set_same (joined a s c o bytes) at byte 0 (omega (arith, length-joined a s c o bytes fits))
-
-  -- one byte written in the first part
-  pub set_first : at < s → set bytes (a + at) byte ≡ spread a s c o (set (joined a s c o bytes) at byte) bytes
-  set_first small =
-      let place : ℕ = a + at in
-      let out : Outside place c o = out_of a s c o at fits.apart small in
-      let len : length (set bytes place byte) ≡ length (spread a s c o (set (joined a s c o bytes) at byte) bytes) =
-      length-set bytes place byte ∙ sym (length-spread a s c o (set (joined a s c o bytes) at byte) bytes changed_whole fits) in
-      same_number_lists _ _ len (λ i h.
-      by_test (i == place)
-      (λ same. let e : i ≡ place = eqb-true _ _ same in
-      let back : (a + at) - a ≡ at = omega arith in
-      ap (λ (j : ℕ). get_or (set bytes place byte) j 0) e ∙ get_or-set_same bytes place byte 0 (omega (arith, fits.first))
-      ∙ sym (ap (λ (j : ℕ). get_or (spread a s c o (set (joined a s c o bytes) at byte) bytes) j 0) e
-      ∙ spread_first a s c o (set (joined a s c o bytes) at byte) bytes changed_whole fits place out (omega arith) (omega arith)
-      ∙ ap (λ (j : ℕ). get_or (set (joined a s c o bytes) at byte) j 0) back ∙ here_is (omega arith)))
-      (λ other. let ne : i ≢ place = eqb-false _ _ other in
-      get_or-set_other bytes place i byte 0 ne
-      ∙ sym (by_place i a s c o
-      (λ low high. spread_second a s c o (set (joined a s c o bytes) at byte) bytes changed_whole fits i low high ∙ same_second i low high (λ e. omega arith))
-      (λ out_c low high. spread_first a s c o (set (joined a s c o bytes) at byte) bytes changed_whole fits i out_c low high ∙ same_first i low high (λ e. ne (omega arith)))
-      (λ out_c out_a. spread_outside a s c o (set (joined a s c o bytes) at byte) bytes changed_whole fits i out_c out_a))))
-
-  -- one byte written in the second part
-  pub set_second : s ≤ at → at < s + o → set bytes (c + (at - s)) byte ≡ spread a s c o (set (joined a s c o bytes) at byte) bytes
-  set_second low_at high_at =
-      let place : ℕ = c + (at - s) in
-      let len : length (set bytes place byte) ≡ length (spread a s c o (set (joined a s c o bytes) at byte) bytes) =
-      length-set bytes place byte ∙ sym (length-spread a s c o (set (joined a s c o bytes) at byte) bytes changed_whole fits) in
-      same_number_lists _ _ len (λ i h.
-      by_test (i == place)
-      (λ same. let e : i ≡ place = eqb-true _ _ same in
-      let back : s + ((c + (at - s)) - c) ≡ at = omega arith in
-      ap (λ (j : ℕ). get_or (set bytes place byte) j 0) e ∙ get_or-set_same bytes place byte 0 (omega (arith, fits.second))
-      ∙ sym (ap (λ (j : ℕ). get_or (spread a s c o (set (joined a s c o bytes) at byte) bytes) j 0) e
-      ∙ spread_second a s c o (set (joined a s c o bytes) at byte) bytes changed_whole fits place (omega arith) (omega arith)
-      ∙ ap (λ (j : ℕ). get_or (set (joined a s c o bytes) at byte) j 0) back ∙ here_is high_at))
-      (λ other. let ne : i ≢ place = eqb-false _ _ other in
-      get_or-set_other bytes place i byte 0 ne
-      ∙ sym (by_place i a s c o
-      (λ low high. spread_second a s c o (set (joined a s c o bytes) at byte) bytes changed_whole fits i low high ∙ same_second i low high (λ e. ne (omega arith)))
-      (λ out_c low high. spread_first a s c o (set (joined a s c o bytes) at byte) bytes changed_whole fits i out_c low high ∙ same_first i low high (λ e. omega arith))
-      (λ out_c out_a. spread_outside a s c o (set (joined a s c o bytes) at byte) bytes changed_whole fits i out_c out_a))))

@@ -1,9 +1,8 @@
 -- Bytes of which a front is held, and the others are zeros.
-use Rattle.std.proofs.Common.{◌≡◌, ◌≢◌, ℕ, ◌+◌, ◌-◌, ◌<◌, ◌≤◌, ◌==◌, nat_lt, List, ◌++◌, length, get_or, refl, sym, ap, ◌∙◌, arith, length-append}
-use Rattle.std.proofs.Common.{get_or-set_same, get_or-set_other}
+use Rattle.std.proofs.Common.{◌≡◌, ℕ, ◌+◌, ◌-◌, ◌<◌, ◌≤◌, nat_lt, List, ◌++◌, length, get_or, refl, sym, ap, ◌∙◌, arith, length-append}
 use Rattle.std.specs.Prelude.{min}
-use Rattle.std.proofs.Math.ListN.{set, length-set, replicate}
-use Rattle.std.proofs.lemmas.Bool.{ltb-true, ltb-false, eqb-true, eqb-false}
+use Rattle.std.proofs.Math.ListN.{replicate}
+use Rattle.std.proofs.lemmas.Bool.{ltb-true, ltb-false}
 use Rattle.std.proofs.lemmas.Grind.{same_number_lists}
 use Rattle.std.proofs.lemmas.List.{get_or_past, get_or_append_left, get_or-append_right, length-replicate, get_or-replicate}
 use Rattle.main_memory.specs.Bytes.{part, with_part, filled}
@@ -75,25 +74,6 @@ module _ (n at : ℕ) (new held : List ℕ) (inside : length held ≤ n) (fits :
       (λ from. by_test (nat_lt i (at + length new))
       (λ in_it. same_inside i (ltb-false _ _ from) (ltb-true _ _ in_it))
       (λ past. same_after i (ltb-false _ _ past))))
-
--- one byte written
-module _ (n at byte : ℕ) (held : List ℕ) (inside : length held ≤ n) (fits : at + 1 ≤ n) where
-  pub length-set_in : length (set (filled (at + 1) held) at byte) ≤ n
-  length-set_in = omega (arith, length-set (filled (at + 1) held) at byte, length-filled_more (at + 1) n held fits inside)
-
-  pub set_is : filled n (set (filled (at + 1) held) at byte) ≡ set (filled n held) at byte
-  set_is =
-      let longer : List ℕ = filled (at + 1) held in
-      let len : length (filled n (set longer at byte)) ≡ length (set (filled n held) at byte) =
-      length-filled n (set longer at byte) length-set_in ∙ sym (length-set (filled n held) at byte ∙ length-filled n held inside) in
-      same_number_lists _ _ len (λ i h. filled_at n (set longer at byte) i
-      ∙ by_test (i == at)
-      (λ same. let e : i ≡ at = eqb-true _ _ same in
-      ap (λ (j : ℕ). get_or (set longer at byte) j 0) e ∙ get_or-set_same longer at byte 0 (omega (arith, reaches (at + 1) held))
-      ∙ sym (ap (λ (j : ℕ). get_or (set (filled n held) at byte) j 0) e ∙ get_or-set_same (filled n held) at byte 0 (omega (arith, length-filled n held inside))))
-      (λ other. let ne : i ≢ at = eqb-false _ _ other in
-      get_or-set_other longer at i byte 0 ne ∙ filled_at (at + 1) held i
-      ∙ sym (get_or-set_other (filled n held) at i byte 0 ne ∙ filled_at n held i)))
 
 -- what is read: the bytes that are held, and then zeros
 module _ (n at size first there : ℕ) (held : List ℕ) (inside : length held ≤ n) (fits : at + size ≤ n) (from : first ≡ min at (length held)) (are : there ≡ min size (length held - first)) where

@@ -111,14 +111,7 @@ pub fn to_bus(buffer: Buffer<Cpu>) -> Buffer<Bus>
     ensures same { result ≡ buffer }
     ensures shape { IsLoan buffer }
 {
-    let Buffer {
-        frames,
-        offset,
-        count,
-        last,
-        state: _,
-    } = buffer;
-    Buffer::<Bus>::of(frames, offset, count, last)
+    Buffer::of(buffer.frames, buffer.offset, buffer.count, buffer.last)
 }
 
 /// Hands a buffer back to the driver.
@@ -126,14 +119,7 @@ pub fn to_cpu(buffer: Buffer<Bus>) -> Buffer<Cpu>
     ensures same { result ≡ buffer }
     ensures shape { IsLoan buffer }
 {
-    let Buffer {
-        frames,
-        offset,
-        count,
-        last,
-        state: _,
-    } = buffer;
-    Buffer::<Cpu>::of(frames, offset, count, last)
+    Buffer::of(buffer.frames, buffer.offset, buffer.count, buffer.last)
 }
 
 /// The frames of a buffer, in order.

@@ -1,8 +1,8 @@
 // The memory's bytes, and reads and writes of parts of them.
-ghost use Rattle.std.specs.Prelude.{ℕ, ◌≡◌, ◌≤◌, ◌<◌, ◌+◌, ◌^◌, length, IfOk, slice_index, slice_set, vec_len, vec_capacity};
+ghost use Rattle.std.specs.Prelude.{ℕ, ◌≡◌, ◌≤◌, ◌<◌, ◌+◌, ◌^◌, length, IfOk, slice_index, vec_len, vec_capacity};
 ghost use Rattle.main_memory.specs.Bytes.{part, with_part, filled};
 
-use crate::size::FRAMES;
+use crate::memory::FRAMES;
 use std::alloc::{AllocError, Global};
 use std::marker::Model;
 
@@ -60,17 +60,6 @@ fn put_held(held: &mut Vec<u8>, at: usize, from: &[u8])
     put_inside(held.as_mut_slice(), at, from);
 }
 
-// Writes a byte at a place for which room is reserved, and extends the held bytes up to it.
-fn set_held(held: &mut Vec<u8>, place: usize, byte: u8)
-    requires fits { place + 1 < 2 ^ 64 }
-    requires room { place + 1 ≤ vec_capacity held.old }
-    ensures items { held.new.items ≡ slice_set (filled (place + 1) held.old.items) place byte }
-    ensures capacity { vec_capacity held.old ≤ vec_capacity held.new }
-{
-    grow(held, place + 1);
-    held[place] = byte;
-}
-
 // Reads bytes from a place on. There are at least this many before the end.
 fn get_inside(bytes: &[u8], at: usize, into: &mut [u8])
     requires { at + length into.old ≤ length bytes.now }
@@ -119,23 +108,5 @@ impl Bytes {
         ensures size { length self.now ≡ 8388608 }
     {
         get_filled(self.held.as_slice(), at, into);
-    }
-
-    // The byte at a place.
-    pub(crate) fn byte_at(&self, place: usize) -> u8
-        requires { place < 8388608 }
-        ensures byte { result ≡ slice_index self.now place }
-        ensures size { length self.now ≡ 8388608 }
-    {
-        self.held.get(place).copied().unwrap_or(0)
-    }
-
-    // Writes the byte at a place.
-    pub(crate) fn set_byte(&mut self, place: usize, byte: u8)
-        requires { place < 8388608 }
-        ensures bytes { self.new ≡ slice_set self.old place byte }
-        ensures size { length self.old ≡ 8388608 }
-    {
-        set_held(&mut self.held, place, byte);
     }
 }

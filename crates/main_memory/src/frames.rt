@@ -1,9 +1,9 @@
 // The bytes of all frames, and for each frame the byte that fills it, if that is known.
-ghost use Rattle.std.specs.Prelude.{◌≡◌, ◌≤◌, ◌<◌, ◌+◌, ◌*◌, ◌↔◌, ℕ, length, IfOk, IfSome, IsTrue, slice_index, slice_index_or, slice_set, Some, None};
+ghost use Rattle.std.specs.Prelude.{◌≡◌, ◌≤◌, ◌<◌, ◌+◌, ◌*◌, ◌↔◌, ℕ, length, IfOk, IfSome, IsTrue, slice_index, slice_index_or, Some, None};
 ghost use Rattle.main_memory.specs.Bytes.{part, with_part, IsFill};
 
 use crate::bytes::Bytes;
-use crate::size::FRAMES;
+use crate::memory::FRAMES;
 use std::alloc::{AllocError, Global};
 use std::marker::Model;
 
@@ -135,24 +135,5 @@ impl Frames {
         ensures size { length self.now ≡ 8388608 }
     {
         self.fills[frame]
-    }
-
-    // The byte at a place.
-    pub(crate) fn byte_at(&self, place: usize) -> u8
-        requires { place < 8388608 }
-        ensures byte { result ≡ slice_index self.now place }
-        ensures size { length self.now ≡ 8388608 }
-    {
-        self.bytes.byte_at(place)
-    }
-
-    // Writes the byte at a place.
-    pub(crate) fn set_byte(&mut self, place: usize, byte: u8)
-        requires { place < 8388608 }
-        ensures bytes { self.new ≡ slice_set self.old place byte }
-        ensures size { length self.old ≡ 8388608 }
-    {
-        self.fills[place / 512] = None;
-        self.bytes.set_byte(place, byte);
     }
 }

@@ -1,5 +1,5 @@
 // The memory itself: frames lent and given back, and blocks stored and fetched.
-ghost use Rattle.std.specs.Prelude.{◌≡◌, ◌≤◌, ◌<◌, ◌+◌, ◌↔◌, IfOk, OnOk, IfErr, OnErr, IsErr, IsSomeAnd, IfSome, slice_get, slice_index, length, take, drop, slice_set};
+ghost use Rattle.std.specs.Prelude.{◌≡◌, ◌<◌, ◌+◌, ◌↔◌, IfOk, OnOk, IfErr, OnErr, IsErr, IsSomeAnd, IfSome, slice_get, length, take, drop, slice_set};
 ghost use Rattle.main_memory.specs.Frames.{all_frames, frames_needed, with_frames};
 ghost use Rattle.main_memory.specs.Bytes.{front, filled, IsFill};
 ghost use Rattle.main_memory.specs.Blocks.{Loan, IsShape, IsLoan, IsSpan, size_at, span_of, bytes_in};
@@ -8,7 +8,6 @@ ghost use Rattle.main_memory.specs.Memory.{IsMemory, IsLent, AreApart, with_bloc
 use crate::bits::{give_frames, take_frames};
 use crate::buffer::{Buffer, Cpu, frames_of};
 use crate::frames::Frames;
-use crate::size::FRAMES;
 use crate::span::{Span, fill_span, read_filled, write_front};
 use no_memory::NoMemory;
 use std::alloc::Global;
@@ -22,6 +21,9 @@ pub struct NoFrames {
     /// How many frames are free.
     pub free: u32,
 }
+
+/// How many frames of 512 bytes the memory has.
+pub const FRAMES: u32 = 16_384;
 
 /// 16,384 frames of 512 bytes. Each frame is free or lent.
 #[derive(Drop)]
@@ -152,23 +154,5 @@ impl MainMemory {
         ensures size { length self.now.bytes ≡ 8388608 }
     {
         read_filled(&self.bytes, span, into);
-    }
-
-    // The byte at a place.
-    pub(crate) fn byte_at(&self, place: usize) -> u8
-        requires { place < 8388608 }
-        ensures byte { result ≡ slice_index self.now.bytes place }
-        ensures size { length self.now.bytes ≡ 8388608 }
-    {
-        self.bytes.byte_at(place)
-    }
-
-    // Writes the byte at a place.
-    pub(crate) fn set_byte(&mut self, place: usize, byte: u8)
-        requires { place < 8388608 }
-        ensures memory { self.new ≡ record self.old { bytes = slice_set self.old.bytes place byte } }
-        ensures size { length self.old.bytes ≡ 8388608 }
-    {
-        self.bytes.set_byte(place, byte);
     }
 }

@@ -1,7 +1,7 @@
 // Where a block of a buffer lies in memory.
-ghost use Rattle.std.specs.Prelude.{◌≡◌, ◌<◌, ◌≤◌, length, IfSome};
+ghost use Rattle.std.specs.Prelude.{◌≡◌, ◌≤◌, length, IfSome};
 ghost use Rattle.main_memory.specs.Bytes.{front, filled, IsFill};
-ghost use Rattle.main_memory.specs.Blocks.{IsSpan, in_frame, place_in, bytes_in, with_bytes_in};
+ghost use Rattle.main_memory.specs.Blocks.{IsSpan, in_frame, bytes_in, with_bytes_in};
 
 use crate::frames::Frames;
 
@@ -21,21 +21,6 @@ fn len_in_frame(span: Span) -> usize
     ensures inside { result ≤ span.len }
 {
     span.len.min(512 - span.offset)
-}
-
-// The place of byte `at` of the span.
-pub fn place(span: Span, at: usize) -> usize
-    requires span { IsSpan span }
-    requires inside { at < span.len }
-    ensures place { result ≡ place_in span at }
-    ensures small { result < 8388608 }
-{
-    let first = 512 - span.offset;
-    if at < first {
-        512 * span.frame + span.offset + at
-    } else {
-        512 * span.next + (at - first)
-    }
 }
 
 // Writes the bytes of the span.

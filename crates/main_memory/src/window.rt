@@ -6,7 +6,7 @@ ghost use Rattle.main_memory.specs.Memory.{IsLent};
 
 use crate::buffer::{Buffer, Bus};
 use crate::memory::MainMemory;
-use crate::span::{Span, place};
+use crate::span::Span;
 
 /// Block `k` of a buffer as bytes of main memory, in one frame or two. It has 512 bytes, except that the last block has
 /// only as many as the buffer has of it. A write through the window changes that block and no other byte of the memory.
@@ -71,7 +71,9 @@ impl<'a> Window<'a> {
         ensures byte { result ≡ slice_index (window_bytes self.now) at }
         ensures whole { length (memory_of self.now).bytes ≡ 8388608 }
     {
-        self.memory.byte_at(place(self.span, at as usize))
+        let mut bytes = [0; 512];
+        self.copy_out(&mut bytes);
+        bytes[at as usize]
     }
 
     /// Sets byte `at` of the block. `at` is below the window's `len`.
@@ -81,6 +83,9 @@ impl<'a> Window<'a> {
         ensures writes { Writes self.old self.new (slice_set (window_bytes self.old) at byte) }
         ensures bytes { window_bytes self.new ≡ slice_set (window_bytes self.old) at byte }
     {
-        self.memory.set_byte(place(self.span, at as usize), byte);
+        let mut bytes = [0; 512];
+        self.copy_out(&mut bytes);
+        bytes[at as usize] = byte;
+        self.copy_in(&bytes);
     }
 }

@@ -10,9 +10,7 @@
 #![tactic(auto)]
 
 mod adapter;
-mod laws;
 mod map;
 
 pub use adapter::{Adapter, Ended};
 pub use drive_model::{Drive, Moved, NoiseBook};
-pub use laws::transfer_law;

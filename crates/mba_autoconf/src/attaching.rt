@@ -1,22 +1,17 @@
 //! Attaching a drive.
 ghost use Rattle.std.specs.Prelude.{◌≡◌, ◌<◌, ◌≤◌, true, IfOk, IfErr, IfSome, IsErrOf, IsTrue};
-ghost use Rattle.hardware_table.specs.declared.Register.TheVariants.{Dt};
-ghost use Rattle.hardware_table.specs.Drive.{DriveState, is_ready, register_of};
+ghost use Rattle.hardware_table.specs.Drive.{is_ready};
 ghost use Rattle.hardware_table.specs.Functions.{attached};
 ghost use Rattle.pack_geometry.specs.declared.DriveKind.{DriveKind};
-ghost use Rattle.pack_geometry.specs.Pack.{Pack};
-ghost use Rattle.pack_geometry.specs.PackTable.{HaveSameCopies};
 ghost use Rattle.pack_geometry.specs.TableSpelling.{IsTable};
 ghost use Rattle.outside_traits.specs.Causes.{Rose};
 ghost use Rattle.mba_autoconf.specs.declared.attaching.Attached.{Attached};
-ghost use Rattle.mba_autoconf.specs.Probe.{nine_bits, type_code};
 ghost use Rattle.mba_autoconf.specs.Attach.{Answers, IsAttaching, IsLong};
 
 use crate::probing::kind_of_drive;
 use bad144_table::{BadTable, entries, table_of};
 use drive_model::Drive;
 use outside_traits::traits::{Packs, StoreFailed};
-use pack_geometry::packs::pack_table_law;
 use pack_geometry::{DriveKind, blocks};
 use thiserror::Error;
 
@@ -90,17 +85,4 @@ pub fn attach<P: Packs>(drive: &mut Drive, packs: &mut P, unit: u8) -> Result<At
     let table = table_of(packs, unit, kind)?;
     valid_law(&table);
     Ok(Attached { kind, table })
-}
-
-/// The law of attaching: the type register of a drive names its kind. Attaching leaves a drive with PACK as its last
-/// function, the address 0, the 16-bit format without an offset and a valid volume, and changes nothing else of it. Packs
-/// with the same copies give the same table, whatever else they hold, so a pack has one answer.
-pub fn attach_law()
-    ensures kind { (d : DriveState) → nine_bits (register_of Dt d) ≡ type_code d.kind }
-    ensures drive { (d : DriveState) → attached d
-        ≡ record d { cs1 = 0o22; dc = 0; da = 0; offset = 0o10000; valid = true } }
-    ensures same_table { (kind : DriveKind) → (pack other : Pack) → (found again : Attached) → HaveSameCopies kind pack other
-        → Answers kind pack (Ok found) → Answers kind other (Ok again) → found.table ≡ again.table }
-{
-    pack_table_law();
 }

@@ -3,8 +3,7 @@
 //!
 //! What is proved: `probe` is exact on nine bits of the type register, for three kinds. `attach` leaves the drive with
 //! its volume valid, no offset and the 16-bit format, and gives the table of the pack; TooLong comes exactly if the image
-//! is longer than the pack, and Store only if the packs' count of faults rose; the packs stay as they are. `attach_law`:
-//! the type register names the kind, and packs with the same copies give the same table.
+//! is longer than the pack, and Store only if the packs' count of faults rose; the packs stay as they are.
 //!
 //! Only tested, in `drive_rows`: worked values, beside their proofs.
 #![tactic(auto)]
@@ -12,5 +11,5 @@
 mod attaching;
 mod probing;
 
-pub use attaching::{AttachFault, Attached, attach, attach_law};
+pub use attaching::{AttachFault, Attached, attach};
 pub use probing::{ProbeFault, probe};

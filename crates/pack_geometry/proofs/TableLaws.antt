@@ -273,6 +273,3 @@ spells_once bytes t u st su kind =
     same_table t u kind (sym (spelled_serial bytes t st) ∙ spelled_serial bytes u su)
     (same_lists t.places u.places long
     (λ k d small. sym (spelled_place bytes t k d st small) ∙ spelled_place bytes u k d su (omega arith)))
-
-pub length-spelled : (bytes : List ℕ) (table : Table) → Spells bytes table → length bytes ≡ 512
-length-spelled bytes table spelled = rw spelled.text (length-table_text table.serial table.places spelled.valid.room)

@@ -51,8 +51,3 @@ content_at (Some kind) table pack block = content_of kind table pack block
 -- the contents of all units, by the drives that are declared and the tables of their packs
 abbrev pub contents_of : (ℕ → Option DriveKind) → (ℕ → Option Table) → (ℕ → Pack) → ℕ → ℕ → Option (List ℕ)
 contents_of drives tables packs unit block = content_at (drives unit) (tables unit) (packs unit) block
-
--- contents with those of one block of one unit replaced
-abbrev pub with_content : (ℕ → ℕ → Option (List ℕ)) → ℕ → ℕ → List ℕ → ℕ → ℕ → Option (List ℕ)
-with_content contents unit block bytes other_unit other =
-    if (other_unit == unit) && (other == block) then Some bytes else contents other_unit other

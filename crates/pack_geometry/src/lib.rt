@@ -1,18 +1,25 @@
-//! The sizes of the drives and the places of their blocks, as the manuals of the RP06, RM03 and RM05 give them.
+//! The sizes of the drives and the places of their blocks, as the manuals of the RP06, RM03 and RM05 give them; and what a
+//! pack holds, as the contracts of all crates see it.
+//!
+//! Defined in `specs/`: packs, as the bytes of their images and their marks; the spelling of a bad-sector table; the table
+//! of a pack, as its five copies give it; the home and the content of each data block; and the edit of a table.
 //!
 //! What is proved: `geometry_of`, `blocks` and `data_limit` give the numbers of the RP06, RM03 and RM05; `sector_word` is
 //! `track * 256 + sector`. `place_of` and `block_of` are exact and inverse inside the geometry (`place_law`); data
-//! blocks, replacements and table copies lie apart, in this order (`apart_law`); `kind_of` is exact.
+//! blocks, replacements and table copies lie apart, in this order (`apart_law`); `kind_of` is exact. `table_edit_law`: the
+//! writes that list a block leave the content of every other data block as it was.
 //!
-//! Only tested, in `drive_rows`: worked values, beside their proofs.
+//! Only tested, in `drive_rows` and `hpsim_rows`: worked values, beside their proofs.
 #![tactic(auto)]
 
-pub mod packs;
-
-ghost use Rattle.std.specs.Prelude.{◌≡◌, ◌≢◌, ◌<◌, ◌≤◌, ◌-◌, ◌↔◌, ℕ, IfNone, SomeIff};
+ghost use Rattle.std.specs.Prelude.{◌≡◌, ◌≢◌, ◌<◌, ◌≤◌, ◌-◌, ◌↔◌, ℕ, true, false, IfNone, Some, SomeIff};
 ghost use Rattle.pack_geometry.specs.declared.DriveKind.{DriveKind};
 ghost use Rattle.pack_geometry.specs.declared.Place.{Place};
 ghost use Rattle.pack_geometry.specs.Geometry.{cylinders_of, tracks_of, sectors_of, block_count, limit_of, IsInside, block_number, place_at, copy_at, replacement_at, kind_word, track_and_sector};
+ghost use Rattle.pack_geometry.specs.Homes.{content_of};
+ghost use Rattle.pack_geometry.specs.Pack.{Pack, is_marked};
+ghost use Rattle.pack_geometry.specs.TableEdit.{Edit, IsAddedAt, IsEdited, edited, edited_table};
+ghost use Rattle.pack_geometry.specs.TableSpelling.{Table};
 
 /// The kinds of drive.
 #[derive(Clone, Copy, PartialEq, Eq)]
@@ -44,22 +51,15 @@ pub fn geometry_of(kind: DriveKind) -> Geometry
     ensures tracks { result.tracks ≡ tracks_of kind }
     ensures sectors { result.sectors ≡ sectors_of kind }
 {
-    match kind {
-        DriveKind::Rp06 => Geometry {
-            cylinders: 815,
-            tracks: 19,
-            sectors: 22,
-        },
-        DriveKind::Rm03 => Geometry {
-            cylinders: 823,
-            tracks: 5,
-            sectors: 32,
-        },
-        DriveKind::Rm05 => Geometry {
-            cylinders: 823,
-            tracks: 19,
-            sectors: 32,
-        },
+    let (cylinders, tracks, sectors) = match kind {
+        DriveKind::Rp06 => (815, 19, 22),
+        DriveKind::Rm03 => (823, 5, 32),
+        DriveKind::Rm05 => (823, 19, 32),
+    };
+    Geometry {
+        cylinders,
+        tracks,
+        sectors,
     }
 }
 
@@ -78,11 +78,7 @@ pub fn blocks(kind: DriveKind) -> u32
 pub fn data_limit(kind: DriveKind) -> u32
     ensures { result ≡ limit_of kind }
 {
-    match kind {
-        DriveKind::Rp06 => 340522,
-        DriveKind::Rm03 => 131522,
-        DriveKind::Rm05 => 500226,
-    }
+    blocks(kind) - geometry_of(kind).sectors - 126
 }
 
 /// The kind that a word names: `rp06`, `rm03` or `rm05`. None exactly if the word is none of these three.
@@ -104,22 +100,16 @@ pub fn place_of(kind: DriveKind, block: u32) -> Place
     ensures place { result ≡ place_at kind block }
     ensures inside { IsInside kind result }
 {
-    match kind {
-        DriveKind::Rp06 => Place {
-            cylinder: block / 418,
-            track: block % 418 / 22,
-            sector: block % 22,
-        },
-        DriveKind::Rm03 => Place {
-            cylinder: block / 160,
-            track: block % 160 / 32,
-            sector: block % 32,
-        },
-        DriveKind::Rm05 => Place {
-            cylinder: block / 608,
-            track: block % 608 / 32,
-            sector: block % 32,
-        },
+    let Geometry {
+        tracks,
+        sectors,
+        ..
+    } = geometry_of(kind);
+    let on_cylinder = block % (tracks * sectors);
+    Place {
+        cylinder: block / (tracks * sectors),
+        track: on_cylinder / sectors,
+        sector: block % sectors,
     }
 }
 
@@ -183,4 +173,15 @@ pub fn apart_law(kind: DriveKind)
     ensures copies { (k : ℕ) → k < 5 → copy_at kind k < block_count kind }
     ensures different_replacements { (i j : ℕ) → i < 126 → j < 126 → i ≢ j → replacement_at kind i ≢ replacement_at kind j }
     ensures different_copies { (k l : ℕ) → k < 5 → l < 5 → k ≢ l → copy_at kind k ≢ copy_at kind l }
+{}
+
+/// The law of the table edit: if a block may be added, the writes that list it make the edit. If these writes copy the
+/// bytes of the block, and the block was unmarked, every data block holds what it held before.
+pub fn table_edit_law()
+    ensures made { (kind : DriveKind) → (pack : Pack) → (table : Table) → (edit : Edit) → (i : ℕ)
+        → IsAddedAt kind pack table edit i → IsEdited kind pack (edited kind pack table edit i) table edit i }
+    ensures kept { (kind : DriveKind) → (pack new : Pack) → (table : Table) → (edit : Edit) → (i : ℕ)
+        → IsAddedAt kind pack table edit i → IsEdited kind pack new table edit i → edit.copy ≡ true
+        → is_marked pack edit.block ≡ false
+        → content_of kind (Some (edited_table kind table edit i)) new ≡ content_of kind (Some table) pack }
 {}

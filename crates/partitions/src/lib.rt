@@ -1,8 +1,8 @@
 //! The partitions of the drives, and the admission of requests to them. The sizes and the first cylinders are this
 //! project's own choice; a pack that another system divided has that system's.
 //!
-//! What is proved: `part_of`, `part_range` and `admit` are exact for each kind; a range inside has data blocks only.
-//! `partitions_law`: each partition ends at or below the drive's data limit.
+//! What is proved: `part_of`, `part_range` and `admit` are exact for each kind; a partition, and a range inside it, have
+//! data blocks only.
 #![tactic(auto)]
 
 ghost use Rattle.std.specs.Prelude.{◌≡◌, ◌<◌, ◌≤◌, ◌+◌, ◌↔◌, ◌⊎◌, ℕ, IsSome};
@@ -65,11 +65,7 @@ pub fn part_range(kind: DriveKind, part: Part) -> PartRange
     ensures size { result.size ≡ size_of kind part }
     ensures data_blocks { result.first + result.size ≤ limit_of kind }
 {
-    let (cylinder, size) = match kind {
-        DriveKind::Rp06 => rp06_part(part),
-        DriveKind::Rm03 => rm03_part(part),
-        DriveKind::Rm05 => rm05_part(part),
-    };
+    let (cylinder, size) = extent_of(kind, part);
     let geometry = geometry_of(kind);
     PartRange {
         first: cylinder * geometry.tracks * geometry.sectors,
@@ -77,48 +73,28 @@ pub fn part_range(kind: DriveKind, part: Part) -> PartRange
     }
 }
 
-/// The first cylinder and the size of an RP06's partition.
-fn rp06_part(part: Part) -> (u32, u32)
-    ensures { result ≡ extent_of DriveKind.Rp06 part }
+/// The first cylinder and the size of a partition. Partition `c` has all data blocks.
+fn extent_of(kind: DriveKind, part: Part) -> (u32, u32)
+    ensures { result ≡ extent_of kind part }
 {
-    match part {
-        Part::A => (0, 15884),
-        Part::B => (38, 33440),
-        Part::C => (0, data_limit(DriveKind::Rp06)),
-        Part::D => (118, 15884),
-        Part::E => (156, 55936),
-        Part::F => (290, 219296),
-        Part::G => (118, 291192),
-        Part::H => (0, 0),
-    }
-}
-
-/// The first cylinder and the size of an RM03's partition.
-fn rm03_part(part: Part) -> (u32, u32)
-    ensures { result ≡ extent_of DriveKind.Rm03 part }
-{
-    match part {
-        Part::A => (0, 15884),
-        Part::B => (100, 33440),
-        Part::C => (0, data_limit(DriveKind::Rm03)),
-        Part::D => (309, 15884),
-        Part::E => (409, 55936),
-        Part::F => (759, 10080),
-        Part::G => (309, 82080),
-        Part::H => (0, 0),
-    }
-}
-
-/// The first cylinder and the size of an RM05's partition.
-fn rm05_part(part: Part) -> (u32, u32)
-    ensures { result ≡ extent_of DriveKind.Rm05 part }
-{
-    match part {
-        Part::A => (0, 15884),
-        Part::B => (27, 33440),
-        Part::C => (0, data_limit(DriveKind::Rm05)),
-        Part::G => (82, 450370),
-        Part::D | Part::E | Part::F | Part::H => (0, 0),
+    match (kind, part) {
+        (_, Part::C) => (0, data_limit(kind)),
+        (DriveKind::Rp06, Part::A) => (0, 15884),
+        (DriveKind::Rp06, Part::B) => (38, 33440),
+        (DriveKind::Rp06, Part::D) => (118, 15884),
+        (DriveKind::Rp06, Part::E) => (156, 55936),
+        (DriveKind::Rp06, Part::F) => (290, 219296),
+        (DriveKind::Rp06, Part::G) => (118, 291192),
+        (DriveKind::Rm03, Part::A) => (0, 15884),
+        (DriveKind::Rm03, Part::B) => (100, 33440),
+        (DriveKind::Rm03, Part::D) => (309, 15884),
+        (DriveKind::Rm03, Part::E) => (409, 55936),
+        (DriveKind::Rm03, Part::F) => (759, 10080),
+        (DriveKind::Rm03, Part::G) => (309, 82080),
+        (DriveKind::Rm05, Part::A) => (0, 15884),
+        (DriveKind::Rm05, Part::B) => (27, 33440),
+        (DriveKind::Rm05, Part::G) => (82, 450370),
+        _ => (0, 0),
     }
 }
 
@@ -147,8 +123,3 @@ pub fn admit(kind: DriveKind, part: Part, block: u32, count: u32) -> Admission
         }
     }
 }
-
-/// Each partition ends at or below its drive's data limit.
-pub fn partitions_law()
-    ensures data_blocks { (kind : DriveKind) (part : Part) → first_of kind part + size_of kind part ≤ limit_of kind }
-{}

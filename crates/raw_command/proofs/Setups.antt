@@ -17,7 +17,7 @@ use Rattle.driver_laws.proofs.rules.Restful.{start_rests}
 use Rattle.driver_machine.specs.World.{World, UnitView, Setup, no_unit, new_unit, new_world, unit_at}
 use Rattle.driver_machine.specs.Guards.{IsSetUp}
 use Rattle.driver_machine.specs.Sound.{IsTableFor}
-use Rattle.driver_laws.specs.invariant.Parts.{AreSetups}
+use Rattle.driver_laws.specs.invariant.Setups.{AreSetups}
 use Rattle.driver_laws.proofs.invariant.SlotsLists.{Contains-none, Contains-first, Contains-cases}
 use Rattle.driver_laws.proofs.invariant.Starts.{stands_new, others_new}
 use Rattle.driver_laws.specs.shown.Acts.{AreSetUp}

@@ -18,11 +18,11 @@ use Rattle.driver_laws.specs.rules.Pieces.{Reaches, bytes_among}
 use Rattle.blocking_io.specs.Blocks.{origin, ReadsOnce}
 use Rattle.raw_io.specs.Blocks.{Reads, GivesBlocks, Gives}
 use Rattle.raw_io.specs.Pieces.{start_at, ReadsPiece, GivesPiece}
-use Rattle.driver_laws.specs.rules.BytesLaws.{IsBlock}
 use Rattle.driver_laws.proofs.rules.Ranges.{laid_short, length_range, range_laid, blocks_range}
 use Rattle.blocking_io.proofs.Sites.{kind_stays, map_long, untouched_behind}
 use Rattle.raw_io.proofs.Joins.{transfers_join, clean_before}
 use Rattle.driver_laws.proofs.rules.WaitedSteps.{among_few, among_fits}
+use Rattle.driver_laws.proofs.rules.WholeBlocks.{IsBlock}
 
 -- ---- a block that can be used has 512 bytes
 pub some_block : (block : Option (List ℕ)) → IsSome block → ((bytes : List ℕ) → block ≡ Some bytes → length bytes ≡ 512) → IsBlock block

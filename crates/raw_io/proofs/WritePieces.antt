@@ -20,13 +20,13 @@ use Rattle.blocking_io.specs.Sites.{map_at, left_map, IsUntouched}
 use Rattle.driver_laws.specs.rules.Pieces.{Reaches, bytes_among}
 use Rattle.raw_io.specs.Blocks.{GivesBlocks, Gives, Puts}
 use Rattle.raw_io.specs.Pieces.{IsCut, IsWhole, IsWholeOrOne, start_at, Continues, WritesPiece, PutsPiece, StopsPiece}
-use Rattle.driver_laws.specs.rules.BytesLaws.{IsBlock}
 use Rattle.driver_laws.proofs.rules.Ranges.{laid_long, length_range, block_range}
 use Rattle.driver_laws.proofs.rules.Replaced.{whole_written, edge_written}
 use Rattle.raw_io.proofs.Joins.{transfers_join, transfers_wider}
 use Rattle.blocking_io.proofs.Sites.{map_long, left_over, others_over, kind_stays}
 use Rattle.driver_laws.proofs.rules.WaitedSteps.{some_among}
 use Rattle.raw_io.proofs.ReadPieces.{some_block, whole_size}
+use Rattle.driver_laws.proofs.rules.WholeBlocks.{IsBlock}
 
 written_is : (r : Request) (bytes : List ℕ) → r.write ≡ true → (asked r bytes).written ≡ Some bytes
 written_is r bytes writes = ap (λ b. if b then Some bytes else None) writes

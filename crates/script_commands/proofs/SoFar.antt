@@ -16,8 +16,6 @@ use Rattle.trace_replay.specs.Runs.{start_of}
 use Rattle.trace_replay.proofs.Following.{follow_on}
 use Rattle.trace_replay.proofs.Explained.{are_explained}
 use Rattle.driver_laws.proofs.rules.Commands.{ends_are_bounded}
-use Rattle.driver_laws.specs.rules.LegalAnswers.{ids_asked, with_asked}
-use Rattle.driver_laws.specs.rules.Stands.{AreGiven}
 use Rattle.driver_laws.proofs.rules.Kept.{input_asks}
 use Rattle.driver_laws.proofs.rules.MachineRuns.{each_beginning, script_ids}
 use Rattle.event_player.specs.PlayFault.{PlayFault}
@@ -29,6 +27,8 @@ use Rattle.event_player.specs.Stops.{StopsPlaying}
 use Rattle.driver_laws.specs.rules.Beginnings.{IsBegun, BeginningsKeep, NextBlocksKeep, PromisesSoFar}
 use Rattle.script_commands.specs.SoFar.{KeepsSoFar, Holds, Keeps}
 use Rattle.script_commands.proofs.Standing.{FoundBehind, found_behind}
+use Rattle.driver_laws.proofs.rules.IdsAsked.{ids_asked, with_asked}
+use Rattle.driver_laws.proofs.rules.MomentSteps.{AreGiven}
 
 -- THE INPUTS of a script are good, and so are the first of them.
 abbrev AllGood : (ℕ → Option DriveKind) → List Numbered → Type 0

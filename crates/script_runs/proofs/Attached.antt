@@ -15,7 +15,7 @@ use Rattle.pack_geometry.specs.PackTable.{IsTableOf, IsTableAt, AreTablesOf}
 use Rattle.trace_replay.specs.Script.{Script, Statement, Declares, Plays, Line, declared_by, drives_in, declares, IsPlayed, ArePlays, IsFirst, AreUnitsFirst}
 use Rattle.driver_machine.specs.World.{UnitView, Setup, no_unit, new_unit, set_up}
 use Rattle.driver_machine.specs.Sound.{Among, Once, IsTableFor}
-use Rattle.driver_laws.specs.invariant.Parts.{units_of, AreSetups}
+use Rattle.driver_laws.specs.invariant.Setups.{units_of, AreSetups}
 use Rattle.driver_laws.proofs.invariant.SlotsLists.{Once-push, Contains-none, Contains-first, Contains-later, Contains-cases}
 use Rattle.script_runs.specs.Steps.{tables_in, AreSetFor}
 

@@ -10,7 +10,7 @@ pub use Rattle.driver_laws.proofs.shown.Calls.{drains_go_on, drains_start, event
 pub use Rattle.driver_laws.proofs.shown.DrainsLaws.{GoesOn, drain_begins, drain_between, drain_goes_on}
 pub use Rattle.driver_laws.proofs.shown.Events.{not_drained, serving_is}
 pub use Rattle.driver_laws.proofs.shown.Inputted.{calls_are_played, lines_play_nothing}
-pub use Rattle.driver_laws.proofs.shown.Joined.{line_after, lines_append}
+pub use Rattle.driver_laws.proofs.shown.Joined.{lines_append}
 pub use Rattle.driver_laws.proofs.shown.Named.{act_named}
 pub use Rattle.driver_laws.proofs.shown.TraceRuns.{drain_ends, drain_finds_nothing}
 pub use Rattle.driver_laws.proofs.shown.Start.{starts}

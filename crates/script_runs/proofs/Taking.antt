@@ -15,7 +15,6 @@ use Rattle.driver_machine.specs.Sound.{Sound, UnitOk}
 use Rattle.driver_machine.specs.Runs.{Run, Works}
 use Rattle.driver_laws.proofs.invariant.Calls.{taken_works}
 use Rattle.driver_laws.proofs.invariant.Sound.{sound_after}
-use Rattle.driver_laws.specs.shown.Shows.{Shows}
 use Rattle.driver_laws.proofs.shown.Rest.{rest_shows}
 use Rattle.driver_laws.specs.shown.Within.{Rests}
 use Rattle.driver_laws.specs.shown.Runs.{IsSoFar, IsDraining}
@@ -27,6 +26,7 @@ use Rattle.driver_laws.proofs.shown.RunsLaws.{answers_keep}
 use Rattle.driver_laws.proofs.answers.Units.{setups_stay}
 use Rattle.driver_laws.specs.answers.Waiting.{all_taken}
 use Rattle.driver_laws.proofs.answers.Taking.{taken_by, nothing_taken}
+use Rattle.driver_laws.proofs.shown.Showing.{Shows}
 
 -- A UNIT IS THERE, where an answer waits.
 abbrev pub Waits : World → Type 0

@@ -22,11 +22,11 @@ use Rattle.driver_machine.specs.Guards.{IsTried, MayChange}
 use Rattle.driver_machine.specs.Sound.{Sound, Transfers}
 use Rattle.driver_machine.specs.Runs.{MayCome}
 use Rattle.driver_laws.proofs.invariant.Calls.{IsServing, serving}
-use Rattle.driver_laws.specs.shown.Shows.{IsOnSurface}
 use Rattle.driver_laws.specs.shown.Within.{ShowsAll}
 use Rattle.driver_laws.specs.shown.Calls.{IsSurfaceOf}
 use Rattle.driver_laws.proofs.shown.Named.{IsTriedOn}
 use Rattle.script_runs.proofs.Verdicts.{verdicts_exist}
+use Rattle.driver_laws.proofs.shown.Showing.{IsOnSurface}
 
 -- WHAT A READ GIVES is a whole sector.
 flipped_length : (i : ℕ) (places bytes : List ℕ) → length (flipped_from i places bytes) ≡ length bytes

@@ -13,7 +13,7 @@ use Rattle.driver_machine.specs.World.{World, Held, Setup, new_world, unit_at}
 use Rattle.driver_machine.specs.Events.{next_event, refusal_of}
 use Rattle.driver_machine.specs.Guards.{IsSetUp, IsHeldFor, IsFresh}
 use Rattle.driver_machine.specs.Sound.{Sound}
-use Rattle.driver_laws.specs.invariant.Parts.{AreSetups}
+use Rattle.driver_laws.specs.invariant.Setups.{AreSetups}
 use Rattle.driver_machine.specs.Runs.{MaySubmit}
 use Rattle.driver_laws.specs.shown.Acts.{AreSetUp}
 use Rattle.driver_laws.specs.shown.Runs.{IsSoFar}

@@ -1,10 +1,8 @@
 // The move of one sector between the pack and the memory.
-ghost use Rattle.std.specs.Prelude.{◌≡◌, ◌<◌, ◌+◌, ◌%◌, ℕ, List, true, MatchBool, Some, bit_or};
-ghost use Rattle.pack_geometry.specs.Geometry.{block_count, sectors_of, place_at, track_and_sector};
-ghost use Rattle.hardware_table.specs.Events.{look_ahead};
+ghost use Rattle.std.specs.Prelude.{◌≡◌, ◌<◌, ◌+◌, ◌%◌, ℕ, List, true, MatchBool, Some};
+ghost use Rattle.pack_geometry.specs.Geometry.{block_count};
 ghost use Rattle.hardware_table.specs.Drive.{is_transferring, is_writing};
 ghost use Rattle.main_memory.specs.Windows.{memory_name, window_len, window_bytes, Writes};
-ghost use Rattle.hardware_table.specs.Functions.{refused};
 ghost use Rattle.hardware_table.specs.Noise.{strikes, book_struck};
 ghost use Rattle.hardware_table.specs.Moves.{stop_of, IsReadVerdict, IsReadAs, passed, fault_used, with_fault_bits, with_mark_bits, after_move};
 ghost use Rattle.hardware_table.specs.declared.Moved.TheVariants.{Burst, Hard};
@@ -12,17 +10,16 @@ ghost use Rattle.drive_model.specs.Move.{TriesSector, scene_at, drive_after, has
 ghost use Rattle.fire_code.specs.Remainder.{remainder};
 ghost use Rattle.fire_code.specs.Verdict.{Judges};
 
-use crate::book::NoiseBook;
 use crate::drive::Drive;
 use crate::sector_format::{HeaderFault, header_fault, header_of};
 use bitflags::Flags;
 use drive_registers::{Er1, Er2};
 use fire_code::{Check, Verdict, apply, data_law, judge_noise};
 use hardware_table::{FaultKind, Moved, Work};
-use live_noise::Live;
+use live_noise::NoiseBook;
 use main_memory::Window;
 use outside_traits::traits::{Packs, StoreFailed};
-use pack_geometry::{DriveKind, blocks, geometry_of, place_of, sector_word};
+use pack_geometry::{blocks, geometry_of, place_of, sector_word};
 
 // The verdict on a read that noise has struck.
 fn moved_by(verdict: Verdict) -> Moved
@@ -36,12 +33,12 @@ fn moved_by(verdict: Verdict) -> Moved
 }
 
 // Reads a sector's bytes through the noise that strikes it, and judges them by its places.
-fn read_through(live: &mut Live, unit: u8, block: u32, of: u16, bytes: &mut [u8; 512]) -> Moved
-    ensures verdict { IsReadVerdict (strikes unit block of live.old.live) result }
-    ensures bytes { IsReadAs (strikes unit block of live.old.live) bytes.old bytes.new }
-    ensures book { live.new ≡ book_struck unit block of live.old }
+fn read_through(book: &mut NoiseBook, unit: u8, block: u32, of: u16, bytes: &mut [u8; 512]) -> Moved
+    ensures verdict { IsReadVerdict (strikes unit block of book.old.live) result }
+    ensures bytes { IsReadAs (strikes unit block of book.old.live) bytes.old bytes.new }
+    ensures book { book.new ≡ book_struck unit block of book.old }
 {
-    match live.strike(unit, block, of) {
+    match book.strike(unit, block, of) {
         None => Moved::Clean,
         Some(noise) => {
             data_law(bytes);
@@ -50,27 +47,6 @@ fn read_through(live: &mut Live, unit: u8, block: u32, of: u16, bytes: &mut [u8;
             moved_by(judge_noise(&noise))
         }
     }
-}
-
-// The place of the heads after a block: its cylinder, and the look-ahead of the sector that comes next.
-fn heads_behind(kind: DriveKind, block: u32) -> (u16, u16)
-    requires { block < block_count kind }
-    ensures cylinder { result.0 ≡ (place_at kind block).cylinder }
-    ensures ahead { result.1 ≡ look_ahead (((place_at kind block).sector + 1) % sectors_of kind) }
-{
-    let place = place_of(kind, block);
-    let next = (place.sector + 1) % geometry_of(kind).sectors;
-    (place.cylinder as u16, next as u16 * 64)
-}
-
-// The address of a block: its cylinder, and the word of its track and sector.
-fn address_of(kind: DriveKind, block: u32) -> (u16, u16)
-    requires { block < block_count kind }
-    ensures cylinder { result.0 ≡ (place_at kind block).cylinder }
-    ensures word { result.1 ≡ track_and_sector (place_at kind block) }
-{
-    let place = place_of(kind, block);
-    (place.cylinder as u16, sector_word(place))
 }
 
 impl Drive {
@@ -104,30 +80,14 @@ impl Drive {
         ensures { self.new ≡ passed block self.old }
     {
         let kind = self.kind;
-        (self.cc, self.la) = heads_behind(kind, block);
+        let place = place_of(kind, block);
+        self.cc = place.cylinder as u16;
+        self.la = ((place.sector + 1) % geometry_of(kind).sectors) as u16 * 64;
         if block + 1 < blocks(kind) {
-            (self.dc, self.da) = address_of(kind, block + 1);
+            let next = place_of(kind, block + 1);
+            self.dc = next.cylinder as u16;
+            self.da = sector_word(next);
         }
-    }
-
-    // The heads have passed a block with an error that the code corrects.
-    fn pass_burst(&mut self, block: u32, at: u16, pattern: u16)
-        requires { block < block_count self.old.kind }
-        ensures { self.new ≡ after_move (Burst at pattern) block self.old }
-    {
-        self.pass(block);
-        self.raise(Er1::DCK.bits());
-        self.ec1 = at;
-        self.ec2 = pattern;
-    }
-
-    // The heads have passed a block with an error that the code does not correct.
-    fn pass_hard(&mut self, block: u32)
-        requires { block < block_count self.old.kind }
-        ensures { self.new ≡ after_move Hard block self.old }
-    {
-        self.pass(block);
-        self.raise(Er1::DCK.bits() | Er1::ECH.bits());
     }
 
     // A fault strikes: it is used once, and its error bit goes on, except that data late has none.
@@ -137,19 +97,19 @@ impl Drive {
         match kind {
             FaultKind::Seek => {
                 self.armed.seek = self.armed.seek.saturating_sub(1);
-                self.raise_second(Er2::SKI);
+                self.er2 |= Er2::SKI.bits();
             }
             FaultKind::Opi => {
                 self.armed.opi = self.armed.opi.saturating_sub(1);
-                self.raise(Er1::OPI.bits());
+                self.er1 |= Er1::OPI.bits();
             }
             FaultKind::Dte => {
                 self.armed.dte = self.armed.dte.saturating_sub(1);
-                self.raise(Er1::DTE.bits());
+                self.er1 |= Er1::DTE.bits();
             }
             FaultKind::Hcrc => {
                 self.armed.hcrc = self.armed.hcrc.saturating_sub(1);
-                self.raise(Er1::HCRC.bits());
+                self.er1 |= Er1::HCRC.bits();
             }
             FaultKind::Late => self.armed.late = self.armed.late.saturating_sub(1),
         }
@@ -163,8 +123,8 @@ impl Drive {
     {
         let header = header_of(self.kind, block, true);
         match header_fault(self.kind, header, block) {
-            Some(HeaderFault::Format) => self.raise(Er1::FER.bits()),
-            Some(HeaderFault::BadSector) => self.raise_second(Er2::BSE),
+            Some(HeaderFault::Format) => self.er1 |= Er1::FER.bits(),
+            Some(HeaderFault::BadSector) => self.er2 |= Er2::BSE.bits(),
             Some(HeaderFault::Compare) | None => {}
         }
     }
@@ -176,34 +136,19 @@ impl Drive {
     {
         match verdict {
             Moved::Clean => self.pass(block),
-            Moved::Burst { at, pattern } => self.pass_burst(block, at, pattern),
-            Moved::Hard => self.pass_hard(block),
+            Moved::Burst { at, pattern } => {
+                self.pass(block);
+                self.er1 |= Er1::DCK.bits();
+                (self.ec1, self.ec2) = (at, pattern);
+            }
+            Moved::Hard => {
+                self.pass(block);
+                self.er1 |= Er1::DCK.bits() | Er1::ECH.bits();
+            }
             Moved::Marked => self.take_mark(block),
             Moved::Faulted(kind) => self.take_fault(kind),
-            Moved::Offline => self.raise(Er1::UNS.bits()),
+            Moved::Offline => self.er1 |= Er1::UNS.bits(),
         }
-    }
-
-    // Bits of the first error register go on.
-    fn raise(&mut self, errors: u16)
-        ensures { self.new ≡ record self.old { er1 = bit_or self.old.er1 errors } }
-    {
-        self.er1 = Er1::from_bits_retain(self.er1.bits() | errors);
-    }
-
-    // The drive refuses a function: the error bits and the attention go up.
-    pub(super) fn refuse(&mut self, errors: u16)
-        ensures { self.new ≡ refused errors self.old }
-    {
-        self.raise(errors);
-        self.attention = true;
-    }
-
-    // A bit of the second error register goes on.
-    fn raise_second(&mut self, error: Er2)
-        ensures { self.new ≡ record self.old { er2 = bit_or self.old.er2 error.0 } }
-    {
-        self.er2 = Er2::from_bits_retain(self.er2.bits() | error.bits());
     }
 
     /// Moves one sector of the transfer that is under way, between block `block` of a unit's pack and the window. The
@@ -247,16 +192,16 @@ impl Drive {
             self.take(Moved::Marked, block);
             return Ok(Moved::Marked);
         }
+        let mut sector = [0; 512];
         if self.is_writing() {
-            window.copy_out(&mut book.sector);
-            packs.write(unit, block, &book.sector)?;
+            window.copy_out(&mut sector);
+            packs.write(unit, block, &sector)?;
             self.take(Moved::Clean, block);
             return Ok(Moved::Clean);
         }
-        packs.read(unit, block, &mut book.sector)?;
-        let of = self.offset.bits();
-        let moved = read_through(&mut book.live, unit, block, of, &mut book.sector);
-        window.copy_in(&book.sector);
+        packs.read(unit, block, &mut sector)?;
+        let moved = read_through(book, unit, block, self.offset, &mut sector);
+        window.copy_in(&sector);
         self.take(moved, block);
         Ok(moved)
     }

@@ -8,11 +8,10 @@ use Rattle.hardware_table.specs.declared.Armed.{Armed}
 use Rattle.hardware_table.specs.declared.FaultKind.{FaultKind}
 use Rattle.hardware_table.specs.declared.FaultKind.TheVariants as fault
 use Rattle.hardware_table.specs.declared.Moved.{Moved}
-use Rattle.hardware_table.specs.declared.Moved.TheVariants as verdict
 use Rattle.hardware_table.specs.declared.Work.{Work}
 use Rattle.hardware_table.specs.declared.Work.TheVariants as work
 use Rattle.hardware_table.specs.Drive.{DriveState}
-use Rattle.hardware_table.specs.Functions.{effect, performed}
+use Rattle.hardware_table.specs.Functions.{performed}
 use Rattle.hardware_table.specs.Events.{arrived_from, transfer_ended, online_set, fault_armed, times_armed, with_times}
 use Rattle.hardware_table.specs.Moves.{after_move, was_read}
 use Rattle.hardware_table.specs.Noise.{Book, book_struck}

@@ -1,16 +1,14 @@
 -- How many slots have a request, after one slot changed; a slot that is free; and requests that have not ended.
 use Rattle.std.proofs.Common.{◌≡◌, ℕ, zero, suc, ◌+◌, ◌≤◌, Bool, true, false, List, [], ◌∷◌, Option, Some, None, refl, ap, subst, arith, ◌∙◌}
-use Rattle.std.specs.Prelude.{slice_index_or, slice_set}
+use Rattle.std.specs.Prelude.{slice_index_or, slice_set, ◌<◌, length}
 use Rattle.std.specs.Option.{option_map_or}
-use Rattle.std.proofs.lemmas.Bool.{false≢true}
 use Rattle.std.proofs.lemmas.Option.{none-some}
 use Rattle.driver_machine.specs.declared.Made.{Made}
-use Rattle.driver_machine.specs.World.{Held, frames_of}
+use Rattle.driver_machine.specs.World.{Held, frames_of, World, slot_at}
 use Rattle.driver_machine.specs.Acts.{freed}
-use Rattle.driver_machine.specs.Sound.{Among, slots_made, frames_by, frames_used}
+use Rattle.driver_machine.specs.Sound.{Among, slots_made, frames_by, frames_used, Sound}
 use Rattle.request_slots.specs.Requests.{frames_lent}
 use Rattle.driver_laws.specs.answers.Counts.{in_use}
-use Rattle.driver_laws.specs.answers.Laws.{FreeWhereRoom, FullWhereTaken, NoneEnded, AllLentAreNeeded}
 
 -- ONE SLOT is put: at most one request more, none more where one stood there, and none more where it is emptied.
 pub one_more : (slots : List (Option Held)) (p : ℕ) (h : Held) → in_use (slice_set slots p (Some h)) ≤ in_use slots + 1
@@ -44,20 +42,16 @@ freed_few [] slots = omega arith
 freed_few (made ∷ rest) slots = freed_at made.slot slots
 
 -- A FREE SLOT
-pub free_where_room : FreeWhereRoom
+pub free_where_room : (slots : List (Option Held)) → in_use slots < length slots
+    → (p : ℕ) × (p < length slots) × (slice_index_or slots p None ≡ None)
 free_where_room [] room = absurd (omega (arith, room))
 free_where_room (None ∷ slots) room = (0, omega arith, refl)
 free_where_room (Some h ∷ slots) room =
     let rest = free_where_room slots (omega (arith, room)) in
     (suc rest.0, omega (arith, rest.1), rest.2)
 
-pub full_where_taken : FullWhereTaken
-full_where_taken [] all = refl
-full_where_taken (None ∷ slots) all = absurd (false≢true (all 0 (omega arith)))
-full_where_taken (Some h ∷ slots) all = omega (arith, full_where_taken slots (λ p lt. all (suc p) (omega (arith, lt))))
-
 -- NO ANSWER WAITS
-pub none_ended : NoneEnded
+pub none_ended : (w : World) → Sound w → w.answers ≡ [] → (p : ℕ) (h : Held) → slot_at w p ≡ Some h → h.ended ≡ false
 none_ended w sound none p h is = by h.ended refl
   where
     by : (b : Bool) → h.ended ≡ b → h.ended ≡ false
@@ -75,6 +69,7 @@ used_are_lent (Some h ∷ slots) going =
     ap (λ (b : Bool). frames_by b h + frames_used slots) (going 0 h refl)
     ∙ ap (λ (n : ℕ). frames_of h + n) (used_are_lent slots (λ p g is. going (suc p) g is))
 
-pub all_lent_are_needed : AllLentAreNeeded
+-- and so the frames that outstanding requests need are all that are lent.
+pub all_lent_are_needed : (w : World) → Sound w → w.answers ≡ [] → w.frames ≡ frames_lent w.slots
 unfolding AreGoingOn
 all_lent_are_needed w sound none = sound.frames ∙ used_are_lent w.slots (none_ended w sound none)

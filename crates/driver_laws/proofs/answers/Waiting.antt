@@ -1,5 +1,5 @@
 -- The answers that wait are those of the end lines, until they are taken.
-use Rattle.std.proofs.Common.{◌≡◌, ℕ, ◌<◌, true, false, List, [], ◌∷◌, ◌++◌, drop, length, map, get_or-set_same, get_or-set_other, Option, Some, None, refl, sym, ap, ◌∙◌, subst, arith, append-nil, append_assoc}
+use Rattle.std.proofs.Common.{◌≡◌, ℕ, ◌<◌, false, List, [], ◌∷◌, ◌++◌, drop, length, map, get_or-set_same, get_or-set_other, Option, Some, None, refl, sym, ap, ◌∙◌, subst, arith, append-nil, append_assoc}
 use Rattle.std.specs.Prelude.{Contains, slice_set, unwrap_or}
 use Rattle.std.specs.Option.{option_map_or}
 use Rattle.std.proofs.lemmas.List.{map-append}
@@ -14,19 +14,19 @@ use Rattle.driver_machine.specs.declared.Made.{Made}
 use Rattle.driver_machine.specs.declared.RetryStep.TheVariants as step
 use Rattle.driver_machine.specs.World.{World, Held, no_held, slot_at, held_in, unit_at, slot_in_hand}
 use Rattle.driver_machine.specs.Acts as deed
-use Rattle.driver_machine.specs.Acts.{Act, Refuse, Submit, Of, Change, Nothing, Taken, Deed, Scene, scene_of, with_scene, effect, answer_at, freed, after}
+use Rattle.driver_machine.specs.Acts.{Act, Refuse, Submit, Of, Change, Nothing, Taken, Deed, Scene, scene_of, with_scene, effect, answer_at, freed, after, after_all}
 use Rattle.driver_machine.specs.Lines.{answer_told, lines_of, lines_of_all}
 use Rattle.driver_machine.specs.Events.{submit_acts, event_acts}
-use Rattle.driver_machine.specs.Guards.{InHand, MayChange}
+use Rattle.driver_machine.specs.Guards.{InHand, MayChange, Allowed}
 use Rattle.driver_machine.specs.Sound.{Among, Once, slot_made, slots_made, IsMade, Sound}
 use Rattle.driver_machine.proofs.Frame.{other_slot}
-use Rattle.driver_machine.specs.Runs.{Works}
+use Rattle.driver_machine.specs.Runs.{Works, Run}
 use Rattle.driver_laws.proofs.invariant.Calls.{submit_works, event_works}
 use Rattle.driver_laws.proofs.invariant.SlotsLists.{Contains-first, Contains-later}
 use Rattle.driver_laws.proofs.invariant.Hand.{held_is, hand_there, not_made}
 use Rattle.driver_laws.proofs.invariant.Quiet.{among_made}
 use Rattle.driver_laws.proofs.invariant.Sound.{sound_after}
-use Rattle.driver_laws.specs.answers.Waiting.{blocks_for, told_by, waiting, is_taking, AreNoTakings, ActsAnswer, RunsAnswer, RunsAlone, TakingDrops, EventsTakeNone, SubmissionsTakeNone, EventsAnswer, EventsAlone, SubmissionsAlone}
+use Rattle.driver_laws.specs.answers.Waiting.{blocks_for, told_by, waiting, is_taking, AreNoTakings, TakingDrops, EventsTakeNone, SubmissionsTakeNone, EventsAnswer, EventsAlone, SubmissionsAlone}
 use Rattle.driver_laws.proofs.answers.Parts.{AreAll, Holds, all_submitted, all_of_event}
 
 -- THE ANSWERS OF LINES, one part behind another
@@ -111,7 +111,8 @@ changed_answers w (script.SetLocked u on) may = none_more w (after w (Change (sc
 changed_answers w input may = absurd may
 
 -- EACH ACT
-pub acts_answer : ActsAnswer
+pub acts_answer : (w : World) (act : Act) → Sound w → Allowed w act → is_taking act ≡ false
+    → waiting (after w act) ≡ waiting w ++ answers_in (lines_of w act)
 acts_answer w (Refuse line r kind) s may none = one_more w (after w (Refuse line r kind)) (answer_at line None r.id kind) (λ m q c is. refl) refl
 acts_answer w (Submit line p h) s may none = none_more w (after w (Submit line p h)) (join_stays w line p h s may.slot) refl
 acts_answer w (Of line u id d) s may none = deed_answers w line u id d s may.0
@@ -119,7 +120,8 @@ acts_answer w (Change input) s may none = changed_answers w input may
 acts_answer w (Nothing line) s may none = none_more w w (λ m q c is. refl) refl
 acts_answer w Taken s may none = absurd (true≢false none)
 
-pub runs_answer : RunsAnswer
+pub runs_answer : (w : World) (acts : List Act) → Sound w → Run w acts → AreNoTakings acts
+    → waiting (after_all w acts) ≡ waiting w ++ answers_in (lines_of_all w acts)
 runs_answer w [] s run none = sym (append-nil (waiting w))
 runs_answer w (act ∷ acts) s run none =
     runs_answer (after w act) acts (sound_after w act s run.0) run.1 none.1
@@ -131,7 +133,9 @@ runs_answer w (act ∷ acts) s run none =
 alone : (w : World) (told all : List Answered) → w.answers ≡ [] → all ≡ waiting w ++ told → all ≡ told
 alone w told all none is = is ∙ ap (λ (answers : List Made). map (told_by w) answers ++ told) none
 
-pub runs_alone : RunsAlone
+-- Where none waited, just those of the lines wait behind the run.
+pub runs_alone : (w : World) (acts : List Act) → Sound w → Run w acts → AreNoTakings acts → w.answers ≡ []
+    → waiting (after_all w acts) ≡ answers_in (lines_of_all w acts)
 runs_alone w acts s run taking none = alone w _ _ none (runs_answer w acts s run taking)
 
 -- THE TAKING frees the slot of the first answer, and no other waits for that one.

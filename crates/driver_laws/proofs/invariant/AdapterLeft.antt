@@ -10,7 +10,7 @@ use Rattle.driver_machine.specs.declared.Task.TheVariants.{Clear, Judge, Steps, 
 use Rattle.driver_machine.specs.Acts.{Scene}
 use Rattle.driver_machine.specs.Sound.{Among, Once}
 use Rattle.driver_machine.specs.World.{UnitView, AdapterView, Held, drive_of}
-use Rattle.driver_machine.specs.DueFacts.{Calls, AtStart, AtStep, AtTransfer, AtChoice}
+use Rattle.driver_machine.proofs.Dues.{AtStart, AtStep, AtTransfer, AtChoice, Calls}
 use Rattle.driver_laws.proofs.invariant.Scene.{HasTransferFor, SceneOk}
 
 -- what holds of the adapter in a scene, beside the transfer

@@ -8,8 +8,8 @@ use Rattle.driver_machine.specs.declared.Phase.TheVariants.{Transferring}
 use Rattle.driver_machine.specs.World.{World, UnitView, Held, no_unit, unit_at, slot_at, slot_in_hand}
 use Rattle.driver_machine.specs.Guards.{IsApart}
 use Rattle.driver_machine.specs.Sound.{Among, slots_of, slots_made, IsOutstanding, UnitOk, SlotOk, Sound}
-use Rattle.driver_laws.specs.invariant.Parts.{IsServed, AreSlots, AreFrames, AreAnswers}
 use Rattle.driver_laws.proofs.invariant.SlotsLists.{Put}
+use Rattle.driver_laws.proofs.invariant.Parts.{IsServed, AreSlots, AreFrames, AreAnswers}
 
 -- all of the parts
 pub record AreParts (w : World) : Type 0 where

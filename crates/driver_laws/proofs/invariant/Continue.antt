@@ -10,11 +10,11 @@ use Rattle.driver_machine.specs.Acts.{Scene, effect}
 use Rattle.driver_machine.specs.Sound.{IsTask}
 use Rattle.driver_machine.specs.World.{transfer_of}
 use Rattle.driver_machine.specs.Guards.{May}
-use Rattle.driver_machine.specs.DueFacts.{IsDue}
 use Rattle.driver_machine.proofs.DueFacts.{none_some}
 use Rattle.driver_laws.proofs.invariant.Scene.{SceneOk, due_of}
 use Rattle.driver_laws.proofs.invariant.DeedFacts.{judged_is}
 use Rattle.driver_laws.proofs.invariant.AdapterLeft.{SceneAdapter, AdapterLeft, is_transferring, is_queued, due_left}
+use Rattle.driver_machine.proofs.Dues.{IsDue}
 
 more_by : (index : Option ℕ) (job : Job) (done moved : ℕ) → done < job.count → moved ≤ (segment_by index job done).count → done + moved ≢ job.count
     → done + moved < job.count

@@ -7,10 +7,10 @@ use Rattle.driver_machine.specs.Acts as deed
 use Rattle.driver_machine.specs.Acts.{Scene, effect}
 use Rattle.driver_machine.specs.Sound.{IsDrive, IsTask}
 use Rattle.driver_machine.specs.Guards.{May}
-use Rattle.driver_machine.specs.DueFacts.{IsDue}
 use Rattle.driver_laws.proofs.invariant.Drives.{drive_clear}
 use Rattle.driver_laws.proofs.invariant.Scene.{SceneOk, phase_is, due_of}
 use Rattle.driver_laws.proofs.invariant.AdapterLeft.{SceneAdapter, AdapterLeft, is_transferring, is_queued, due_left}
+use Rattle.driver_machine.proofs.Dues.{IsDue}
 
 -- DCLR: the drive is clear
 pub dclr_phase : (line u p moved : ℕ) (last : Moved) (s : Scene) → SceneOk u s → IsDue s.unit s.held (deed.Dclr moved last)

@@ -10,8 +10,8 @@ use Rattle.driver_machine.specs.Acts.{Scene}
 use Rattle.driver_machine.specs.Sound.{IsBegun, IsTask}
 use Rattle.driver_machine.specs.World.{UnitView, transfer_of, job_of, drive_of}
 use Rattle.driver_machine.specs.Guards.{IsBusyFor}
-use Rattle.driver_machine.specs.DueFacts.{IsJudged}
 use Rattle.driver_laws.proofs.invariant.Scene.{SceneOk, phase_is, HasTransfer}
+use Rattle.driver_machine.proofs.Dues.{IsJudged}
 
 -- the task of a verdict that is judged
 pub judged_is : (u moved : ℕ) (last : Moved) (s : Scene) → SceneOk u s → IsJudged s.unit moved last → IsTask s.unit s.held (Judge moved last)

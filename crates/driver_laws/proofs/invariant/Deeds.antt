@@ -13,11 +13,11 @@ use Rattle.driver_machine.specs.Due.{next_of, next_by}
 use Rattle.driver_machine.specs.Free.{needs_free, IsFree}
 use Rattle.driver_machine.specs.Guards.{InHand, May, Allowed}
 use Rattle.driver_machine.specs.Sound.{Sound, IsOutstanding, WorkOf}
-use Rattle.driver_machine.specs.DueFacts.{IsDue}
 use Rattle.driver_machine.proofs.DueFacts.{due_facts, none_some, false_true}
 use Rattle.driver_machine.proofs.Until.{own_unit}
 use Rattle.driver_laws.specs.invariant.InvariantKept.{EachActKeeps}
 use Rattle.driver_laws.proofs.invariant.Frame.{slot_there}
+use Rattle.driver_machine.proofs.Dues.{IsDue}
 
 -- HOW MANY REQUESTS ARE OUTSTANDING.
 abbrev pub one_by : Bool → ℕ

@@ -16,11 +16,11 @@ use Rattle.driver_machine.specs.Sound.{IsDrive, IsBegun, IsPhase, IsTask, IsStil
 use Rattle.driver_machine.specs.World.{transfer_of}
 use Rattle.driver_machine.specs.Guards.{May}
 use Rattle.driver_machine.specs.Due.{steps_of, steps_for}
-use Rattle.driver_machine.specs.DueFacts.{IsDue, IsStep}
 use Rattle.driver_laws.proofs.invariant.Drives.{some_cylinder, performed-seek, drive_seek, drive_recal, drive_offset}
 use Rattle.driver_laws.proofs.invariant.Scene.{SceneOk, phase_is, same_ask, begun_as, due_of}
 use Rattle.driver_laws.proofs.invariant.DeedFacts.{sector_inside}
 use Rattle.driver_laws.proofs.invariant.AdapterLeft.{SceneAdapter, AdapterLeft, is_transferring, is_queued, due_left}
+use Rattle.driver_machine.proofs.Dues.{IsDue, IsStep}
 
 -- A STEP OF A RETRY. A seek of the schedule is for the cylinder of the sector that failed.
 abbrev pub IsStepTo : ℕ → RetryStep → Type 0

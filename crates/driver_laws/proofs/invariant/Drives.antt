@@ -1,11 +1,11 @@
 -- A drive stays one whose registers name places of it, whatever it does.
-use Rattle.std.proofs.Common.{◌≡◌, ℕ, ◌+◌, ◌%◌, ◌<◌, ◌≤◌, Bool, true, false, Some, None, refl, arith, rules}
-use Rattle.std.specs.Prelude.{if◌then◌else◌, ◌&&◌, not, bit_or, nat_lt}
+use Rattle.std.proofs.Common.{◌≡◌, ℕ, ◌+◌, ◌%◌, ◌<◌, Bool, true, false, Some, None, refl, arith, rules}
+use Rattle.std.specs.Prelude.{if◌then◌else◌, ◌&&◌, bit_or, nat_lt}
 use Rattle.std.proofs.lemmas.Bool.Decides.{Decides-ltb}
 use Rattle.pack_geometry.specs.declared.DriveKind.{DriveKind}
 use Rattle.pack_geometry.specs.declared.DriveKind.TheVariants.{Rp06}
 use Rattle.pack_geometry.specs.declared.Place.{Place}
-use Rattle.pack_geometry.specs.Geometry.{cylinders_of, tracks_of, sectors_of, block_count, limit_of, IsInside, place_at, replacement_at, track_and_sector}
+use Rattle.pack_geometry.specs.Geometry.{cylinders_of, sectors_of, block_count, limit_of, IsInside, place_at, track_and_sector}
 use Rattle.drive_registers.specs.declared.Function.TheVariants as function
 use Rattle.drive_registers.specs.declared.OffsetCode.{OffsetCode}
 use Rattle.drive_registers.specs.declared.OffsetCode.TheVariants as code
@@ -19,7 +19,7 @@ use Rattle.hardware_table.specs.declared.Moved.TheVariants as verdict
 use Rattle.hardware_table.specs.declared.Work.{Work}
 use Rattle.hardware_table.specs.declared.Work.TheVariants as work
 use Rattle.hardware_table.specs.declared.Register.TheVariants as register
-use Rattle.hardware_table.specs.Drive.{DriveState, on, with_register}
+use Rattle.hardware_table.specs.Drive.{DriveState, with_register}
 use Rattle.hardware_table.specs.Functions.{is_addressed, performed}
 use Rattle.hardware_table.specs.Events.{arrived_from, transfer_ended, attention_cleared, turned, fault_armed, online_set, locked_set}
 use Rattle.hardware_table.specs.Moves.{passed, after_move, with_mark_bits, with_fault_bits, fault_used}
@@ -33,17 +33,9 @@ pub place_inside : (kind : DriveKind) (block : ℕ) → block < block_count kind
 place_inside Rp06 block lt = record { cylinder = omega arith; track = omega arith; sector = omega arith }
 place_inside other block lt = record { cylinder = omega arith; track = omega arith; sector = omega arith }
 
-sizes_small : (kind : DriveKind) → (cylinders_of kind ≤ 1024) × (tracks_of kind ≤ 256) × (sectors_of kind ≤ 256)
-sizes_small Rp06 = (omega arith, omega arith, omega arith)
-sizes_small other = (omega arith, omega arith, omega arith)
-
 pub below_limit : (kind : DriveKind) (block : ℕ) → block < limit_of kind → block < block_count kind
 below_limit Rp06 block lt = omega arith
 below_limit other block lt = omega arith
-
-pub replacement_below : (kind : DriveKind) (i : ℕ) → i < 126 → replacement_at kind i < block_count kind
-replacement_below Rp06 i lt = omega arith
-replacement_below other i lt = omega arith
 
 pub some_cylinder : (kind : DriveKind) → 0 < cylinders_of kind
 some_cylinder Rp06 = omega arith
@@ -52,12 +44,6 @@ some_cylinder other = omega arith
 pub sector_below : (kind : DriveKind) (n : ℕ) → n % sectors_of kind < sectors_of kind
 sector_below Rp06 n = omega arith
 sector_below other n = omega arith
-
-pub no_bits : (b c : Bool) (x y : ℕ) → b ≡ true → c ≡ false → bit_or (on (not b) x) (on c y) ≡ 0
-no_bits b c x y e f = rw (e, f) refl
-
-pub small_sector : (kind : DriveKind) (sector : ℕ) → sector < sectors_of kind → sector < 256
-small_sector kind sector lt = let few = (sizes_small kind).2 in omega arith
 
 -- the registers name a sector of the drive
 pub is_addressed-addressed : (d : DriveState) (place : Place) → IsInside d.kind place → is_addressed (addressed place d) ≡ true
@@ -81,11 +67,6 @@ performed-transfer write d place h0 h1 = first_of (search rules, grind arith)
 pub drive_as : (d : DriveState) (cs1 er1 er2 ec1 ec2 : ℕ) (does : Work) (attention : Bool) (armed : Armed) → IsDrive d
     → IsDrive (record d { cs1 = cs1; er1 = er1; er2 = er2; ec1 = ec1; ec2 = ec2; work = does; attention = attention; armed = armed })
 drive_as d cs1 er1 er2 ec1 ec2 does attention armed is = first_of (search rules, grind arith)
-
--- its registers of places say another place of it
-pub drive_at : (d : DriveState) (place : Place) (cs1 : ℕ) (does : Work) → IsInside d.kind place → IsDrive d
-    → IsDrive (record d { cs1 = cs1; dc = place.cylinder; da = track_and_sector place; work = does })
-drive_at d place cs1 does inside is = first_of (search rules, grind arith)
 
 -- FUNCTIONS
 pub drive_search : (d : DriveState) (place : Place) → IsInside d.kind place → IsDrive d → IsDrive (performed function.Search (addressed place d))

@@ -10,7 +10,7 @@ use Rattle.driver_machine.specs.Acts as deed
 use Rattle.driver_machine.specs.Sound.{IsPhase, IsStill}
 use Rattle.driver_machine.specs.World.{UnitView, AdapterView, Held}
 use Rattle.driver_machine.specs.Guards.{May}
-use Rattle.driver_machine.specs.DueFacts.{IsDue, Calls, AtStart, AtStep, AtTransfer, AtChoice, Ends, Offline, Locked, Left, Unforwarded, Tried, Finished, IsAtCommand}
+use Rattle.driver_machine.proofs.Dues.{AtStart, AtStep, AtTransfer, AtChoice, Offline, Locked, Left, Unforwarded, Tried, Finished, Calls, Ends, IsAtCommand, IsDue}
 use Rattle.driver_laws.proofs.invariant.Scene.{SceneOk, phase_is, due_of}
 use Rattle.driver_laws.proofs.invariant.DeedFacts.{judged_is}
 use Rattle.driver_laws.proofs.invariant.AdapterLeft.{is_transferring, calls_rest, SceneAdapter, AdapterLeft, queue_left, not_transferring}

@@ -19,12 +19,12 @@ use Rattle.driver_machine.specs.Acts.{Scene, effect}
 use Rattle.driver_machine.specs.Sound.{IsTask, IsTableFor}
 use Rattle.driver_machine.specs.World.{transfer_of}
 use Rattle.driver_machine.specs.Guards.{May}
-use Rattle.driver_machine.specs.DueFacts.{IsDue}
 use Rattle.driver_machine.proofs.DueFacts.{none_some}
 use Rattle.driver_laws.proofs.invariant.Scene.{SceneOk, due_of}
 use Rattle.driver_laws.proofs.invariant.DeedFacts.{judged_is, left_by}
 use Rattle.driver_laws.proofs.invariant.AdapterLeft.{SceneAdapter, AdapterLeft, is_transferring, is_queued, due_left}
 use Rattle.pack_geometry.proofs.HomeLaws.{same_place}
+use Rattle.driver_machine.proofs.Dues.{IsDue}
 
 -- FORWARD: the replacement that comes next is that of the entry which lists the block.
 found_at : (index : Option ℕ) (table : Option Table) (place : Place) (i : ℕ) → entry_by index table place ≡ Some i

@@ -34,9 +34,6 @@ unit_on-small a k al kl = omega arith
 pub adapter_of-small : (u : ℕ) → u < 32 → adapter_of u < 4
 adapter_of-small u lt = omega arith
 
-pub drive_of-small : (u : ℕ) → drive_of u < 8
-drive_of-small u = omega arith
-
 -- THE REQUEST IN HAND of a unit is outstanding there.
 pub head_out : (w : World) (x : ℕ) → UnitOk w x (unit_at w x) → 0 < length (unit_at w x).queue
     → IsOutstanding w x (slice_index_or (unit_at w x).queue 0 (record { number = 0; cylinder = 0 }))

@@ -14,11 +14,11 @@ use Rattle.driver_machine.specs.World.{World, UnitView, Held, no_unit, no_held, 
 use Rattle.driver_machine.specs.Acts.{Scene, scene_of, with_scene}
 use Rattle.driver_machine.specs.Guards.{InHand, IsApart}
 use Rattle.driver_machine.specs.Sound.{Among, Once, slots_of, slots_made, IsOutstanding, UnitOk, SlotOk, IsMade, Sound}
-use Rattle.driver_laws.specs.invariant.Parts.{IsServed, AreFrames, AreAnswers}
 use Rattle.driver_laws.proofs.invariant.Frame.{slot_there}
 use Rattle.driver_laws.proofs.invariant.SlotsLists.{put_set, head_of, contains_head, Among-contained, number_of}
 use Rattle.driver_laws.proofs.invariant.Frames.{frames_at, frames_put, frames_same}
 use Rattle.driver_laws.proofs.invariant.Changed.{AreParts, Changed, Leaves, outstanding_stays, kind_stays, slots_changed, parts_changed}
+use Rattle.driver_laws.proofs.invariant.Parts.{IsServed, AreFrames, AreAnswers}
 
 -- What a deed keeps of its scene, beside the drive, the phase, the transfer, and what the buffer holds
 pub record Keeps (old new : Scene) : Type 0 where

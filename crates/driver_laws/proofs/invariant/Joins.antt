@@ -1,5 +1,5 @@
 -- A request joins: it stands in its slot and in its unit's queue, and its frames are needed.
-use Rattle.std.proofs.Common.{◌≡◌, ◌≢◌, inl, inr, ℕ, ◌+◌, ◌<◌, ◌≤◌, true, false, length, Some, None, refl, sym, ap, ◌∙◌, subst, arith, rules}
+use Rattle.std.proofs.Common.{◌≡◌, ◌≢◌, inl, inr, ℕ, ◌+◌, ◌<◌, ◌≤◌, false, length, Some, None, refl, sym, ap, ◌∙◌, subst, arith, rules}
 use Rattle.std.proofs.lemmas.Option.{none-some, same_Some}
 use Rattle.std.proofs.lemmas.Bool.{false≢true, true≢false}
 use Rattle.pack_geometry.specs.Geometry.{limit_of, place_at}
@@ -14,10 +14,10 @@ use Rattle.driver_machine.specs.Acts as acts
 use Rattle.driver_machine.specs.Acts.{after, joined, waiter_for}
 use Rattle.driver_machine.specs.Guards.{IsNew, IsApart}
 use Rattle.driver_machine.specs.Sound.{Among, slots_of, is_waiting, IsOutstanding, UnitOk, SlotOk, Sound}
-use Rattle.driver_laws.specs.invariant.Parts.{IsServed, AreFrames, AreAnswers}
 use Rattle.driver_laws.proofs.invariant.SlotsLists.{put_set, number_of, cylinder_of, contained_among, with_contained, with_among, with_once, with_head}
 use Rattle.driver_laws.proofs.invariant.Frames.{frames_at, frames_put}
 use Rattle.driver_laws.proofs.invariant.Changed.{AreParts, Changed, Leaves, outstanding_stays, kind_stays, slots_changed, parts_changed}
+use Rattle.driver_laws.proofs.invariant.Parts.{IsServed, AreFrames, AreAnswers}
 
 used_more : (frames used now needed : ℕ) → frames ≡ used → now + 0 ≡ used + needed → frames + needed ≡ now
 used_more frames used now needed a b = omega (arith, a, b)

@@ -1,5 +1,5 @@
 -- RCOM AND WCOM: the segment lies on the drive and in the buffer, and behind them phase, drive and adapter hold.
-use Rattle.std.proofs.Common.{◌≡◌, inl, inr, ℕ, ◌+◌, ◌-◌, ◌<◌, ◌≤◌, Bool, Option, Some, None, refl, sym, ap, ◌∙◌, subst, arith, rules}
+use Rattle.std.proofs.Common.{◌≡◌, inl, inr, ℕ, ◌+◌, ◌<◌, ◌≤◌, Bool, Option, Some, None, refl, sym, ap, ◌∙◌, subst, arith, rules}
 use Rattle.std.specs.Prelude.{if◌then◌else◌}
 use Rattle.std.proofs.lemmas.Bool.{false≢true}
 use Rattle.pack_geometry.specs.Geometry.{IsInside, place_at}
@@ -16,12 +16,12 @@ use Rattle.driver_machine.specs.Acts as deed
 use Rattle.driver_machine.specs.Sound.{IsDrive, IsBegun, IsPhase, IsTask, IsStill, IsUnderWay}
 use Rattle.driver_machine.specs.World.{transfer_of, drive_of}
 use Rattle.driver_machine.specs.Guards.{May}
-use Rattle.driver_machine.specs.DueFacts.{IsDue, IsAtCommand}
 use Rattle.driver_laws.proofs.invariant.Drives.{performed-transfer, drive_transfer}
 use Rattle.driver_laws.proofs.invariant.Scene.{SceneOk, phase_is, same_ask, begun_as, due_of, segment_some}
 use Rattle.driver_laws.proofs.invariant.DeedFacts.{sector_inside}
 use Rattle.driver_laws.proofs.invariant.AdapterLeft.{SceneAdapter, AdapterLeft}
 use Rattle.driver_laws.proofs.invariant.Lists.{among_left, once_left}
+use Rattle.driver_machine.proofs.Dues.{IsAtCommand, IsDue}
 
 -- RCOM AND WCOM
 pub at_command : (u : ℕ) (s : Scene) → SceneOk u s → IsAtCommand s.unit.phase → IsBegun s.unit s.held × IsStill s.unit.drive

@@ -10,7 +10,7 @@ use Rattle.driver_machine.specs.Acts as deed
 use Rattle.driver_machine.specs.Sound.{IsDrive, IsBegun, IsPhase, IsStill}
 use Rattle.driver_machine.specs.World.{UnitView, AdapterView, Held}
 use Rattle.driver_machine.specs.Guards.{May}
-use Rattle.driver_machine.specs.DueFacts.{IsDue, Calls, AtStart, AtStep, AtTransfer, AtChoice}
+use Rattle.driver_machine.proofs.Dues.{AtStart, AtStep, AtTransfer, AtChoice, Calls, IsDue}
 use Rattle.driver_laws.proofs.invariant.Drives.{drive_pack}
 use Rattle.driver_laws.proofs.invariant.Scene.{same_ask, begun_as, SceneOk, due_of}
 use Rattle.driver_laws.proofs.invariant.AdapterLeft.{SceneAdapter, AdapterLeft, task_left, not_transferring, calls_rest}

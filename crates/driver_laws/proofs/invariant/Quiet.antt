@@ -1,5 +1,5 @@
 -- Acts that touch no slot, or free one: conditions, refusals, and the taking of an answer.
-use Rattle.std.proofs.Common.{◌≡◌, ◌≢◌, ◌⊎◌, inl, inr, ℕ, zero, suc, ◌+◌, ◌<◌, Bool, true, false, List, [], ◌∷◌, ◌++◌, drop, length, Option, Some, None, refl, sym, ap, ◌∙◌, subst, arith, rules}
+use Rattle.std.proofs.Common.{◌≡◌, ◌≢◌, ◌⊎◌, inl, inr, ℕ, zero, suc, ◌+◌, ◌<◌, Bool, false, List, [], ◌∷◌, ◌++◌, drop, length, Option, Some, None, refl, sym, ap, ◌∙◌, subst, arith, rules}
 use Rattle.std.specs.Prelude.{Contains, IsTrue, slice_index_or, slice_set}
 use Rattle.std.specs.Option.{option_map_or}
 use Rattle.std.proofs.lemmas.Option.{none-some, same_Some}
@@ -13,11 +13,11 @@ use Rattle.driver_machine.specs.World.{World, UnitView, Held, no_unit, unit_at, 
 use Rattle.driver_machine.specs.Refusals.{refuses}
 use Rattle.driver_machine.specs.Acts.{Taken, after, freed, with_drive, with_unit_drive}
 use Rattle.driver_machine.specs.Sound.{Among, Once, slot_made, slots_made, frames_by, frames_used, IsOutstanding, UnitOk, IsMade, Sound}
-use Rattle.driver_laws.specs.invariant.Parts.{IsServed, AreFrames, AreAnswers}
 use Rattle.driver_laws.proofs.invariant.SlotsLists.{put_set, put_none, Contains-first, Contains-later}
 use Rattle.driver_laws.proofs.invariant.Frames.{frames_at, frames_put}
 use Rattle.driver_laws.proofs.invariant.Changed.{AreParts, Changed, Leaves, outstanding_stays, slots_changed, parts_changed}
 use Rattle.driver_laws.proofs.invariant.Frame.{slot_there}
+use Rattle.driver_laws.proofs.invariant.Parts.{IsServed, AreFrames, AreAnswers}
 
 not_small : 32 < 32 → ⊥
 not_small lt = omega (arith, lt)

@@ -8,12 +8,12 @@ use Rattle.driver_machine.specs.Acts as deed
 use Rattle.driver_machine.specs.Sound.{IsBegun, IsPhase, IsTask, IsStill}
 use Rattle.driver_machine.specs.World.{UnitView, Held}
 use Rattle.driver_machine.specs.Guards.{May}
-use Rattle.driver_machine.specs.DueFacts.{IsDue, IsReady}
 use Rattle.driver_laws.proofs.invariant.Scene.{SceneOk, phase_is, same_ask, begun_as, due_of}
 use Rattle.driver_laws.proofs.invariant.DeedFacts.{new_begun}
 use Rattle.driver_laws.proofs.invariant.AdapterLeft.{is_transferring, is_queued, SceneAdapter, AdapterLeft, queue_left, not_transferring, not_queued}
 use Rattle.driver_laws.proofs.invariant.Lists.{among_push, once_push}
 use Rattle.driver_laws.proofs.invariant.SlotsLists.{Among-last}
+use Rattle.driver_machine.proofs.Dues.{IsDue, IsReady}
 
 -- READY: the unit waits behind all others
 ready_still : (u : ℕ) (t : TransferState) (s : Scene) → SceneOk u s → IsReady s.unit s.held t → IsStill s.unit.drive

@@ -6,9 +6,9 @@ use Rattle.driver_machine.specs.Acts as deed
 use Rattle.driver_machine.specs.Acts.{Scene, effect}
 use Rattle.driver_machine.specs.Sound.{IsTask}
 use Rattle.driver_machine.specs.Guards.{May}
-use Rattle.driver_machine.specs.DueFacts.{IsDue}
 use Rattle.driver_laws.proofs.invariant.Scene.{SceneOk, due_of}
 use Rattle.driver_laws.proofs.invariant.AdapterLeft.{SceneAdapter, AdapterLeft, is_transferring, is_queued, due_left}
+use Rattle.driver_machine.proofs.Dues.{IsDue}
 
 -- the block counts as one that moved clean
 pub repair_phase : (line u p moved at pattern : ℕ) (s : Scene) → SceneOk u s → IsDue s.unit s.held (deed.Repair moved at pattern)

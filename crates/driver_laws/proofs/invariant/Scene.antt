@@ -16,8 +16,8 @@ use Rattle.driver_machine.specs.Acts as deed
 use Rattle.driver_machine.specs.Acts.{Deed, Scene, effect}
 use Rattle.driver_machine.specs.Guards.{IsNext}
 use Rattle.driver_machine.specs.Sound.{IsDrive, IsBegun, IsPhase, IsTableFor, IsEndedAt, IsFor}
-use Rattle.driver_machine.specs.DueFacts.{IsDue}
 use Rattle.driver_machine.proofs.DueFacts.{due_facts, chosen_facts}
+use Rattle.driver_machine.proofs.Dues.{IsDue}
 
 -- WHAT HOLDS OF A SCENE. Where the adapter is busy for the unit, it transfers for the request in hand.
 pub record HasTransferFor (v : UnitView) (h : Held) (a : AdapterState) : Type 0 where

@@ -15,11 +15,11 @@ use Rattle.driver_machine.specs.Acts as deed
 use Rattle.driver_machine.specs.Sound.{IsDrive, IsPhase, IsMoving}
 use Rattle.driver_machine.specs.Guards.{May}
 use Rattle.driver_machine.specs.Due.{target_of, position_of}
-use Rattle.driver_machine.specs.DueFacts.{IsDue}
 use Rattle.driver_laws.proofs.invariant.Drives.{sector_below, performed-search, drive_search}
 use Rattle.driver_laws.proofs.invariant.Scene.{SceneOk, phase_is, due_of}
 use Rattle.driver_laws.proofs.invariant.DeedFacts.{new_begun}
 use Rattle.driver_laws.proofs.invariant.AdapterLeft.{SceneAdapter, AdapterLeft, is_transferring, is_queued, due_left}
+use Rattle.driver_machine.proofs.Dues.{IsDue}
 
 -- SEARCH. The target lies on the drive, and so does the place that is searched.
 first_inside : (u : ℕ) (s : Scene) → SceneOk u s → IsInside s.unit.drive.kind (target_of s.unit s.held)

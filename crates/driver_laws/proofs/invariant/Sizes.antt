@@ -7,7 +7,7 @@ use Rattle.trace_replay.specs.Script.{Input}
 use Rattle.driver_machine.specs.declared.Made.{Made}
 use Rattle.driver_machine.specs.World.{World, Held}
 use Rattle.driver_machine.specs.Acts.{Act, Refuse, Submit, Of, Change, Nothing, Taken, after, after_all, changed, freed}
-use Rattle.driver_laws.specs.invariant.Parts.{IsAsLarge}
+use Rattle.driver_laws.proofs.invariant.Parts.{IsAsLarge}
 
 -- the same world, and one of which one element of each list was put
 same_sizes : (w : World) → IsAsLarge w w

@@ -21,7 +21,6 @@ use Rattle.driver_machine.specs.Events.{refusal_by, is_room}
 use Rattle.driver_machine.specs.Guards.{InHand, May, MayChange, Allowed}
 use Rattle.driver_machine.specs.Refusals.{refuses}
 use Rattle.driver_machine.specs.Sound.{Sound}
-use Rattle.driver_laws.specs.invariant.Parts.{IsServed, AreSlots, AreFrames, AreAnswers}
 use Rattle.driver_laws.proofs.invariant.Changed.{AreParts}
 use Rattle.driver_laws.proofs.invariant.Hand.{slot_ok, own, deed_parts}
 use Rattle.driver_laws.proofs.invariant.SlotsEachDeed.{GoesOn, deed_keeps, deed_fits}
@@ -29,6 +28,7 @@ use Rattle.driver_laws.proofs.invariant.SlotsEnd.{end_parts}
 use Rattle.driver_laws.proofs.invariant.Joins.{join_parts}
 use Rattle.driver_laws.proofs.invariant.Quiet.{quiet_parts, drive_parts, refused_parts, taken_parts}
 use Rattle.trace_replay.proofs.Kept.{online_kind}
+use Rattle.driver_laws.proofs.invariant.Parts.{IsServed, AreSlots, AreFrames, AreAnswers}
 
 -- what holds holds in its parts
 pub sound_parts : (w : World) → Sound w → AreParts w

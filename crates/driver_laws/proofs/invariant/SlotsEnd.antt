@@ -24,14 +24,14 @@ use Rattle.driver_machine.specs.Guards.{InHand, IsNext, IsApart}
 use Rattle.driver_machine.specs.Acts as deed
 use Rattle.driver_machine.specs.Acts.{Scene, scene_of, with_scene, effect, answer_at}
 use Rattle.driver_machine.specs.Due.{done_with}
-use Rattle.driver_machine.specs.DueFacts.{Calls, AtStart, AtStep, AtTransfer, AtChoice, IsJudged, IsDue, Ends, Offline, Locked, Left, Unforwarded, Tried, Finished}
+use Rattle.driver_machine.proofs.Dues.{AtStart, AtStep, AtTransfer, AtChoice, Offline, Locked, Left, Unforwarded, Tried, Finished, Calls, Ends, IsDue, IsJudged}
 use Rattle.driver_machine.proofs.DueFacts.{due_facts, chosen_facts}
-use Rattle.driver_laws.specs.invariant.Parts.{IsServed, AreFrames, AreAnswers}
 use Rattle.driver_laws.proofs.invariant.SlotsLists.{Contains-first, Contains-later, put_set, cylinder_of, not_head, Once-drop, Among-behind, Among-left, Among-last, Once-push, Contains-drop}
 use Rattle.driver_laws.proofs.invariant.Frames.{frames_at, frames_put}
 use Rattle.driver_laws.proofs.invariant.Changed.{AreParts, Changed, Leaves, outstanding_stays, kind_stays, slots_changed, parts_changed}
 use Rattle.driver_laws.proofs.invariant.Hand.{in_slot, hand_there, unit_ok, unit_there, slot_ok, own, going_on, mine, not_made}
 use Rattle.driver_laws.proofs.invariant.SlotsDeedFacts.{not_transferring}
+use Rattle.driver_laws.proofs.invariant.Parts.{IsServed, AreFrames, AreAnswers}
 
 -- the phase of a unit, once it is known
 phase_is : (u : ℕ) (v : UnitView) (a : AdapterView) (h : Held) (phase : Phase) → v.phase ≡ phase → IsPhase u v a h v.phase → IsPhase u v a h phase

@@ -3,7 +3,7 @@ use Rattle.std.proofs.Common.{◌≡◌, ℕ, ◌<◌, Some}
 use Rattle.pack_geometry.specs.TableSpelling.{Table}
 use Rattle.driver_machine.specs.World.{World, unit_at, adapter_at, held_in, slot_in_hand, adapter_of}
 use Rattle.driver_machine.specs.Sound.{IsDrive, IsPhase, IsTableFor, AdapterOk, Sound}
-use Rattle.driver_laws.specs.invariant.Parts.{IsServed, AreSlots, AreFrames, AreAnswers}
+use Rattle.driver_laws.proofs.invariant.Parts.{IsServed, AreSlots, AreFrames, AreAnswers}
 
 pub sound_from : (w : World) → ((u : ℕ) → u < 32 → IsServed w u (unit_at w u)) → AreSlots w → AreFrames w → AreAnswers w
     → ((u : ℕ) → u < 32 → IsDrive (unit_at w u).drive)

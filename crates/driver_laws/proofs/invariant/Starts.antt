@@ -1,5 +1,5 @@
 -- The world at the start is sound, and every unit and adapter is at rest.
-use Rattle.std.proofs.Common.{◌≡◌, inl, inr, ℕ, zero, suc, ◌<◌, true, false, List, [], ◌∷◌, length, set, get_or, get_or-set_same, get_or-set_other, length-set, replicate, Option, Some, None, refl, sym, ap, ◌∙◌, subst, arith, rules}
+use Rattle.std.proofs.Common.{◌≡◌, inl, inr, ℕ, zero, suc, ◌<◌, List, [], ◌∷◌, length, set, get_or, get_or-set_same, get_or-set_other, length-set, replicate, Option, Some, None, refl, sym, ap, ◌∙◌, subst, arith, rules}
 use Rattle.std.specs.Prelude.{Contains}
 use Rattle.std.proofs.lemmas.List.{length-replicate}
 use Rattle.std.proofs.lemmas.Option.{none-some}
@@ -12,7 +12,7 @@ use Rattle.disksort.specs.declared.Waiter.{Waiter}
 use Rattle.driver_machine.specs.declared.Phase.TheVariants.{Waiting}
 use Rattle.driver_machine.specs.World.{World, UnitView, AdapterView, Held, Setup, no_unit, new_unit, new_adapter_view, set_up, new_world, unit_at, adapter_at, adapter_of, held_in, slot_in_hand}
 use Rattle.driver_machine.specs.Sound.{Among, Once, slots_of, is_waiting, IsDrive, IsStill, IsPhase, IsTableFor, UnitOk, AdapterOk, frames_used, Sound, AtWork}
-use Rattle.driver_laws.specs.invariant.Parts.{units_of, AreSetups}
+use Rattle.driver_laws.specs.invariant.Setups.{units_of, AreSetups}
 use Rattle.driver_laws.proofs.invariant.SlotsLists.{Contains-none, Contains-first, Contains-later}
 
 -- an element of a list of one value is that value, which is the default too

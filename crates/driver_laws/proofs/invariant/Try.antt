@@ -21,10 +21,10 @@ use Rattle.driver_machine.specs.Sound.{IsBegun, IsTask, IsStill, IsEndedAt}
 use Rattle.driver_machine.specs.World.{transfer_of}
 use Rattle.driver_machine.specs.Guards.{May}
 use Rattle.driver_machine.specs.Due.{task_for, done_with}
-use Rattle.driver_machine.specs.DueFacts.{IsDue, IsFailure}
 use Rattle.driver_laws.proofs.invariant.Scene.{SceneOk, due_of}
 use Rattle.driver_laws.proofs.invariant.DeedFacts.{left_by, judged_is}
 use Rattle.driver_laws.proofs.invariant.AdapterLeft.{SceneAdapter, AdapterLeft, is_transferring, is_queued, due_left}
+use Rattle.driver_machine.proofs.Dues.{IsDue, IsFailure}
 
 failures_few : (moved failures : ℕ) → failures ≤ 27 → failures_after moved failures ≢ 28 → failures_after moved failures ≤ 27
 failures_few moved failures most other = first_of (search rules, grind arith)

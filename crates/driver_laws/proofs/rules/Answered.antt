@@ -6,7 +6,7 @@ use Rattle.pack_geometry.specs.declared.DriveKind.{DriveKind}
 use Rattle.pack_geometry.specs.Pack as model
 use Rattle.pack_geometry.specs.TableSpelling.{Table}
 use Rattle.pack_geometry.specs.Homes.{home_of}
-use Rattle.trace_replay.specs.requests.Requests.{Failed, Cause, Offline, Locked, Unforwarded, Fault, first_block}
+use Rattle.trace_replay.specs.requests.Requests.{Failed, Cause, Offline, Locked, Unforwarded, Fault, first_block, Request}
 use Rattle.trace_replay.specs.Script.{Script, drives_of}
 use Rattle.trace_replay.specs.Moments.{Deed, Search, Seek, Recal, Offset, Centre, Clear, Pack, Transfer, Arrive, Sector, Intr, Try, Attn, End, Moment, Told}
 use Rattle.trace_replay.specs.Packs.{surface_of}
@@ -22,11 +22,12 @@ use Rattle.trace_replay.proofs.AsSaid.{is_as_said}
 use Rattle.trace_replay.proofs.Kept.{held_by, refused_is}
 use Rattle.trace_replay.proofs.RunExplained.{run_explained}
 use Rattle.trace_replay.proofs.Unusable.{are_unusable}
-use Rattle.driver_laws.specs.rules.Grounds.{WasPlayed, Submits, IsAskedAt, WasOffline, OfflineIsTold, LockedIsTold, UnforwardedIsHomeless, FaultIsTold}
+use Rattle.driver_laws.specs.rules.Grounds.{WasPlayed, Submits, IsAskedAt, WasOffline, ArmsFault, ArmsShownNoise}
 use Rattle.driver_laws.proofs.rules.Known.{AnyFails, head_asked}
 use Rattle.driver_laws.proofs.rules.KnownScript.{KnownBehind, always_known}
 use Rattle.trace_replay.proofs.Asking.{run_asks}
 use Rattle.driver_laws.proofs.rules.Commands.{id_of}
+use Rattle.std.specs.Prelude.{◌<◌, is_some}
 
 -- an end that names a cause is no refusal's
 is_refused : Deed → Bool
@@ -122,12 +123,24 @@ module _ (script : Script) (tables : ℕ → Option Table) (old new : ℕ → mo
       ((follow_on (start_of script tables old) ms (Told line unit id (End (Failed Unforwarded done)) ∷ [])).1
       (parts.0, (subst (λ z. MayCome Then (Told line unit id (End (Failed z done)))) is parts.1.0, tt))) kind there
 
+-- A request ends offline only where its unit was offline at some moment from its submission to its answer.
+abbrev pub OfflineIsTold : Type 0
+OfflineIsTold = (script : Script) (tables : ℕ → Option Table) (old new : ℕ → model.Pack) (ms ns : List Moment) (line unit id done : ℕ)
+    → IsLegalRun script tables old new (ms ++ Told line unit id (End (Failed Offline done)) ∷ ns)
+    → (r : Request) × IsAskedAt r unit id ms × WasOffline r ms
+
 pub offline_is_told : OfflineIsTold
 offline_is_told script tables old new ms ns line unit id done run = (
   in_hand ((after_moments (start_of script tables old) ms).units unit).service,
   is_asked script tables old new ms ns line unit id done Offline run,
   was_offline script tables old new ms ns line unit id done Offline run ((explained script tables old new ms ns line unit id done Offline run).cause Offline done refl),
 )
+
+-- It ends locked only where it writes, and its unit is online and locked at the answer.
+abbrev pub LockedIsTold : Type 0
+LockedIsTold = (script : Script) (tables : ℕ → Option Table) (old new : ℕ → model.Pack) (ms ns : List Moment) (line unit id done : ℕ)
+    → IsLegalRun script tables old new (ms ++ Told line unit id (End (Failed Locked done)) ∷ ns)
+    → (r : Request) × IsAskedAt r unit id ms × (is_some r.written ≡ true) × (online_behind unit true ms ≡ true) × (locked_behind unit false ms ≡ true)
 
 pub locked_is_told : LockedIsTold
 locked_is_told script tables old new ms ns line unit id done run = (
@@ -144,6 +157,12 @@ locked_is_told script tables old new ms ns line unit id done run = (
     locked : (online_behind unit true ms ≡ true) × (locked_behind unit false ms ≡ true)
     locked = was_locked script tables old new ms ns line unit id done Locked run out
 
+-- It ends unforwarded only where its first block not done is one of its blocks, and has no home on its pack.
+abbrev pub UnforwardedIsHomeless : Type 0
+UnforwardedIsHomeless = (script : Script) (tables : ℕ → Option Table) (old new : ℕ → model.Pack) (ms ns : List Moment) (line unit id done : ℕ) (kind : DriveKind)
+    → IsLegalRun script tables old new (ms ++ Told line unit id (End (Failed Unforwarded done)) ∷ ns) → drives_of script unit ≡ Some kind
+    → (r : Request) × IsAskedAt r unit id ms × (done < r.count) × (home_of kind (tables unit) (old unit) (first_block kind r + done) ≡ None)
+
 pub unforwarded_is_homeless : UnforwardedIsHomeless
 unforwarded_is_homeless script tables old new ms ns line unit id done kind run there = (
   in_hand ((after_moments (start_of script tables old) ms).units unit).service,
@@ -152,7 +171,10 @@ unforwarded_is_homeless script tables old new ms ns line unit id done kind run t
   homeless script tables old new ms ns line unit id done Unforwarded run refl kind there,
 )
 
-pub fault_is_told : FaultIsTold
+-- It ends by a fault only where a line before the answer armed a fault at its unit, or noise of its unit that shows.
+pub fault_is_told : (script : Script) (tables : ℕ → Option Table) (old new : ℕ → model.Pack) (ms ns : List Moment) (line unit id done : ℕ)
+    → IsLegalRun script tables old new (ms ++ Told line unit id (End (Failed Fault done)) ∷ ns)
+    → WasPlayed (ArmsFault unit) ms ⊎ WasPlayed (ArmsShownNoise unit) ms
 fault_is_told script tables old new ms ns line unit id done run =
     (known script tables old new ms ns line unit id done Fault run).failed unit
     (any_failed false 28 all.block (lines_of unit ms) (λ e. omega arith) all.tries)

@@ -12,8 +12,8 @@ use Rattle.trace_replay.specs.Moments.{Deed, Search, Moment, Played, Told, Idle,
 use Rattle.trace_replay.specs.Replay.{Replay, next_wish, Follows, after_moment, after_moments, Submission, Refused, Joined}
 use Rattle.trace_replay.specs.Events.{NoLine}
 use Rattle.driver_laws.specs.rules.Machine.{Blocks, Machine, MayAnswer, Steps, kind_of, after_input, answers_of_input, meets, submitted as machine_submitted}
-use Rattle.driver_laws.specs.rules.LegalAnswers.{AnswersTo, with_asked, ids_asked}
-use Rattle.driver_laws.specs.rules.Stands.{Setup, home_in, StandsFor, AreGiven, IsNew, MomentStep, owed, told_by, armed_by, armed_behind, sure_claims, machine_at, answers_of_moment}
+use Rattle.driver_laws.specs.rules.LegalAnswers.{AnswersTo}
+use Rattle.driver_laws.specs.rules.Stands.{Setup, home_in, StandsFor, owed, armed_by, armed_behind}
 use Rattle.driver_laws.proofs.rules.MachineUnits.{Keeps}
 use Rattle.driver_laws.proofs.rules.Keeping.{no_line_told, no_line_idle}
 use Rattle.driver_laws.proofs.rules.Kept.{moment_kept}
@@ -21,6 +21,8 @@ use Rattle.driver_laws.proofs.rules.Lines.{told_line}
 use Rattle.driver_laws.proofs.rules.Inputs.{append_nil}
 use Rattle.driver_laws.proofs.rules.Steps.{moment_step}
 use Rattle.driver_laws.proofs.rules.Asked.{AreFree, free_after_steps, free_joined}
+use Rattle.driver_laws.proofs.rules.IdsAsked.{ids_asked, with_asked}
+use Rattle.driver_laws.proofs.rules.MomentSteps.{AreGiven, IsNew, MomentStep, answers_of_moment, machine_at, sure_claims, told_by}
 
 -- ---- fewer reads are claimed
 fewer_claimed : (more less : Type 0) (blocks : Blocks) (first : ℕ) (r : Request) (answer : Answer) → (less → more) → MayAnswer more blocks first r answer → MayAnswer less blocks first r answer

@@ -25,12 +25,11 @@ use Rattle.trace_replay.specs.History.{is_refusal, lines_of}
 use Rattle.trace_replay.proofs.Following.{follow_on}
 use Rattle.trace_replay.proofs.Histories.{Fits, Open, CleanFits}
 use Rattle.trace_replay.proofs.Kept.{IsHeld}
-use Rattle.driver_laws.specs.rules.Consistent.{IsAlwaysConsistent}
 use Rattle.driver_laws.specs.rules.Machine.{Blocks, idle, blocks_done, request_of}
-use Rattle.driver_laws.specs.rules.LegalAnswers.{with_asked, ids_asked, unaliased, times_answered}
+use Rattle.driver_laws.specs.rules.LegalAnswers.{unaliased, times_answered}
 use Rattle.driver_laws.specs.rules.LastWrites.{asked_in, left_behind}
-use Rattle.driver_laws.specs.rules.Stands.{HandStands, is_sure_among, Setup, AreGiven, QueueStands, held_at, owed_by, IsOutstanding, armed_behind, home_in}
-use Rattle.driver_laws.specs.rules.Laws.{EachBeginningStands, HasBegun}
+use Rattle.driver_laws.specs.rules.Stands.{HandStands, is_sure_among, Setup, QueueStands, held_at, owed_by, IsOutstanding, armed_behind, home_in}
+use Rattle.driver_laws.specs.rules.Laws.{HasBegun}
 use Rattle.driver_laws.proofs.rules.Homes.{home_is, homes_differ, tried_home}
 use Rattle.driver_laws.proofs.rules.Hands.{written_more}
 use Rattle.driver_laws.proofs.rules.MachineUnits.{Keeps}
@@ -38,11 +37,14 @@ use Rattle.driver_laws.proofs.rules.Kept.{start_kept, input_asks}
 use Rattle.driver_laws.proofs.rules.Steps.{beginning_kept}
 use Rattle.driver_laws.proofs.rules.Once.{times_out, times_among, answers_count, answered_append, once_among, listed_out, nothing_out}
 use Rattle.driver_laws.proofs.rules.LastWrites.{Left, answers_left, each_asked, refusal_left, left_join, found_asked}
-use Rattle.driver_laws.proofs.rules.MachineRuns.{home_marks, left_at, room_at, below_count, script_given, script_ids}
+use Rattle.driver_laws.proofs.rules.MachineRuns.{home_marks, left_at, room_at, below_count, script_given, script_ids, EachBeginningStands}
 use Rattle.std.proofs.lemmas.Bool.{eq-eqb, ne_eqb, true≢false as no}
 use Rattle.std.proofs.lemmas.Bool.Decides.{eqb_tells}
 use Rattle.driver_laws.specs.rules.Beginnings.{IsBegun, IsUnanswered, HoldsButOne, PromisesSoFar, BeginningsKeep, IsNextSector, with_next, NextBlocksKeep}
 use Rattle.driver_laws.proofs.rules.Few.{done_few}
+use Rattle.driver_laws.proofs.rules.IdsAsked.{ids_asked, with_asked}
+use Rattle.driver_laws.proofs.rules.MomentSteps.{AreGiven}
+use Rattle.driver_laws.proofs.rules.Consistency.{IsAlwaysConsistent}
 
 -- ---- the front of a script's inputs
 given_ask : (drives : ℕ → Option DriveKind) (ms : List Moment) → AreGiven drives ms → AskSome ms

@@ -1,6 +1,6 @@
 -- A calm replay stays so.
 use Rattle.std.proofs.Common.{◌≡◌, ℕ, Bool, true, false, [], ◌∷◌, None, Some, refl, sym, subst, rules}
-use Rattle.std.specs.Prelude.{if◌then◌else◌}
+use Rattle.std.specs.Prelude.{if◌then◌else◌, List}
 use Rattle.std.proofs.lemmas.Bool.{false≢true}
 use Rattle.hardware_table.specs.declared.Moved.{Moved}
 use Rattle.hardware_table.specs.Drive.{DriveState}
@@ -8,17 +8,18 @@ use Rattle.hardware_table.specs.Events.{turned}
 use Rattle.hardware_table.specs.Moves.{stop_of, IsVerdictBy}
 use Rattle.trace_replay.specs.requests.Requests.{Request, Answer, Rejection, rejection_answer}
 use Rattle.trace_replay.specs.Script.{Input}
-use Rattle.trace_replay.specs.Moments.{Deed, End, Played, Told, Idle}
+use Rattle.trace_replay.specs.Moments.{Deed, End, Played, Told, Idle, Moment}
 use Rattle.trace_replay.specs.Packs.{VerdictMay}
 use Rattle.trace_replay.specs.Service.{head_of, in_hand, target_of}
 use Rattle.trace_replay.specs.Conversation.{Stage, Waiting}
 use Rattle.trace_replay.specs.Events.{Event, Wish, Refusal}
-use Rattle.trace_replay.specs.Replay.{Replay, UnitSeen, with_state, at_unit, hand_of, next_wish, ToldMay, unit_after, surface_after, replay_told, after_moment, Submission, Refused, Joined, submitted, stage_joined, unit_joined, replay_played}
+use Rattle.trace_replay.specs.Replay.{Replay, UnitSeen, with_state, at_unit, hand_of, next_wish, ToldMay, unit_after, surface_after, replay_told, after_moment, Submission, Refused, Joined, submitted, stage_joined, unit_joined, replay_played, MayCome, Follows, after_moments}
 use Rattle.trace_replay.proofs.Unchanged.{told_keeps}
-use Rattle.driver_laws.specs.rules.Calm.{IsGood, is_calm_verdict, is_calm_stage, IsCalm, is_calm_input, is_calm_moment, are_calm, IsCalmEnd, StaysCalm, RunsStayCalm, EndsAreCalm}
+use Rattle.driver_laws.specs.rules.Calm.{IsGood, is_calm_verdict, is_calm_stage, IsCalm}
 use Rattle.driver_laws.proofs.rules.Drives.{either_good, IsCalmDeed, after_good}
 use Rattle.driver_laws.proofs.rules.WaitedStages.{begun_calm, stage_calm, end_calm}
 use Rattle.driver_laws.proofs.rules.Stages.{first_of, second_of}
+use Rattle.driver_laws.proofs.rules.CalmInputs.{IsCalmEnd, are_calm, is_calm_input, is_calm_moment}
 
 -- ---- the verdict of a sector that is tried
 pub stopped_not : (d : DriveState) → IsGood d → stop_of d ≡ None
@@ -86,14 +87,14 @@ pub played_calm : (s : Replay) (input : Input) → is_calm_input input ≡ true 
 played_calm s input is calm = search (rules, submitted_calm, turned_good, false≢true)
 
 -- ---- ALL OF IT
-pub stays_calm : StaysCalm
+pub stays_calm : (s : Replay) (m : Moment) → MayCome s m → is_calm_moment m ≡ true → IsCalm s → IsCalm (after_moment s m)
 stays_calm s (Played line input) may is calm = other_event (replay_played s input) _ (played_calm s input is calm)
 stays_calm s (Told line unit id deed) may is calm =
     told_keeps IsCalm (next_wish s) s unit deed (λ event. other_event s event calm)
     (λ event. told_calm s unit deed event (deed_calm (next_wish s) s line unit id deed calm may) calm)
 stays_calm s (Idle line) may is calm = other_event s _ calm
 
-pub runs_stay_calm : RunsStayCalm
+pub runs_stay_calm : (s : Replay) (ms : List Moment) → Follows s ms → are_calm ms ≡ true → IsCalm s → IsCalm (after_moments s ms)
 runs_stay_calm s [] follows are calm = calm
 runs_stay_calm s (m ∷ ms) follows are calm =
     runs_stay_calm (after_moment s m) ms follows.1 (second_of (is_calm_moment m) (are_calm ms) are)
@@ -106,5 +107,5 @@ end_by : (wish : Wish) (s : Replay) (line unit id : ℕ) (answer : Answer) → I
 end_by (Refusal u i why) s line unit id answer calm may none = refused_end answer why may.answered none
 end_by other s line unit id answer calm may none = end_calm (s.units unit).drive (hand_of (s.units unit)) (s.units unit).stage answer (calm.drives unit) (calm.stages unit) may.talk
 
-pub ends_are_calm : EndsAreCalm
+pub ends_are_calm : (s : Replay) (line unit id : ℕ) (answer : Answer) → IsCalm s → MayCome s (Told line unit id (End answer)) → IsCalmEnd answer
 ends_are_calm s line unit id answer calm may = end_by (next_wish s) s line unit id answer calm may

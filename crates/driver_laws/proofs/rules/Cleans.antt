@@ -26,7 +26,7 @@ use Rattle.trace_replay.specs.Replay.{Replay, UnitSeen, next_wish, hand_of, at_u
 use Rattle.trace_replay.proofs.Kept.{after_kind}
 use Rattle.trace_replay.proofs.Unchanged.{told_keeps}
 use Rattle.driver_laws.specs.rules.Machine.{Machine, idle, request_of, without, kind_of, done_in, Steps, meets, submitted as machine_submitted}
-use Rattle.driver_laws.specs.rules.Stands.{Setup, home_in, is_sure_among, IsSure, StandsFor, MomentStep, IsOutstanding, sure_claims}
+use Rattle.driver_laws.specs.rules.Stands.{Setup, home_in, is_sure_among, IsSure, StandsFor, IsOutstanding}
 use Rattle.driver_laws.proofs.rules.MachineUnits.{Keeps, head_is, try_of}
 use Rattle.driver_laws.proofs.rules.Keeping.{with_each}
 use Rattle.driver_laws.proofs.rules.Homes.{home_is, there_is}
@@ -42,6 +42,7 @@ use Rattle.driver_laws.proofs.rules.Restful.{rest_keeps, rest_stands}
 use Rattle.driver_laws.proofs.rules.Parts.{numbered, PartStep, part_step, step, first_keeps, first_stands}
 use Rattle.driver_laws.proofs.rules.WaitedLaws.{answers_append, lines_calm, begun_calm, is_answered, cons_never}
 use Rattle.driver_laws.proofs.rules.WaitedStages.{last_calm}
+use Rattle.driver_laws.proofs.rules.MomentSteps.{MomentStep, sure_claims}
 
 -- ---- lists
 head_there : {A : Type 0} (x : A) (xs : List A) → Contains (x ∷ xs) x

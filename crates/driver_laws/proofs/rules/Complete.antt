@@ -16,12 +16,14 @@ use Rattle.trace_replay.specs.Causes.{IsOk, AreAllTries}
 use Rattle.trace_replay.specs.Replay.{Refused, Joined, submission, after_moments}
 use Rattle.trace_replay.specs.Runs.{IsLegalRun, start_of, RunExplained}
 use Rattle.driver_laws.specs.rules.Strikes.{failures_in, AreFewStrikes, FailuresAreFew}
-use Rattle.driver_laws.specs.rules.Grounds.{WasPlayed, Submits, IsAskedAt, WasOffline, OfflineIsTold, LockedIsTold, UnforwardedIsHomeless}
-use Rattle.driver_laws.specs.rules.LegalAnswers.{ids_asked}
-use Rattle.driver_laws.specs.rules.Refusals.{IsRefusedBehind, RefusalsAreMet}
+use Rattle.driver_laws.specs.rules.Grounds.{WasPlayed, Submits, IsAskedAt, WasOffline}
+use Rattle.driver_laws.specs.rules.Refusals.{IsRefusedBehind}
 use Rattle.driver_laws.proofs.rules.MachineRuns.{script_ids}
 use Rattle.driver_laws.specs.rules.Completeness.{tries_at, IsUnhindered}
 use Rattle.driver_laws.proofs.rules.PromisesAsked.{times, once_at_most, times_join, asked_once, one_request, played_here}
+use Rattle.driver_laws.proofs.rules.IdsAsked.{ids_asked}
+use Rattle.driver_laws.proofs.rules.Answered.{LockedIsTold, OfflineIsTold, UnforwardedIsHomeless}
+use Rattle.driver_laws.proofs.rules.Refusals.{RefusalsAreMet}
 
 -- the laws that it follows from
 pub record Laws : Type 0 where

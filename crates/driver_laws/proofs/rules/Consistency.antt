@@ -1,6 +1,6 @@
 -- Each moment that may come keeps the replay consistent.
 use Rattle.std.proofs.Common.{◌≡◌, ◌≢◌, ◌⊎◌, inl, inr, ℕ, ◌==◌, ◌&&◌, Bool, true, false, not, List, [], ◌∷◌, is_some, refl, sym, ap, ◌∙◌, subst, arith, nat_lt, rules}
-use Rattle.std.specs.Prelude.{if◌then◌else◌, drop}
+use Rattle.std.specs.Prelude.{if◌then◌else◌, drop, Option}
 use Rattle.std.proofs.lemmas.Nat.Bits.{bit_at-zero}
 use Rattle.std.proofs.lemmas.Bool.{false≢true, true≢false, eqb-true}
 use Rattle.pack_geometry.specs.declared.DriveKind.{DriveKind}
@@ -15,8 +15,8 @@ use Rattle.trace_replay.specs.Moments.{Deed, Transfer, Arrive, Sector, Intr, Try
 use Rattle.trace_replay.specs.Adapters.{AdapterSeen, adapter_of, drive_of, with_ready, can_move}
 use Rattle.trace_replay.specs.Conversation.{Stage, Waiting, waits, goes_on, is_under_way, is_waiting}
 use Rattle.trace_replay.specs.Events.{Act, Done, Refusing, Arriving, Trying, Serving, NothingToDo, Wish, Attention, Refusal, IdleLine, wish_of, act_after, is_no_line, wish_in}
-use Rattle.trace_replay.specs.Replay.{Replay, UnitSeen, at_unit, with_state, next_wish, LineMay, ToldMay, bytes_of, unit_after, adapter_told, replay_told, drained, act_drained, told_after, act_done, are_at_work, WorkMay, after_moment, after_moments, Follows, new_replay, unit_joined, stage_joined, adapter_joined, joined_by, Submission, Refused, Joined, submission, submitted, conditions_after, act_of, act_submitted}
-use Rattle.driver_laws.specs.rules.Consistent.{is_moving, may_have_errors, is_well_said, Agrees, IsInOrder, serves, IsAct, IsUnderControl, IsConsistent, StaysConsistent, StartsConsistent, IsAlwaysConsistent, Counts, CanServe, IsDue, has_interrupt}
+use Rattle.trace_replay.specs.Replay.{Replay, UnitSeen, at_unit, with_state, next_wish, LineMay, ToldMay, bytes_of, unit_after, adapter_told, replay_told, drained, act_drained, told_after, act_done, are_at_work, WorkMay, after_moment, after_moments, Follows, new_replay, unit_joined, stage_joined, adapter_joined, joined_by, Submission, Refused, Joined, submission, submitted, conditions_after, act_of, act_submitted, MayCome}
+use Rattle.driver_laws.specs.rules.Consistent.{is_moving, may_have_errors, is_well_said, Agrees, IsInOrder, serves, IsAct, IsUnderControl, IsConsistent, Counts, CanServe, IsDue, has_interrupt}
 use Rattle.driver_laws.proofs.rules.Stages.{under_way}
 use Rattle.driver_laws.proofs.rules.Queues.{same, others_queued, queued_joined, others_joined}
 use Rattle.driver_laws.proofs.rules.Driven.{stepped_keeps, Untouched, played_drive}
@@ -24,6 +24,8 @@ use Rattle.driver_laws.proofs.rules.Own.{own}
 use Rattle.driver_laws.proofs.rules.Others.{spared, still_agrees, drives_differ, order_after, order_joined}
 use Rattle.driver_laws.proofs.rules.Working.{resumed, drained_act, nobody, all_started, attended_act, drained_due, attended_due}
 use Rattle.driver_laws.proofs.rules.Controls.{unit_in, unit_of_line, is_served, speaks_next, serving_line, foreign_line, nobody_goes_on, still_serves, still_act, no_interrupt, is_interrupt, interrupt_gone, interrupt_same, attention_served, attention_next}
+use Rattle.pack_geometry.specs.TableSpelling.{Table}
+use Rattle.trace_replay.specs.Packs.{Surface}
 
 -- one of some states is replaced: it holds of the new one, and of the others as they were
 pub one_of : {T : Type 0} (P : ℕ → T → Type 0) (states : ℕ → T) (k : ℕ) (state : T) (x : ℕ) → P k state → (x ≢ k → P x (states x)) → P x (with_state states k state x)
@@ -387,12 +389,13 @@ played_keeps s line Drain over c = begins s s c over (unchanged_parts s c) line 
 played_keeps s line other over c = begins s (conditions_after s other) c over (conditions_same s other c) line false Done 0 tt tt
 
 -- ---- THE WHOLE
-pub stays_consistent : StaysConsistent
+pub stays_consistent : (s : Replay) (m : Moment) → MayCome s m → IsConsistent s → IsConsistent (after_moment s m)
 stays_consistent s (Played line input) may c = played_keeps s line input (ap is_no_line may.over) c
 stays_consistent s (Told line unit id deed) may c = told_keeps (next_wish s) s line unit id deed refl may c
 stays_consistent s (Idle line) may c = done_keeps s IdleLine may.nothing refl refl c
 
-pub starts_consistent : StartsConsistent
+-- It is so at the start,
+pub starts_consistent : (drives : ℕ → Option DriveKind) (tables : ℕ → Option Table) (surface : Surface) → IsConsistent (new_replay drives tables surface)
 starts_consistent drives tables surface = record {
   units = λ unit. record { positions = refl; never_both = refl; transfers = refl; busy = refl; attention = bit_at-zero (drive_of unit); queued = refl; held = refl; errors = λ e. absurd (false≢true e); said = refl; counts = λ e. absurd (false≢true e) };
   adapters = λ k. record { drive = omega arith; completion = λ e. refl; own = λ m l. absurd (false≢true l); once = tt };
@@ -402,6 +405,11 @@ starts_consistent drives tables surface = record {
 pub moments_consistent : (s : Replay) (ms : List Moment) → Follows s ms → IsConsistent s → IsConsistent (after_moments s ms)
 moments_consistent s [] follows c = c
 moments_consistent s (m ∷ ms) follows c = moments_consistent (after_moment s m) ms follows.1 (stays_consistent s m follows.0 c)
+
+-- So every state is consistent that a legal beginning reaches.
+abbrev pub IsAlwaysConsistent : Type 0
+IsAlwaysConsistent = (drives : ℕ → Option DriveKind) (tables : ℕ → Option Table) (surface : Surface) (ms : List Moment)
+    → Follows (new_replay drives tables surface) ms → IsConsistent (after_moments (new_replay drives tables surface) ms)
 
 pub always_consistent : IsAlwaysConsistent
 always_consistent drives tables surface ms follows = moments_consistent (new_replay drives tables surface) ms follows (starts_consistent drives tables surface)

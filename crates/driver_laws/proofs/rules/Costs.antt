@@ -13,7 +13,7 @@ use Rattle.hardware_table.specs.declared.Moved.TheVariants as verdict
 use Rattle.hardware_table.specs.Drive.{DriveState}
 use Rattle.trace_replay.specs.Schedule.{offset_after, recalibrates_after}
 use Rattle.trace_replay.specs.declared.retry_offsets.Step.TheVariants as retry
-use Rattle.trace_replay.specs.requests.Requests.{Request, Offline}
+use Rattle.trace_replay.specs.requests.Requests.{Request}
 use Rattle.trace_replay.specs.Moments.{Deed, Search, Seek, Recal, Offset, Centre, Clear, Pack, Transfer, Sector, Intr, Try, Attn, End}
 use Rattle.trace_replay.specs.Conversation.{Positioning, SearchFor, Segment, OwnBlocks, Replacement, Hand, is_write, start_of, length_of, transfer_of, command_of, needs_unlocked, guarded, due, entry_of, Stage, Waiting, Steps, UnderWay, AtOnce, Moving, Saying, Ending, Progress, saying, retried, failed, forwarded, marked, continued, interrupted_by, stage_after, is_under_way, is_clean, last_of, sector_may, intr_may, progress_tried, progress_interrupted}
 use Rattle.trace_replay.proofs.Histories.{Fits, AreSaid, Open, MoveFits, guard_holds, interrupted, length_some}

@@ -21,9 +21,10 @@ use Rattle.trace_replay.proofs.Following.{follow_on}
 use Rattle.trace_replay.proofs.Unchanged.{drained_keeps}
 use Rattle.trace_replay.proofs.Kept.{AllFit, UnitFits, IsHeld, held_by, told_all, played_all, moments_all, no}
 use Rattle.driver_laws.specs.rules.Measure.{events_of_unit, events_of_units, events_left, blocks_waiting, blocks_of_units, blocks_outstanding}
-use Rattle.driver_laws.specs.rules.Drains.{event_by, events_in, IsOf, AreOf, IsIdle, EventsFall, EventsAreFew, DrainsAreBounded}
+use Rattle.driver_laws.specs.rules.Drains.{event_by, events_in, IsOf, AreOf, IsIdle}
 use Rattle.driver_laws.proofs.rules.Idle.{idle_fits, idle_within, none_waits}
 use Rattle.driver_laws.proofs.rules.Units.{Passes, UnitWithin, unit_falls, unit_within, unit_joined_within, unit_few}
+use Rattle.std.specs.Prelude.{◌++◌}
 
 -- ---- sums over units
 one_no_more : (units : ℕ → UnitSeen) (k : ℕ) (u : UnitSeen) (x : ℕ) → events_of_unit u ≤ events_of_unit (units k) → events_of_unit (with_state units k u x) ≤ events_of_unit (units x)
@@ -143,12 +144,6 @@ idle_at start idle = record { same = refl; held = λ x held. none_waits start id
 there_so : (there : List ℕ) (s : Replay) → IsAt there s → (x : ℕ) → IsHeld (s.units x).service.waiting → IsThere s.there x
 there_so there s at x held = subst (λ z. IsThere z x) (sym at.same) (at.held x held)
 
-pub events_fall : EventsFall
-events_fall start ms line unit id deed idle some are follows may =
-    told_falls (next_wish (after_moments start ms)) (after_moments start ms) line unit id deed (λ x. lines_behind x [] ms) may
-    (moments_all start ms (λ x. []) some follows (idle_fits start idle))
-    (there_so start.there (after_moments start ms) (moments_at start.there start ms are follows (idle_at start idle)))
-
 -- ---- a drain
 less_than : (a b c d e : ℕ) → a + b ≤ c → d + e ≤ a → b + d + e ≤ c
 less_than a b c d e h k = omega (arith, h, k)
@@ -225,13 +220,20 @@ units_few units lines (x ∷ xs) all within =
     sum_few : (a b c d : ℕ) → a ≤ 200 * b → c ≤ 200 * d → a + c ≤ 200 * (b + d)
     sum_few a b c d h k = omega (arith, h, k)
 
-pub events_are_few : EventsAreFew
+-- what is left is at most 200 for each block of the requests that are outstanding
+pub events_are_few : (start : Replay) (ms : List Moment) → IsIdle start → AskSome ms → Follows start ms
+    → events_left (after_moments start ms) ≤ 200 * blocks_outstanding (after_moments start ms)
 events_are_few start ms idle some follows =
     units_few (after_moments start ms).units (λ x. lines_behind x [] ms) (after_moments start ms).there
     (moments_all start ms (λ x. []) some follows (idle_fits start idle))
     (moments_within start ms (λ x. []) some follows (idle_fits start idle) (idle_within start idle))
 
-pub drains_are_bounded : DrainsAreBounded
+-- THE EVENT LINES OF A DRAIN, in which no line of the script is played: from any state on, such moments have no more of them than
+-- are left before and not behind them, which are at most 200 for each block that is outstanding before.
+pub drains_are_bounded : (start : Replay) (ms ts : List Moment) → IsIdle start
+    → AskSome ms → AreOf start.there ms → Follows start (ms ++ ts) → played ts ≡ []
+    → (events_in ts + events_left (after_moments (after_moments start ms) ts) ≤ events_left (after_moments start ms))
+    × (events_in ts ≤ 200 * blocks_outstanding (after_moments start ms))
 drains_are_bounded start ms ts idle some are follows none = (
   falls,
   along (events_in ts) (events_left (after_moments start ms)) (200 * blocks_outstanding (after_moments start ms))

@@ -96,8 +96,5 @@ pub record Untouched (old new : DriveState) : Type 0 where
   pub errors : has_error new ≡ has_error old
   pub kind : new.kind ≡ old.kind
 
-pub untouched : (d : DriveState) → Untouched d d
-untouched d = record { work = refl; calls = refl; errors = refl; kind = refl }
-
 pub played_drive : (unit : ℕ) (d : DriveState) (input : Input) → Untouched d (drive_played unit d input)
 played_drive unit d input = search rules

@@ -5,10 +5,12 @@ use Rattle.hardware_table.specs.Drive.{DriveState}
 use Rattle.trace_replay.specs.requests.ServiceOrder.{Waiting as Waiter}
 use Rattle.trace_replay.specs.requests.Requests.{Request}
 use Rattle.trace_replay.specs.Conversation.{Waiting, not_begun}
-use Rattle.trace_replay.specs.Replay.{Replay, UnitSeen}
+use Rattle.trace_replay.specs.Replay.{Replay, UnitSeen, new_replay}
 use Rattle.trace_replay.proofs.Kept.{AllFit, UnitFits, IsHeld}
-use Rattle.driver_laws.specs.rules.Drains.{IsIdle, StartsIdle}
+use Rattle.driver_laws.specs.rules.Drains.{IsIdle}
 use Rattle.driver_laws.proofs.rules.Units.{UnitWithin}
+use Rattle.pack_geometry.specs.declared.DriveKind.{DriveKind}
+use Rattle.trace_replay.specs.Packs.{Surface}
 
 -- ---- a unit at which nothing waits and nothing is begun
 abbrev unbegun : DriveState → ℕ → Option Table → UnitSeen
@@ -40,5 +42,5 @@ pub none_waits : (s : Replay) → IsIdle s → (x : ℕ) → IsHeld (s.units x).
 none_waits s idle x held = none_held (s.units x).service.waiting (idle.queues x) held
 
 -- ---- the start of a script is one
-pub starts_idle : StartsIdle
+pub starts_idle : (drives : ℕ → Option DriveKind) (tables : ℕ → Option Table) (surface : Surface) → IsIdle (new_replay drives tables surface)
 starts_idle drives tables surface = record { stages = λ x. refl; queues = λ x. refl; fresh = λ x. refl; between = refl }

@@ -17,13 +17,14 @@ use Rattle.trace_replay.specs.Events.{Serving, Wish, NoLine, IdleLine}
 use Rattle.trace_replay.specs.Replay.{Replay, UnitSeen, next_wish, InputMay, after_moment, Submission, Refused, Joined, submission, submitted, unit_joined, joined_by, event_of, conditions_after, act_submitted}
 use Rattle.trace_replay.proofs.Kept.{played_kind}
 use Rattle.driver_laws.specs.rules.Machine.{Machine, request_of, frames_of, kind_of, meets, after_input, answers_of_input, submitted as machine_submitted, answers_at_once}
-use Rattle.driver_laws.specs.rules.Stands.{Setup, home_in, is_sure_among, UnitStands, QueueStands, IsLive, StageStands, StandsFor, owed, owed_by, armed_by, MomentStep}
+use Rattle.driver_laws.specs.rules.Stands.{Setup, home_in, is_sure_among, UnitStands, QueueStands, IsLive, StageStands, StandsFor, owed, owed_by, armed_by}
 use Rattle.driver_laws.proofs.rules.Outstanding.{queue_joined, queue_stays, joins_found}
 use Rattle.driver_laws.proofs.rules.Homes.{there_is}
 use Rattle.driver_laws.proofs.rules.Joins.{joined_inside, there_with, joined_stands, played_work, fewer_stands}
 use Rattle.driver_laws.proofs.rules.MachineUnits.{Keeps, plain}
 use Rattle.driver_laws.proofs.rules.Keeping.{with_each, IsCalm}
 use Rattle.driver_laws.proofs.rules.Lines.{other_event, state_owes}
+use Rattle.driver_laws.proofs.rules.MomentSteps.{MomentStep}
 
 -- ---- a request that joins
 joined_stands_for : (setup : Setup) (armed : List LiveNoise) (s : Replay) (m : Machine) (r : Request) → Keeps setup s → StandsFor setup armed s m

@@ -15,12 +15,13 @@ use Rattle.trace_replay.specs.Causes.{AsksSome}
 use Rattle.trace_replay.proofs.Unchanged.{told_keeps, surface_marks, with_other}
 use Rattle.trace_replay.proofs.Kept.{AllFit, told_all, played_all, starts, after_kind, played_kind}
 use Rattle.driver_laws.specs.rules.Machine.{kind_of}
-use Rattle.driver_laws.specs.rules.Stands.{Setup, start_over, IsGiven}
+use Rattle.driver_laws.specs.rules.Stands.{Setup, start_over}
 use Rattle.driver_laws.proofs.rules.MachineUnits.{Keeps}
 use Rattle.driver_laws.proofs.rules.Keeping.{with_each, Events, line_events, told_true, calm_first, calm_either}
 use Rattle.trace_replay.proofs.Histories.{WasMarked}
 use Rattle.trace_replay.proofs.Asking.{there_asks}
 use Rattle.trace_replay.proofs.Unusable.{attached_kind}
+use Rattle.driver_laws.proofs.rules.MomentSteps.{IsGiven}
 
 -- ---- kinds, tables and marks stay
 pub record Steady (setup : Setup) (s : Replay) : Type 0 where

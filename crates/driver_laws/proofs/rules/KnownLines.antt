@@ -1,5 +1,5 @@
 -- What is known stays known behind a line of the trace, and behind one of the script.
-use Rattle.std.proofs.Common.{◌≡◌, inl, inr, ℕ, ◌==◌, true, false, List, [], ◌∷◌, ◌++◌, Some, refl, sym, ◌∙◌, subst, nat_lt, rules}
+use Rattle.std.proofs.Common.{◌≡◌, inl, inr, ℕ, ◌==◌, true, List, [], ◌∷◌, ◌++◌, Some, refl, sym, ◌∙◌, subst, nat_lt, rules}
 use Rattle.std.specs.Prelude.{if◌then◌else◌}
 use Rattle.std.proofs.lemmas.Bool.{false≢true, eqb-true}
 use Rattle.hardware_table.specs.declared.Moved.{Moved}

@@ -14,10 +14,11 @@ use Rattle.trace_replay.specs.Moments.{Moment, Answered, answers_in}
 use Rattle.trace_replay.specs.Replay.{Submission}
 use Rattle.trace_replay.specs.Runs.{IsLegalRun}
 use Rattle.driver_laws.specs.rules.Machine.{Blocks, Machine, kind_of, idle, request_of, without, meets, after_input, answers_of_input, answers_at_once, MayAnswer, blocks_after, Steps, submitted as machine_submitted}
-use Rattle.driver_laws.specs.rules.LegalAnswers.{AnswersTo, with_asked, ids_asked, unaliased, all_claimed, none_claimed}
+use Rattle.driver_laws.specs.rules.LegalAnswers.{AnswersTo, unaliased, all_claimed, AreNoAliases}
 use Rattle.driver_laws.specs.rules.LastWrites.{asked_in, left_by, left_behind, Gives, EachGives}
-use Rattle.driver_laws.specs.rules.Laws.{HasLegalAnswers, ArePassedOn, WritesArePassedOn, AllWritesArePassedOn, LeadsToOneMap}
+use Rattle.driver_laws.specs.rules.Laws.{HasLegalAnswers, ArePassedOn}
 use Rattle.driver_laws.proofs.rules.MachineRuns.{answers_are_legal, all_answers_are_legal, script_ids}
+use Rattle.driver_laws.proofs.rules.IdsAsked.{ids_asked, with_asked}
 
 -- ---- each outstanding request is the one that the inputs ask for under its id
 abbrev pub AllAsked : List Numbered → List Request → Type 0
@@ -170,16 +171,14 @@ passed_on claims script tables old new ms run h = record {
     left = answers_left (drives_of script) claims (inputs_of script) (idle (contents_of (drives_of script) tables old)) (inputs_of script) (answers_in ms) (idle h.last) tt
         (each_asked (inputs_of script) (subst AreApart (sym (script_ids script)) run.good.ids)) h.legal
 
-pub writes_are_passed_on : WritesArePassedOn
+-- of each legal run, but for the bytes of reads that alias noise may have struck
+pub writes_are_passed_on : (script : Script) (tables : ℕ → Option Table) (old new : ℕ → model.Pack) (moments : List Moment)
+    → IsLegalRun script tables old new moments
+    → ArePassedOn (unaliased (drives_of script) tables old (inputs_of script)) script tables old new moments
 writes_are_passed_on script tables old new ms run = passed_on (unaliased (drives_of script) tables old (inputs_of script)) script tables old new ms run (answers_are_legal script tables old new ms run)
 
-pub all_writes_are_passed_on : AllWritesArePassedOn
+-- and of all reads, where the script arms no alias noise
+pub all_writes_are_passed_on : (script : Script) (tables : ℕ → Option Table) (old new : ℕ → model.Pack) (moments : List Moment)
+    → IsLegalRun script tables old new moments
+    → AreNoAliases (inputs_of script) → ArePassedOn all_claimed script tables old new moments
 all_writes_are_passed_on script tables old new ms run none = passed_on all_claimed script tables old new ms run (all_answers_are_legal script tables old new ms run none)
-
--- ---- what legal answers leave is told by them alone
-pub leads_to_one_map : LeadsToOneMap
-leads_to_one_map script answers first last other good one two = is last one ∙ sym (is other two)
-  where
-    is : (end : ℕ → Blocks) → AnswersTo (drives_of script) none_claimed (idle first) (inputs_of script) answers (idle end) → end ≡ left_behind (drives_of script) (inputs_of script) first answers
-    is end legal = Left.blocks (answers_left (drives_of script) none_claimed (inputs_of script) (idle first) (inputs_of script) answers (idle end) tt
-        (each_asked (inputs_of script) (subst AreApart (sym (script_ids script)) good.ids)) legal)

@@ -16,7 +16,7 @@ use Rattle.trace_replay.specs.Events.{Act, Done, Event, Wish, Refusal, wanted, w
 use Rattle.trace_replay.specs.Replay.{Replay, UnitSeen, next_wish, hand_of, LineMay, RefusalMay, ToldMay, after_moment, unit_after, surface_after, replay_told, told_after, drained, act_drained, act_done, frames_after, outstanding_after}
 use Rattle.trace_replay.proofs.Unchanged.{drained_keeps, either}
 use Rattle.driver_laws.specs.rules.Machine.{Blocks, Machine, request_of, without, frames_of, kind_of, blocks_done, done_in, MayAnswer, blocks_after, after_answer, Step, Steps}
-use Rattle.driver_laws.specs.rules.Stands.{Setup, home_in, IsSure, is_sure_among, UnitStands, QueueStands, IsOutstanding, StandsFor, owed, owed_by, told_by, sure_claims}
+use Rattle.driver_laws.specs.rules.Stands.{Setup, home_in, IsSure, is_sure_among, UnitStands, QueueStands, IsOutstanding, StandsFor, owed, owed_by}
 use Rattle.driver_laws.proofs.rules.Outstanding.{frames_left, fewer, head_leaves, other_stays}
 use Rattle.driver_laws.proofs.rules.Homes.{home_is, there_is}
 use Rattle.driver_laws.proofs.rules.Hands.{same_sectors}
@@ -24,6 +24,7 @@ use Rattle.driver_laws.proofs.rules.Ends.{EndsAs, due_ends, next_stage, next_han
 use Rattle.driver_laws.proofs.rules.MachineUnits.{Keeps, IsNoEnd, head_is, own_line, try_of}
 use Rattle.driver_laws.proofs.rules.Keeping.{with_each, IsCalm, calm_line, calm_after, calm_drain}
 use Rattle.driver_laws.proofs.rules.Surfaces.{IsUntouched, untouched, untouched_other, full_after, live_after}
+use Rattle.driver_laws.proofs.rules.MomentSteps.{sure_claims, told_by}
 
 -- ---- the event is not seen
 pub other_event : (setup : Setup) (armed : List LiveNoise) (s : Replay) (m : Machine) (event : Event) → StandsFor setup armed s m → StandsFor setup armed (record s { event = event }) m

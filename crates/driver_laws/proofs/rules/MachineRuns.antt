@@ -1,6 +1,6 @@
 -- THE LAWS of legal beginnings and runs.
-use Rattle.std.proofs.Common.{◌≡◌, ℕ, ◌<◌, ◌≤◌, ◌+◌, ◌-◌, List, [], ◌∷◌, ◌++◌, length, Option, None, Some, refl, sym, ap, ◌∙◌, subst, arith, All, ◌==◌, not, rules}
-use Rattle.std.specs.Prelude.{is_some, slice_index}
+use Rattle.std.proofs.Common.{◌≡◌, ℕ, ◌<◌, ◌≤◌, ◌+◌, List, [], ◌∷◌, ◌++◌, length, Option, None, Some, refl, sym, ap, ◌∙◌, subst, arith, All, ◌==◌, not, rules}
+use Rattle.std.specs.Prelude.{is_some, slice_index, Contains}
 use Rattle.std.specs.List.{AllByRecursion}
 use Rattle.std.proofs.lemmas.Option.{none-some}
 use Rattle.std.proofs.lemmas.List.Elements.{All-head, All-tail}
@@ -18,23 +18,25 @@ use Rattle.hardware_table.specs.Noise.{LiveNoise}
 use Rattle.trace_replay.specs.requests.ServiceOrder.{Waiting as Waiter}
 use Rattle.trace_replay.specs.requests.Requests.{Request, first_block}
 use Rattle.trace_replay.specs.Script.{IsScript, Input, Submit, Drain, Noise, Numbered, Script, Line, Statement, Declares, Plays, with_input, inputs_before, inputs_of, drives_of, with_id, ids_of, IsInput, IsStatement, AreApart}
-use Rattle.trace_replay.specs.Moments.{Moment, Played, Told, Idle, Answered, played, answers_in}
+use Rattle.trace_replay.specs.Moments.{Moment, Played, Told, Idle, played, answers_in}
 use Rattle.trace_replay.specs.Service.{in_hand, first_waiting, request_or_none}
-use Rattle.trace_replay.specs.Replay.{after_moment, Replay, next_wish, Follows, after_moments}
+use Rattle.trace_replay.specs.Replay.{Replay, next_wish, Follows, after_moments}
 use Rattle.trace_replay.specs.Runs.{IsLegalRun, start_of}
 use Rattle.driver_laws.specs.rules.Machine.{Machine, idle, request_of}
-use Rattle.driver_laws.specs.rules.LegalAnswers.{AnswersAt, AnswersTo, with_asked, ids_asked, unaliased, all_claimed, times_answered}
-use Rattle.driver_laws.specs.rules.Stands.{Setup, start_over, home_in, held_at, is_sure_among, QueueStands, StandsFor, AreGiven, MomentStep, armed_by, armed_behind, sure_claims}
-use Rattle.driver_laws.specs.rules.Laws.{EachLineSteps, EachBeginningStands, HoldMap, HasLegalAnswers, AnswersAreLegal, AllAnswersAreLegal, PacksStay, EachIsAnsweredOnce}
+use Rattle.driver_laws.specs.rules.LegalAnswers.{AnswersTo, unaliased, all_claimed, times_answered, AreNoAliases}
+use Rattle.driver_laws.specs.rules.Stands.{Setup, start_over, home_in, held_at, is_sure_among, QueueStands, StandsFor, armed_by, armed_behind}
+use Rattle.driver_laws.specs.rules.Laws.{HoldMap, HasLegalAnswers, RestStays, HasBegun}
 use Rattle.driver_laws.proofs.rules.Blocks.{read_blocks}
 use Rattle.driver_laws.proofs.rules.Homes.{home_is}
-use Rattle.driver_laws.proofs.rules.Kept.{start_kept, moment_kept}
+use Rattle.driver_laws.proofs.rules.Kept.{start_kept}
 use Rattle.driver_laws.proofs.rules.Inputs.{append_nil, over_owes}
-use Rattle.driver_laws.proofs.rules.Steps.{start_stands, moment_step, reached_kept}
+use Rattle.driver_laws.proofs.rules.Steps.{start_stands}
 use Rattle.driver_laws.proofs.rules.Asked.{AreFree}
-use Rattle.driver_laws.proofs.rules.Beginnings.{AreCovered, Goes, GoesOn, goes, goes_on_from, played_goes}
+use Rattle.driver_laws.proofs.rules.Beginnings.{AreCovered, GoesOn, goes_on_from}
 use Rattle.driver_laws.proofs.rules.Claims.{unaliased_covered, all_covered}
 use Rattle.driver_laws.proofs.rules.Once.{times_among, answered_times, apart_once, not_among}
+use Rattle.driver_laws.proofs.rules.IdsAsked.{ids_asked, with_asked}
+use Rattle.driver_laws.proofs.rules.MomentSteps.{AreGiven}
 
 abbrev FirstOf : Setup → Machine
 FirstOf setup = idle (contents_of setup.drives setup.tables setup.packs)
@@ -49,6 +51,12 @@ begun : (setup : Setup) (claims : (line : ℕ) → Request → Type 0) (ms : Lis
 begun setup claims ms are inputs apart follows covered =
     goes_on_from setup claims [] (start_over setup) (FirstOf setup) ms refl are (start_kept setup) (start_stands setup are) follows inputs apart (all_free (ids_asked (played ms))) covered
     (λ line r le claimed k sector lt home. tt)
+
+-- of each legal beginning, no id of which is asked for twice
+abbrev pub EachBeginningStands : Type 0
+EachBeginningStands = (setup : Setup) (ms : List Moment) → AreTablesOf setup.drives setup.packs setup.tables
+    → AreGiven setup.drives ms → AreApart (ids_asked (played ms))
+    → Follows (start_over setup) ms → HasBegun setup ms
 
 pub each_beginning : EachBeginningStands
 each_beginning setup ms are inputs apart follows = record { machine = g.last; answered = subst (λ z. AnswersTo setup.drives (unaliased setup.drives setup.tables setup.packs (played ms)) (FirstOf setup) (played ms) z g.last) (sym g.order) g.more; stands = g.stands }
@@ -97,33 +105,6 @@ script_ids script = lines_ids (record { line = script.count + 1; input = Drain }
 pub more_sure : (armed : List LiveNoise) (input : Input) (unit sector : ℕ) → is_sure_among (armed_by armed input) unit sector → is_sure_among armed unit sector
 more_sure armed (Noise n) unit sector is = is.0
 more_sure armed other unit sector is = is
-
-one_line : (drives : ℕ → Option DriveKind) (claims : (line : ℕ) → Request → Type 0) (m : Machine) (n : Numbered) (inputs : List Numbered) (answers : List Answered) (new : Machine) → inputs ≡ []
-    → AnswersTo drives claims m (n ∷ inputs) answers new → AnswersAt drives claims m n answers new
-one_line drives claims m n inputs answers new none is = search rules
-
-pub each_line : EachLineSteps
-unfolding AllGood
-each_line setup armed s m line input ms reached h follows none given new = record {
-  new = g.last;
-  answered = subst (λ z. AnswersAt setup.drives (sure_claims setup (armed_by armed input)) m (record { line = line; input = input }) z g.last)
-      (sym (g.order ∙ ap (λ z. z ++ g.rest) (over_owes (next_wish s) s.event.line follows.0.over)))
-      (one_line setup.drives (sure_claims setup (armed_by armed input)) m (record { line = line; input = input }) (played ms) g.rest g.last none g.more);
-  stands = subst (λ z. StandsFor setup (armed_behind (armed_by armed input) z) (after_moments s (Played line input ∷ ms)) g.last) none g.stands;
-}
-  where
-    step : MomentStep setup armed s m (Played line input)
-    step = moment_step setup armed s m (Played line input) reached.tables_read (reached_kept setup s reached) h follows.0 given new
-
-    behind : Goes setup (sure_claims setup (armed_by armed input)) (armed_by armed input) (after_moment s (Played line input)) step.new ms
-    behind = goes setup (sure_claims setup (armed_by armed input)) (armed_by armed input) (after_moment s (Played line input)) step.new ms reached.tables_read
-        (moment_kept setup s (Played line input) (reached_kept setup s reached) given follows.0) step.stands follows.1
-        (moments_good setup.drives ms (subst (AllGood setup.drives) (sym none) tt)) (subst (λ z. AreApart (ids_asked z)) (sym none) tt)
-        (subst (λ z. AreFree (ids_asked z) (Machine.outstanding step.new)) (sym none) tt) (subst (AreCovered setup (sure_claims setup (armed_by armed input))) (sym none) tt) (λ at r le claimed. claimed)
-
-    g : GoesOn setup (sure_claims setup (armed_by armed input)) armed s m (Played line input ∷ ms)
-    g = played_goes setup (sure_claims setup (armed_by armed input)) armed s m line input ms follows.0.later
-        (λ at r le claimed k sector lt home. more_sure armed input r.unit sector (claimed k sector lt home)) step behind
 
 -- ---- A RUN
 abbrev SetupOf : Script → (ℕ → Option Table) → (ℕ → model.Pack) → Setup
@@ -216,10 +197,16 @@ run_answers claims script tables old new ms run covered = record {
     all = sym (append_nil (answers_in ms))
         ∙ ap (λ z. answers_in ms ++ z) (sym (over_owes (next_wish (after_moments (start_of script tables old) ms)) (after_moments (start_of script tables old) ms).event.line run.trace.over.over)) ∙ g.order
 
-pub answers_are_legal : AnswersAreLegal
+-- Of each legal run they are, but for the bytes of reads that alias noise may have struck.
+pub answers_are_legal : (script : Script) (tables : ℕ → Option Table) (old new : ℕ → model.Pack) (moments : List Moment)
+    → IsLegalRun script tables old new moments
+    → HasLegalAnswers (unaliased (drives_of script) tables old (inputs_of script)) script tables old new moments
 answers_are_legal script tables old new ms run = run_answers (unaliased (drives_of script) tables old (inputs_of script)) script tables old new ms run (unaliased_covered (SetupOf script tables old) (inputs_of script))
 
-pub all_answers_are_legal : AllAnswersAreLegal
+-- Where the script arms no alias noise, they are with the bytes of all reads.
+pub all_answers_are_legal : (script : Script) (tables : ℕ → Option Table) (old new : ℕ → model.Pack) (moments : List Moment)
+    → IsLegalRun script tables old new moments
+    → AreNoAliases (inputs_of script) → HasLegalAnswers all_claimed script tables old new moments
 all_answers_are_legal script tables old new ms run none = run_answers all_claimed script tables old new ms run (all_covered (SetupOf script tables old) (inputs_of script) none)
 
 -- ---- the rest of the packs
@@ -252,7 +239,10 @@ table_left script tables old new ms run unit (Some kind) declared is = table_sam
       marks = λ k lt. ap (λ z. not (slice_index z (copy_at kind k) == 0)) (sym (run.packs.marks unit));
     }) is
 
-pub packs_stay : PacksStay
+-- of each legal run
+pub packs_stay : (script : Script) (tables : ℕ → Option Table) (old new : ℕ → model.Pack) (moments : List Moment)
+    → IsLegalRun script tables old new moments
+    → RestStays script tables old new
 packs_stay script tables old new ms run = record {
   sectors = λ unit sector kind declared below none. left_sector script tables old new ms run unit sector kind declared below none;
   marks = run.packs.marks;
@@ -261,7 +251,10 @@ packs_stay script tables old new ms run = record {
 }
 
 -- ---- each id once
-pub each_once : EachIsAnsweredOnce
+pub each_once : (script : Script) (tables : ℕ → Option Table) (old new : ℕ → model.Pack) (moments : List Moment) (id : ℕ)
+    → IsLegalRun script tables old new moments
+    → (Contains (ids_of script.lines) id → times_answered id (answers_in moments) ≡ 1)
+    × (¬ (Contains (ids_of script.lines) id) → times_answered id (answers_in moments) ≡ 0)
 each_once script tables old new ms id run = (
   (λ asked. times ∙ apart_once id (ids_of script.lines) run.good.ids asked),
   (λ never. times ∙ not_among id (ids_of script.lines) never),

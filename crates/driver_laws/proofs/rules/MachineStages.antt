@@ -1,5 +1,5 @@
 -- Where a request stands, line by line: what its stage says of the map stays so.
-use Rattle.std.proofs.Common.{◌≡◌, ℕ, zero, suc, ◌≤◌, ◌+◌, ◌==◌, ◌&&◌, nat_lt, true, false, not, List, [], ◌∷◌, ◌++◌, Option, None, Some, refl, subst, arith, ◌∙◌, rules}
+use Rattle.std.proofs.Common.{◌≡◌, ℕ, zero, suc, ◌≤◌, ◌+◌, ◌==◌, ◌&&◌, nat_lt, true, not, List, [], ◌∷◌, ◌++◌, Option, None, Some, refl, subst, arith, ◌∙◌, rules}
 use Rattle.std.specs.Prelude.{is_some}
 use Rattle.std.proofs.lemmas.Option.{same_Some, none-some}
 use Rattle.std.proofs.lemmas.Bool.Decides.{nat_tests}

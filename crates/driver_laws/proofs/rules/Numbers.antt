@@ -14,10 +14,6 @@ pub one_try_less : (segment : Segment) (f : ℕ) → f < 28 → tries_left segme
 one_try_less OwnBlocks f few = omega (arith, few)
 one_try_less (Replacement block) f few = omega (arith, few)
 
-pub few_steps : (segment : Segment) → steps_left segment 0 ≤ 36
-few_steps OwnBlocks = omega arith
-few_steps (Replacement block) = omega arith
-
 -- an offset, if there is one
 abbrev pub offset_number : Option OffsetCode → ℕ
 offset_number None = 0

@@ -10,8 +10,9 @@ use Rattle.trace_replay.specs.Script.{Input, Submit, Numbered, AreApart}
 use Rattle.trace_replay.specs.Moments.{Answered}
 use Rattle.trace_replay.specs.Replay.{Submission}
 use Rattle.driver_laws.specs.rules.Machine.{Machine, request_of, without, meets, after_input, answers_of_input, answers_at_once, Steps, submitted as machine_submitted}
-use Rattle.driver_laws.specs.rules.LegalAnswers.{AnswersTo, with_asked, ids_asked, times_answered}
+use Rattle.driver_laws.specs.rules.LegalAnswers.{AnswersTo, times_answered}
 use Rattle.driver_laws.proofs.rules.Outstanding.{found_id}
+use Rattle.driver_laws.proofs.rules.IdsAsked.{ids_asked, with_asked}
 
 -- how often an id stands in a list, and how often it is outstanding
 pub times_among : ℕ → List ℕ → ℕ

@@ -32,10 +32,6 @@ pub settled : {u : UnitSeen} {a : AdapterSeen} {n : ℕ} (p t c : Bool) → Driv
     → is_well_said u.stage ≡ true → (is_moving u.stage ≡ true → Counts u.stage a.state) → Agrees u a n
 settled {u} {a} {n} p t c d under never trans busy bit queued held errors well counts = search rules
 
--- where nothing is under way
-pub at_rest : {u : UnitSeen} {a : AdapterSeen} {n : ℕ} → Agrees u a n → is_under_way u.stage ≡ false → is_moving u.stage ≡ false → DriveIs u.drive false false false
-at_rest {u} {a} g under moving = search rules
-
 -- THE UNIT AFTER A LINE, over its parts
 abbrev pub UnitNext : UnitSeen → AdapterSeen → Deed → List ℕ → UnitSeen
 UnitNext u a deed bytes = record {

@@ -8,8 +8,8 @@ use Rattle.trace_replay.specs.Moments.{Moment, Played, Told, Idle, played, answe
 use Rattle.trace_replay.specs.Events.{Event}
 use Rattle.trace_replay.specs.Replay.{Replay, Submission, Refused, Joined, submission, submitted, event_of, InputMay, Follows, after_moment, after_moments}
 use Rattle.driver_laws.specs.rules.Machine.{Machine}
-use Rattle.driver_laws.specs.rules.LegalAnswers.{AnswersAt, AnswersTo, ids_asked}
-use Rattle.driver_laws.specs.rules.Stands.{Setup, StandsFor, AreGiven, IsNew, MomentStep, owed, armed_by, armed_behind, sure_claims}
+use Rattle.driver_laws.specs.rules.LegalAnswers.{AnswersAt, AnswersTo}
+use Rattle.driver_laws.specs.rules.Stands.{Setup, StandsFor, owed, armed_by, armed_behind}
 use Rattle.driver_laws.proofs.rules.MachineUnits.{Keeps}
 use Rattle.driver_laws.proofs.rules.Kept.{moment_kept}
 use Rattle.driver_laws.proofs.rules.MachineRuns.{more_sure}
@@ -19,6 +19,8 @@ use Rattle.driver_laws.proofs.rules.Steps.{moment_step, beginning_kept}
 use Rattle.driver_laws.proofs.rules.Asked.{AreFree}
 use Rattle.driver_laws.proofs.rules.Beginnings.{AreCovered, Goes, GoesOn, goes, played_goes}
 use Rattle.driver_laws.specs.rules.Sessions.{Part, MayPlay, behind, IsPart}
+use Rattle.driver_laws.proofs.rules.IdsAsked.{ids_asked}
+use Rattle.driver_laws.proofs.rules.MomentSteps.{AreGiven, IsNew, MomentStep, sure_claims}
 
 -- ---- the number of the last line is not seen
 abbrev pub numbered : ℕ → Replay → Replay

@@ -8,7 +8,7 @@ use Rattle.trace_replay.specs.requests.Requests.{Request}
 use Rattle.trace_replay.specs.Script.{Input, Submit, AreApart}
 use Rattle.trace_replay.specs.Moments.{Moment, Played, Told, Idle, played}
 use Rattle.driver_laws.specs.rules.Grounds.{WasPlayed, Submits}
-use Rattle.driver_laws.specs.rules.LegalAnswers.{with_asked, ids_asked}
+use Rattle.driver_laws.proofs.rules.IdsAsked.{ids_asked, with_asked}
 
 -- ---- how often moments ask for an id
 pub asks : ℕ → Input → ℕ

@@ -6,7 +6,8 @@ use Rattle.trace_replay.specs.Packs.{size_of_block}
 use Rattle.driver_laws.specs.rules.Machine.{Blocks, bytes_or_none, bytes_of_first}
 use Rattle.driver_laws.specs.rules.Laid.{laid, laid_at}
 use Rattle.driver_laws.specs.rules.Bytes.{byte_at, range}
-use Rattle.driver_laws.specs.rules.BytesLaws.{IsBlock, BlocksAreRange}
+use Rattle.trace_replay.specs.requests.Requests.{Request}
+use Rattle.driver_laws.proofs.rules.WholeBlocks.{IsBlock}
 
 -- ---- LAID BYTES
 pub laid_short : (xs ys : List ℕ) → length xs ≤ length ys → laid xs ys ≡ xs ++ drop (length xs) ys
@@ -83,7 +84,9 @@ block_range q blocks first bytes is long =
     let none : 512 * q ≡ 512 * q + 0 = omega arith in
     ap (range 512 blocks first) none ∙ block_from 512 0 q blocks first bytes is long (omega arith)
 
-pub blocks_range : BlocksAreRange
+-- a read of the first blocks of a request, from block b of the partition on
+pub blocks_range : (n b : ℕ) (blocks : Blocks) (first : ℕ) (r : Request) → ((k : ℕ) → k < n → IsBlock (blocks (first + b + k)))
+    → ((k : ℕ) → k < n → size_of_block r k ≡ 512) → bytes_of_first n blocks (first + b) r ≡ range (512 * n) blocks first (512 * b)
 blocks_range zero b blocks first r are whole = refl
 blocks_range (suc n) b blocks first r are whole =
     let one : IsBlock (blocks (first + b + n)) = are n (omega arith) in

@@ -3,18 +3,18 @@ use Rattle.std.proofs.Common.{◌≡◌, inl, inr, ◌⊎◌, ℕ, ◌==◌, tru
 use Rattle.std.proofs.lemmas.Bool.{false≢true}
 use Rattle.hardware_table.specs.Drive.{is_positioning}
 use Rattle.trace_replay.specs.requests.Requests.{Request, Answer, Rejection, rejection_answer}
-use Rattle.trace_replay.specs.Script.{Input, Submit, ArriveAt, MoveAt, AttendTo, Drain, drives_of}
+use Rattle.trace_replay.specs.Script.{Input, Submit, ArriveAt, MoveAt, AttendTo, Drain, drives_of, Script}
 use Rattle.trace_replay.specs.Moments.{Deed, End, Moment, Played, Told, Idle}
 use Rattle.trace_replay.specs.Adapters.{adapter_of, can_move}
 use Rattle.trace_replay.specs.Conversation.{goes_on}
 use Rattle.trace_replay.specs.Events.{Arriving, Trying, Serving, NothingToDo, Wish, Refusal, can_attend, serving}
 use Rattle.trace_replay.specs.History.{is_refusal}
 use Rattle.trace_replay.specs.Replay.{Replay, next_wish, hand_of, LineMay, ToldMay, InputMay, MayCome, Follows, Submission, Refused, Joined, submission, submitted, act_submitted, act_drained, act_done, after_moment, after_moments, told_after}
-use Rattle.trace_replay.specs.Runs.{start_of}
+use Rattle.trace_replay.specs.Runs.{start_of, IsLegalRun}
 use Rattle.trace_replay.proofs.Following.{follow_on}
 use Rattle.trace_replay.proofs.Kept.{end_kept}
-use Rattle.driver_laws.specs.rules.Stands.{Setup, AreGiven, start_over}
-use Rattle.driver_laws.specs.rules.Refusals.{IsRefusedBehind, RefusalsAreMet}
+use Rattle.driver_laws.specs.rules.Stands.{Setup, start_over}
+use Rattle.driver_laws.specs.rules.Refusals.{IsRefusedBehind}
 use Rattle.driver_laws.proofs.rules.MachineUnits.{Keeps}
 use Rattle.driver_laws.proofs.rules.Keeping.{IsCalm, calm_either, calm_drain}
 use Rattle.driver_laws.proofs.rules.Kept.{start_kept, all_quiet}
@@ -22,6 +22,10 @@ use Rattle.driver_laws.proofs.rules.Lines.{line_eases}
 use Rattle.driver_laws.proofs.rules.Steps.{beginning_kept}
 use Rattle.driver_laws.proofs.rules.MachineRuns.{run_given}
 use Rattle.driver_laws.proofs.rules.KnownScript.{last_of}
+use Rattle.driver_laws.proofs.rules.MomentSteps.{AreGiven}
+use Rattle.std.specs.Prelude.{Option}
+use Rattle.pack_geometry.specs.Pack as model
+use Rattle.pack_geometry.specs.TableSpelling.{Table}
 
 -- ---- what is calm owes no refusal
 nothing_owed : (s : Replay) (u i : ℕ) (why : Rejection) → IsCalm s.event.act → next_wish s ≡ Refusal u i why → ⊥
@@ -135,6 +139,12 @@ refused_behind setup ms line unit id answer given follows may refused = at (ends
         from = comes_from setup (after_moments (start_over setup) e.ahead) due.u due.i due.why e.last
             (beginning_kept setup (start_over setup) e.ahead (start_kept setup) (given_front setup e.ahead (e.last ∷ []) (subst (AreGiven setup.drives) e.is given)) parts.0) parts.1.0
             (sym (ap next_wish (ap (after_moments (start_over setup)) e.is ∙ last_of (start_over setup) e.ahead e.last)) ∙ due.is)
+
+-- each answer of a legal run that is a refusal
+abbrev pub RefusalsAreMet : Type 0
+RefusalsAreMet = (script : Script) (tables : ℕ → Option Table) (old new : ℕ → model.Pack) (ms ns : List Moment) (line unit id : ℕ) (answer : Answer)
+    → IsLegalRun script tables old new (ms ++ Told line unit id (End answer) ∷ ns) → is_refusal answer ≡ true
+    → IsRefusedBehind (start_of script tables old) unit id answer ms
 
 pub refusals_are_met : RefusalsAreMet
 refusals_are_met script tables old new ms ns line unit id answer run refused =

@@ -10,8 +10,8 @@ use Rattle.trace_replay.specs.Packs.{size_of_block, sector_of_block, bytes_of_wr
 use Rattle.driver_laws.specs.rules.Machine.{Blocks, blocks_done}
 use Rattle.driver_laws.specs.rules.Laid.{laid_at}
 use Rattle.driver_laws.specs.rules.Bytes.{block_with, with_bytes, with_range}
-use Rattle.driver_laws.specs.rules.BytesLaws.{WholeBlocksGoOn, EdgeGoesOn}
 use Rattle.driver_laws.proofs.rules.Ranges.{laid_long}
+use Rattle.driver_laws.proofs.rules.WholeBlocks.{AreWhole}
 
 -- ---- ONE BLOCK
 laid_at_none : (x : ℕ) (bytes : List ℕ) → laid_at x [] bytes ≡ bytes
@@ -131,7 +131,11 @@ nothing None is some = search arith
 nothing (Some bytes) is some = none-some bytes (sym is)
 
 -- whole blocks, of which n were written
-pub whole_written : WholeBlocksGoOn
+pub whole_written : (blocks now : Blocks) (first at d b c n : ℕ) (from piece : List ℕ) (r : Request) → AreWhole blocks
+    → ((block : ℕ) → now block ≡ with_range blocks first at (take d from) block)
+    → r.written ≡ Some piece → piece ≡ take (512 * c) (drop d from) → ((k : ℕ) → k < c → size_of_block r k ≡ 512) → n ≤ c → at + d ≡ 512 * b → d + 512 * c ≤ length from
+    → ((k : ℕ) → k < n → IsSome (now (first + b + k)))
+    → (block : ℕ) → blocks_done now (first + b) r n block ≡ with_range blocks first at (take (d + 512 * n) from) block
 whole_written blocks now first at d b c n from piece r long so_far written is whole few begins room usable =
     written_so blocks now first at d (d + 512 * n) b n from piece r long so_far written (omega arith) (omega (arith, few, room)) (omega (arith, begins)) (omega (arith, begins)) own
   where
@@ -168,7 +172,11 @@ whole_written blocks now first at d b c n from piece r long so_far written is wh
         ∙ ap (with_bytes k at (take (d + 512 * n) from)) (sym had.1)
 
 -- a block that is covered in part, written back whole
-pub edge_written : EdgeGoesOn
+pub edge_written : (blocks now : Blocks) (first at d b skip size : ℕ) (from content buffer : List ℕ) (r : Request) → AreWhole blocks
+    → ((block : ℕ) → now block ≡ with_range blocks first at (take d from) block)
+    → r.written ≡ Some buffer → size_of_block r 0 ≡ 512 → length buffer ≡ 512 → now (first + b) ≡ Some content → buffer ≡ laid_at skip (take size (drop d from)) content
+    → at + d ≡ 512 * b + skip → (d ≡ 0) ⊎ (skip ≡ 0) → skip + size ≤ 512 → d + size ≤ length from
+    → (block : ℕ) → blocks_done now (first + b) r 1 block ≡ with_range blocks first at (take (d + size) from) block
 edge_written blocks now first at d b skip size from content buffer r long so_far written whole full now_is merged begins either fits room =
     written_so blocks now first at d (d + size) b 1 from buffer r long so_far written (omega arith) room (omega (arith, begins)) (omega (arith, begins, fits)) own
   where

@@ -1,6 +1,6 @@
 -- A script asks for some blocks of units that are there; so the bounds hold in each legal run.
 use Rattle.std.proofs.Common.{◌≡◌, inl, inr, ℕ, zero, suc, ◌+◌, ◌<◌, ◌≤◌, ◌==◌, ◌||◌, Bool, true, false, List, [], ◌∷◌, ◌++◌, filter, Option, None, Some, refl, sym, subst, arith, All}
-use Rattle.std.specs.Prelude.{if◌then◌else◌, is_some}
+use Rattle.std.specs.Prelude.{if◌then◌else◌, is_some, ◌*◌}
 use Rattle.std.specs.List.{list_any}
 use Rattle.std.proofs.lemmas.Bool.Decides.{eqb_tells, nat_tests}
 use Rattle.std.proofs.lemmas.List.Elements.{All-head, All-tail}
@@ -16,12 +16,13 @@ use Rattle.trace_replay.specs.Causes.{AsksSome, AskSome}
 use Rattle.trace_replay.specs.Runs.{start_of, IsLegalRun}
 use Rattle.trace_replay.proofs.Following.{follow_on}
 use Rattle.trace_replay.proofs.Kept.{no}
-use Rattle.driver_laws.specs.rules.Drains.{IsOf, AreOf}
-use Rattle.driver_laws.specs.rules.Runs.{RunCommandsAreBounded, RunDrainsAreBounded}
+use Rattle.driver_laws.specs.rules.Drains.{IsOf, AreOf, events_in}
+use Rattle.driver_laws.specs.rules.Runs.{RunCommandsAreBounded}
 use Rattle.driver_laws.proofs.rules.Commands.{ends_are_bounded}
 use Rattle.driver_laws.proofs.rules.Idle.{starts_idle}
 use Rattle.driver_laws.proofs.rules.Drain.{drains_are_bounded}
 use Rattle.driver_laws.proofs.rules.Working.{yes_second}
+use Rattle.driver_laws.specs.rules.Measure.{blocks_outstanding}
 
 -- ---- the units that a script declares are there
 abbrev pub from : ℕ → ℕ → List ℕ
@@ -141,7 +142,10 @@ run_commands script tables old new ms ns line unit id answer run kept =
     parts : Follows (start_of script tables old) ms × Follows (after_moments (start_of script tables old) ms) (Told line unit id (End answer) ∷ ns)
     parts = (follow_on (start_of script tables old) ms (Told line unit id (End answer) ∷ ns)).0 run.trace.follows
 
-pub run_drains : RunDrainsAreBounded
+-- EACH DRAIN of a legal run, and each part of one, has at most 200 event lines for each block that is outstanding before it.
+pub run_drains : (script : Script) (tables : ℕ → Option Table) (old new : ℕ → model.Pack) (ms ts ns : List Moment)
+    → IsLegalRun script tables old new (ms ++ (ts ++ ns)) → played ts ≡ []
+    → events_in ts ≤ 200 * blocks_outstanding (after_moments (start_of script tables old) ms)
 run_drains script tables old new ms ts ns run none =
     (drains_are_bounded (start_of script tables old) ms ts (starts_idle (drives_of script) tables (surface_of old)) asks.0 asks.1
     ((follow_on (start_of script tables old) ms ts).1 (parts.0, ((follow_on (after_moments (start_of script tables old) ms) ts ns).0 parts.1).0)) none).1

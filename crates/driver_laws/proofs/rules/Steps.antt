@@ -1,5 +1,5 @@
 -- EACH MOMENT that may come is a step of the machine; and the start stands for what the packs hold.
-use Rattle.std.proofs.Common.{◌≡◌, ℕ, ◌==◌, List, [], ◌∷◌, ◌++◌, Option, None, Some, refl, sym, ap, ◌∙◌, subst}
+use Rattle.std.proofs.Common.{◌≡◌, ℕ, ◌==◌, List, [], ◌∷◌, ◌++◌, Option, None, Some, refl, sym, ap, ◌∙◌}
 use Rattle.std.proofs.lemmas.List.Elements.{All-nil}
 use Rattle.pack_geometry.specs.declared.DriveKind.{DriveKind}
 use Rattle.pack_geometry.specs.Pack as model
@@ -18,17 +18,16 @@ use Rattle.trace_replay.specs.Packs.{surface_of}
 use Rattle.trace_replay.specs.Service.{no_request}
 use Rattle.trace_replay.specs.Events.{Done, Arriving, Trying, NothingToDo, can_attend, serving}
 use Rattle.trace_replay.specs.Replay.{Replay, new_replay, next_wish, InputMay, MayCome, Follows, after_moment, after_moments, act_done, act_drained, event_of, replay_played}
-use Rattle.trace_replay.proofs.Following.{follow_on}
-use Rattle.driver_laws.specs.rules.Machine.{Machine}
-use Rattle.driver_laws.specs.rules.Stands.{Setup, start_over, home_at, home_in, held_at, IsLive, is_sure_among, StandsFor, IsReached, IsGiven, AreGiven, IsNew, MomentStep}
-use Rattle.driver_laws.specs.rules.Laws.{StartIsReached, EachMomentReaches, StartStands, EachMomentSteps}
+use Rattle.driver_laws.specs.rules.Machine.{Machine, idle}
+use Rattle.driver_laws.specs.rules.Stands.{Setup, start_over, home_at, home_in, held_at, IsLive, is_sure_among, StandsFor}
 use Rattle.driver_laws.proofs.rules.Hands.{begins}
 use Rattle.driver_laws.proofs.rules.Noises.{armed_live}
 use Rattle.driver_laws.proofs.rules.MachineUnits.{Keeps}
 use Rattle.driver_laws.proofs.rules.Keeping.{calm_either, calm_drain}
-use Rattle.driver_laws.proofs.rules.Kept.{moment_kept, start_kept, all_quiet}
+use Rattle.driver_laws.proofs.rules.Kept.{moment_kept, all_quiet}
 use Rattle.driver_laws.proofs.rules.Lines.{other_event, state_owes, ToldStep, told_step}
 use Rattle.driver_laws.proofs.rules.Inputs.{conditions_stand, given_noise, idle_owes, silent_step, submit_step}
+use Rattle.driver_laws.proofs.rules.MomentSteps.{AreGiven, IsGiven, IsNew, MomentStep}
 
 -- ---- a line of the script
 played_step : (setup : Setup) (armed : List LiveNoise) (s : Replay) (m : Machine) (line : ℕ) (input : Input) → Keeps setup s → StandsFor setup armed s m → InputMay s line
@@ -74,33 +73,6 @@ pub beginning_kept : (setup : Setup) (s : Replay) (ms : List Moment) → Keeps s
 beginning_kept setup s [] k given follows = k
 beginning_kept setup s (m ∷ ms) k given follows = beginning_kept setup (after_moment s m) ms (moment_kept setup s m k given.0 follows.0) given.1 follows.1
 
-pub reached_kept : (setup : Setup) (s : Replay) → IsReached setup s → Keeps setup s
-reached_kept setup s r = subst (Keeps setup) (sym r.is) (beginning_kept setup (start_over setup) r.moments (start_kept setup) r.given r.follows)
-
-pub each_moment : EachMomentSteps
-each_moment setup armed s m moment reached h may given new = moment_step setup armed s m moment reached.tables_read (reached_kept setup s reached) h may given new
-
--- ---- what is reached
-after_one : (s : Replay) (ms : List Moment) (m : Moment) → after_moment (after_moments s ms) m ≡ after_moments s (ms ++ m ∷ [])
-after_one s [] m = refl
-after_one s (n ∷ ms) m = after_one (after_moment s n) ms m
-
-given_one : (drives : ℕ → Option DriveKind) (ms : List Moment) (m : Moment) → AreGiven drives ms → IsGiven drives m → AreGiven drives (ms ++ m ∷ [])
-given_one drives [] m all is = (is, tt)
-given_one drives (n ∷ ms) m all is = (all.0, given_one drives ms m all.1 is)
-
-pub moment_reaches : EachMomentReaches
-moment_reaches setup s moment r may given = record {
-  moments = r.moments ++ moment ∷ [];
-  tables_read = r.tables_read;
-  given = given_one setup.drives r.moments moment r.given given;
-  follows = (follow_on (start_over setup) r.moments (moment ∷ [])).1 (r.follows, (subst (λ z. MayCome z moment) r.is may, tt));
-  is = ap (λ z. after_moment z moment) r.is ∙ after_one (start_over setup) r.moments moment;
-}
-
-pub start_reached : StartIsReached
-start_reached setup are = record { moments = []; tables_read = are; given = tt; follows = tt; is = refl }
-
 -- ---- the start
 held_is : (pack : model.Pack) (home : Option ℕ) → held_at (λ b. model.block_at pack.image b) home ≡ bytes_at pack home
 held_is pack None = refl
@@ -110,7 +82,9 @@ first_held : (drive : Option DriveKind) (table : Option Table) (pack : model.Pac
 first_held None table pack b = refl
 first_held (Some kind) table pack b = held_is pack (home_of kind table pack b)
 
-pub start_stands : StartStands
+-- THE START stands for the contents of the packs, with nothing outstanding and no noise armed.
+pub start_stands : (setup : Setup) → AreTablesOf setup.drives setup.packs setup.tables
+    → StandsFor setup [] (start_over setup) (idle (contents_of setup.drives setup.tables setup.packs))
 start_stands setup are = record {
   units = λ u. record {
     hand = begins (is_sure_among [] u) (home_in setup u) (first_block ((new_replay setup.drives setup.tables (surface_of setup.packs)).units u).drive.kind no_request) no_request

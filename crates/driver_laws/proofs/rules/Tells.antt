@@ -12,7 +12,7 @@ use Rattle.trace_replay.specs.Conversation.{goes_on}
 use Rattle.trace_replay.specs.Events.{Event, Wish, NoLine, DueLine, Arrival, SectorLine, Interrupt, Attention, Refusal, wish_of, wish_in, wanted, is_no_line, can_attend, adapters_there, act_of_attend, act_of_move, act_of_arrival}
 use Rattle.trace_replay.specs.Replay.{Replay, with_state, next_wish, act_drained, drained, LineMay, ToldMay, MayCome, Follows, after_moment, after_moments, unit_after, told_after, replay_told, Submission, Refused, Joined, submission, submitted, replay_played, speaker_of}
 use Rattle.trace_replay.proofs.Kept.{no}
-use Rattle.driver_laws.specs.rules.Drains.{event_by, events_in, EventsTell, DrainsTell}
+use Rattle.driver_laws.specs.rules.Drains.{event_by, events_in, IsIdle}
 use Rattle.driver_laws.proofs.rules.Packs.{its_own}
 use Rattle.driver_laws.proofs.rules.Working.{found as found_holds}
 
@@ -99,7 +99,9 @@ moments_between s (Told line unit id deed ∷ ms) follows b =
 moments_between s (Idle line ∷ ms) follows b =
     moments_between (after_moment s (Idle line)) ms follows.1 (λ on. absurd (subst BringsEvent follows.0.nothing (begun_brings s (b on))))
 
-pub events_tell : EventsTell
+-- EACH EVENT OF A DRAIN has at least one of them: where one event is over and the next has begun, nothing else may come
+pub events_tell : (start : Replay) (ms : List Moment) (m : Moment) → IsIdle start → Follows start ms → (after_moments start ms).event.between ≡ true
+    → MayCome (after_moments start ms) m → events_in (m ∷ []) ≡ 1
 events_tell start ms m idle follows on may =
     begun_tells (after_moments start ms) m (moments_between start ms follows (λ off. absurd (no (sym idle.between ∙ off))) on) may
 
@@ -157,7 +159,10 @@ moments_going s (Idle line ∷ ms) follows g = moments_going (after_moment s (Id
 pub some_counted : (n : ℕ) → 1 ≤ n → (n == 0 ≡ false) × (nat_lt 0 n ≡ true)
 some_counted n some = search rules
 
-pub drains_tell : DrainsTell
+-- and so it is behind the line of the script that drains, where requests are outstanding
+pub drains_tell : (start : Replay) (ms : List Moment) (number : ℕ) (m : Moment) → IsIdle start → Follows start ms
+    → MayCome (after_moments start ms) (Played number Drain) → 1 ≤ (after_moments start ms).outstanding
+    → MayCome (after_moment (after_moments start ms) (Played number Drain)) m → events_in (m ∷ []) ≡ 1
 drains_tell start ms number m idle follows may some = begun_tells (after_moment s (Played number Drain)) m begun
   where
     s : Replay

@@ -10,10 +10,9 @@ use Rattle.hardware_table.specs.declared.FaultKind.{FaultKind}
 use Rattle.hardware_table.specs.declared.Moved.{Moved}
 use Rattle.hardware_table.specs.declared.Moved.TheVariants as verdict
 use Rattle.hardware_table.specs.declared.Register.TheVariants as register
-use Rattle.hardware_table.specs.declared.Work.TheVariants as work
 use Rattle.hardware_table.specs.Drive.{DriveState, with_register}
 use Rattle.hardware_table.specs.Adapter.{AdapterState, stepped, next_block}
-use Rattle.hardware_table.specs.Events.{transfer_ended, times_armed, with_times}
+use Rattle.hardware_table.specs.Events.{transfer_ended}
 use Rattle.hardware_table.specs.Moves.{after_move, stop_of, IsVerdictBy}
 use Rattle.trace_replay.specs.Moments.{Deed, Search, Seek, Recal, Offset, Centre, Clear, Pack, Transfer, Arrive, Sector}
 use Rattle.trace_replay.specs.Drives.{drive_after, addressed, search_place, offset_written}
@@ -21,10 +20,6 @@ use Rattle.driver_laws.proofs.rules.Armed.{performed_armed, arrived_armed, trans
 
 abbrev pub total : Armed → ℕ
 total a = a.seek + a.opi + a.dte + a.hcrc + a.late
-
--- so many more, one less
-pub total_more : (kind : FaultKind) (n : ℕ) (a : Armed) → total (with_times kind (times_armed kind a + n) a) ≡ total a + n
-total_more kind n a = search rules
 
 -- ---- what leaves the faults
 

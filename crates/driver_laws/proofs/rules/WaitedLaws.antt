@@ -25,17 +25,19 @@ use Rattle.trace_replay.proofs.Kept.{IsHeld}
 use Rattle.driver_laws.specs.rules.Drains.{IsIdle}
 use Rattle.driver_laws.proofs.rules.Tells.{Between, moments_between}
 use Rattle.driver_laws.specs.rules.Machine.{Blocks, Machine, idle, request_of, without, frames_of, kind_of, meets, answers_at_once, MayAnswer, blocks_after, after_answer, Steps, bytes_of_first, submitted as machine_submitted}
-use Rattle.driver_laws.specs.rules.Stands.{Setup, home_at, home_in, held_at, sure_claims}
+use Rattle.driver_laws.specs.rules.Stands.{Setup, home_at, home_in, held_at}
 use Rattle.driver_laws.proofs.rules.Blocks.{read_blocks}
 use Rattle.driver_laws.proofs.rules.Inputs.{append_nil, over_owes}
 use Rattle.driver_laws.proofs.rules.Beginnings.{steps_join}
 use Rattle.driver_laws.proofs.rules.MachineRuns.{home_marks, no_length, no_one_waits}
-use Rattle.driver_laws.specs.rules.Calm.{IsCalm, is_calm_answer, is_calm_input, are_calm, IsCalmEnd, is_refused_at_once}
+use Rattle.driver_laws.specs.rules.Calm.{IsCalm, is_calm_answer}
 use Rattle.driver_laws.proofs.rules.CalmLaws.{stays_calm, runs_stay_calm, ends_are_calm, played_calm, other_event}
 use Rattle.driver_laws.specs.rules.Sessions.{Part, behind, told_in, waited}
 use Rattle.driver_laws.specs.rules.Waited.{unusable_or, first_unusable, answer_by, answer_of, answer_at, map_at, map_of, first_in, met_in, answer_in, map_behind, IsAnswered, IsWaitedFor, WaitedIsAnswered, AreLeftBy, with_packs, RestsOver, RestsAgain, PacksHoldMap}
 use Rattle.driver_laws.proofs.rules.Restful.{rest_keeps, rest_stands, held_there}
 use Rattle.driver_laws.proofs.rules.Parts.{PartStep, part_step}
+use Rattle.driver_laws.proofs.rules.CalmInputs.{IsCalmEnd, are_calm, is_calm_input, is_refused_at_once}
+use Rattle.driver_laws.proofs.rules.MomentSteps.{sure_claims}
 
 -- ---- the answers of some moments and then of more
 told_append : (line unit id : ℕ) (deed : Deed) (ms ns : List Moment) → answers_in (ms ++ ns) ≡ answers_in ms ++ answers_in ns

@@ -12,7 +12,7 @@ use Rattle.hardware_table.specs.Moves.{was_written}
 use Rattle.hardware_table.specs.Adapter.{AdapterState, next_window}
 use Rattle.driver_machine.specs.World.{World, Held, adapter_of, drive_of, unit_at, adapter_at, held_in, slot_in_hand, block_in}
 use Rattle.driver_machine.specs.Acts as deed
-use Rattle.driver_machine.specs.Acts.{Of, Deed, Tried, Scene, scene_of}
+use Rattle.driver_machine.specs.Acts.{Of, Deed, Tried, Scene, scene_of, Act}
 use Rattle.driver_machine.specs.Guards.{InHand, IsBusyFor, Allowed}
 use Rattle.driver_machine.specs.Sound.{SlotOk, Sound}
 use Rattle.driver_laws.proofs.invariant.Scene.{HasTransferFor, SceneOk}
@@ -21,7 +21,6 @@ use Rattle.driver_laws.proofs.invariant.Sector.{moved_less, next_below}
 use Rattle.driver_laws.proofs.invariant.DeedFacts.{transfer_at}
 use Rattle.driver_laws.specs.answers.Packs.{packs_after}
 use Rattle.driver_laws.proofs.shown.Starting.{set_up}
-use Rattle.driver_laws.specs.shown.RunsActs.{BeyondStays, OthersStay}
 use Rattle.driver_laws.proofs.shown.Images.{block_beyond}
 use Rattle.main_memory.proofs.BlockLaws.{size_few}
 
@@ -84,7 +83,10 @@ deed_beyond line u id (deed.Sector block t) w held unit sound allowed =
     ))
 deed_beyond line u id other w held unit sound allowed = refl
 
-pub beyond_stays : BeyondStays
+-- What an image has behind the last sector of its unit's drive stays,
+pub beyond_stays : (w : World) (act : Act) (held : ℕ → Pack) (unit : ℕ) → Sound w → Allowed w act
+    → drop (512 * block_count (unit_at w unit).drive.kind) (packs_after w held act unit).image
+    ≡ drop (512 * block_count (unit_at w unit).drive.kind) (held unit).image
 beyond_stays w (Of line u id d) held unit sound allowed = deed_beyond line u id d w held unit sound allowed
 beyond_stays w other held unit sound allowed = refl
 
@@ -96,6 +98,8 @@ is_other w u id unit sound hand off here =
 deed_others : (line u id : ℕ) (d : Deed) (w : World) (held : ℕ → Pack) (unit : ℕ) → unit ≢ u → packs_after w held (Of line u id d) unit ≡ held unit
 deed_others line u id d w held unit other = search rules
 
-pub others_stay : OthersStay
+-- and so does the pack of a unit that is not set up.
+pub others_stay : (w : World) (act : Act) (held : ℕ → Pack) (unit : ℕ) → Sound w → Allowed w act → (unit_at w unit).declared ≡ false
+    → packs_after w held act unit ≡ held unit
 others_stay w (Of line u id d) held unit sound allowed off = deed_others line u id d w held unit (is_other w u id unit sound allowed.0 off)
 others_stay w other held unit sound allowed off = refl

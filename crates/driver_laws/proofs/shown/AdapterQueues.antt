@@ -7,7 +7,7 @@ use Rattle.driver_machine.specs.declared.Phase.{Phase}
 use Rattle.driver_machine.specs.declared.Phase.TheVariants as phases
 use Rattle.driver_machine.specs.Acts.{kept_by, without}
 use Rattle.driver_machine.specs.Sound.{Among}
-use Rattle.driver_laws.specs.shown.Shows.{is_coming, with_coming}
+use Rattle.driver_laws.proofs.shown.Showing.{is_coming, with_coming}
 
 pub either : {P : Type 0} (m n : ℕ) → ((m == n) ≡ true → m ≡ n → P) → ((m == n) ≡ false → m ≢ n → P) → P
 either m n same other = search rules

@@ -18,13 +18,13 @@ use Rattle.driver_machine.specs.Guards.{InHand}
 use Rattle.driver_machine.specs.Acts.{with_drive}
 use Rattle.driver_machine.specs.Acts as deed
 use Rattle.driver_machine.specs.Sound.{Sound, IsPhase}
-use Rattle.driver_laws.specs.shown.Shows.{IsAdapterSeen, is_coming, with_coming, Shows}
+use Rattle.driver_laws.specs.shown.Shows.{IsAdapterSeen}
 use Rattle.driver_laws.proofs.shown.Told.{seen_told}
-use Rattle.driver_laws.specs.shown.Laws.{IsSaid}
 use Rattle.driver_laws.proofs.shown.Core.{Core}
 use Rattle.driver_laws.proofs.shown.Facts.{At}
 use Rattle.driver_laws.proofs.shown.Plain.{ready_plain}
 use Rattle.driver_laws.proofs.shown.DeedFacts.{no, said_by}
+use Rattle.driver_laws.proofs.shown.Showing.{Shows, is_coming, with_coming, IsSaid}
 
 -- Where the unit positions, its adapter does not count.
 arrive_core : (h : Held) (v : UnitView) (a c : AdapterState) (seen : UnitSeen) (b : AdapterState) (taken : ℕ)

@@ -2,13 +2,15 @@
 use Rattle.std.proofs.Common.{ℕ, List, [], ◌∷◌, ◌++◌}
 use Rattle.trace_replay.specs.Moments as moment
 use Rattle.trace_replay.specs.Moments.{Moment, Played, Told, Idle}
-use Rattle.trace_replay.specs.Causes.{AskSome}
+use Rattle.trace_replay.specs.Causes.{AskSome, AsksSome}
 use Rattle.trace_replay.specs.Script as script
-use Rattle.driver_laws.specs.rules.Drains.{AreOf}
+use Rattle.driver_laws.specs.rules.Drains.{AreOf, IsOf}
 use Rattle.driver_machine.specs.World.{World, held_in, slot_in_hand, unit_at}
 use Rattle.driver_machine.specs.Acts.{Act, Of, after}
 use Rattle.driver_machine.specs.Lines.{deed_told, lines_with, lines_of, lines_of_all}
-use Rattle.driver_laws.specs.shown.Drains.{AreAsked, LinesAskNothing, CallsAsk}
+use Rattle.driver_laws.specs.shown.Drains.{AreAsked}
+use Rattle.trace_replay.specs.Script.{Input}
+use Rattle.driver_laws.specs.shown.Runs.{with_call}
 
 some_append : (ms ns : List Moment) → AskSome ms → AskSome ns → AskSome (ms ++ ns)
 some_append [] ns first later = later
@@ -43,10 +45,13 @@ lines_asked : (there : List ℕ) (w : World) (acts : List Act) → AreAsked ther
 lines_asked there w [] = record { some = tt; units = tt }
 lines_asked there w (act ∷ acts) = asked_append there (lines_of w act) (lines_of_all (after w act) acts) (act_asked there w act) (lines_asked there (after w act) acts)
 
-pub lines_ask_nothing : LinesAskNothing
+-- THE LINES that acts tell ask for nothing, and a call for what its input asks.
+pub lines_ask_nothing : (there : List ℕ) (moments : List Moment) (w : World) (acts : List Act)
+    → AreAsked there moments → AreAsked there (moments ++ lines_of_all w acts)
 lines_ask_nothing there moments w acts asked = asked_append there moments (lines_of_all w acts) asked (lines_asked there w acts)
 
-pub calls_ask : CallsAsk
+pub calls_ask : (there : List ℕ) (moments : List Moment) (line : ℕ) (input : Input) (w : World) (acts : List Act)
+    → AreAsked there moments → AsksSome input → IsOf there input → AreAsked there (with_call moments line input w acts)
 calls_ask there moments line input w acts asked some of =
     let lines : AreAsked there (lines_of_all w acts) = lines_asked there w acts in
     asked_append there moments (Played line input ∷ lines_of_all w acts) asked (record { some = (some, lines.some); units = (of, lines.units) })

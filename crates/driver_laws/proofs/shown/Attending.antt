@@ -19,7 +19,6 @@ use Rattle.driver_laws.proofs.invariant.Leads.{run_split}
 use Rattle.driver_laws.proofs.invariant.Deeds.{deed_at, own_adapter}
 use Rattle.driver_laws.proofs.invariant.Due.{begun_one}
 use Rattle.driver_laws.proofs.invariant.Calls.{IsServing, serving, was_busy}
-use Rattle.driver_laws.specs.shown.Shows.{is_coming}
 use Rattle.driver_laws.specs.shown.Within.{Rests}
 use Rattle.driver_laws.proofs.shown.Telling.{Tells}
 use Rattle.driver_laws.proofs.shown.Joined.{nothing_told, then_tells, tells_too}
@@ -27,6 +26,7 @@ use Rattle.driver_laws.proofs.shown.Due.{IsQuiet, rest_quiet}
 use Rattle.driver_laws.proofs.shown.Resting.{Rested, shows_one, begun_told}
 use Rattle.driver_laws.specs.shown.Calls.{IsOverWithin}
 use Rattle.driver_laws.proofs.shown.Starting.{wish_resting, set_up, start_told}
+use Rattle.driver_laws.proofs.shown.Showing.{is_coming}
 
 -- THE ATTENTIONS that are up, of some drives
 abbrev pub raised_by : Bool → ℕ → List ℕ → List ℕ

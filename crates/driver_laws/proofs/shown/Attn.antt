@@ -1,5 +1,5 @@
 -- AN ATTENTION is taken: its line may be said, and what it leaves is shown.
-use Rattle.std.proofs.Common.{◌≡◌, ℕ, [], ◌-◌, true, false, refl, ap, arith, ◌∙◌, rules}
+use Rattle.std.proofs.Common.{◌≡◌, ℕ, [], true, false, refl, ap, arith, ◌∙◌, rules}
 use Rattle.std.specs.Prelude.{if◌then◌else◌}
 use Rattle.std.specs.Int.{bit_at}
 use Rattle.hardware_table.specs.Adapter.{AdapterState, attention_lowered}
@@ -15,15 +15,15 @@ use Rattle.driver_machine.specs.Guards.{InHand}
 use Rattle.driver_machine.specs.Acts.{going_to}
 use Rattle.driver_machine.specs.Acts as deed
 use Rattle.driver_machine.specs.Sound.{Sound}
-use Rattle.driver_laws.specs.shown.Shows.{IsAdapterSeen, Shows}
+use Rattle.driver_laws.specs.shown.Shows.{IsAdapterSeen}
 use Rattle.driver_laws.proofs.shown.Told.{seen_told}
-use Rattle.driver_laws.specs.shown.Laws.{IsSaid}
 use Rattle.driver_laws.proofs.shown.Core.{Core}
 use Rattle.driver_laws.proofs.shown.Facts.{At}
 use Rattle.driver_laws.proofs.shown.Plain.{ready_plain}
 use Rattle.driver_laws.proofs.shown.DeedFacts.{said_by, no}
 use Rattle.driver_laws.proofs.shown.Arrive.{arrive_talk}
 use Rattle.driver_laws.proofs.invariant.Frame.{unit_on-own}
+use Rattle.driver_laws.proofs.shown.Showing.{Shows, IsSaid}
 
 attn_core : (h : Held) (v : UnitView) (a c : AdapterState) (seen : UnitSeen) (b : AdapterState) (taken : ℕ)
     → Core h v a seen → v.phase ≡ Positioning taken

@@ -14,9 +14,10 @@ use Rattle.driver_machine.specs.World.{World, UnitView, Held, adapter_of, no_uni
 use Rattle.driver_machine.specs.Acts.{with_drive, with_unit_drive, changed}
 use Rattle.driver_machine.specs.Guards.{IsSetUp}
 use Rattle.driver_machine.specs.Sound.{Sound, WorkOf}
-use Rattle.driver_laws.specs.shown.Shows.{IsUnitSeen, IsAdapterSeen, Shows, is_coming, with_coming}
+use Rattle.driver_laws.specs.shown.Shows.{IsUnitSeen, IsAdapterSeen}
 use Rattle.trace_replay.proofs.Kept.{online_kind}
 use Rattle.driver_laws.proofs.shown.AdapterQueues.{either}
+use Rattle.driver_laws.proofs.shown.Showing.{Shows, is_coming, with_coming}
 
 drive_changed : (held : ℕ → Held) (v : UnitView) (a : AdapterState) (seen : UnitSeen) (d : DriveState) → d.kind ≡ v.drive.kind → WorkOf v.phase v.queue
     → IsUnitSeen held v a seen → IsUnitSeen held (record v { drive = d }) a (record seen { drive = d })

@@ -13,11 +13,11 @@ use Rattle.driver_machine.specs.Due.{done_with}
 use Rattle.driver_machine.specs.Acts.{with_transfer, Of, after}
 use Rattle.driver_machine.specs.Acts as deed
 use Rattle.driver_machine.specs.Sound.{Sound, IsPhase}
-use Rattle.driver_machine.specs.DueFacts.{IsJudged}
-use Rattle.driver_laws.specs.shown.Shows.{Shows}
 use Rattle.driver_laws.proofs.shown.Core.{Core, IsHead}
 use Rattle.driver_laws.proofs.shown.Facts.{At}
 use Rattle.driver_laws.proofs.shown.Silent.{silent_shows, due_ready}
+use Rattle.driver_laws.proofs.shown.Showing.{Shows}
+use Rattle.driver_machine.proofs.Dues.{IsJudged}
 
 continue_core : (h : Held) (v : UnitView) (a : AdapterState) (seen : UnitSeen) (moved : ℕ)
     → Core h v a seen → IsHead h v.drive.kind seen → IsJudged v moved Clean → done_with moved v == h.loan.count ≡ false → 1 ≤ moved

@@ -17,15 +17,14 @@ use Rattle.driver_machine.specs.World.{World, UnitView, AdapterView, Held, slot_
 use Rattle.driver_machine.specs.Guards.{IsHeldFor, InHand}
 use Rattle.driver_machine.specs.Acts.{Deed, effect, scene_of}
 use Rattle.driver_machine.specs.Sound.{Sound, IsPhase, IsBegun}
-use Rattle.driver_machine.specs.DueFacts.{IsJudged, IsAtCommand}
 use Rattle.driver_laws.specs.shown.Stages.{segment_seen, progress_judged}
-use Rattle.driver_laws.specs.shown.Shows.{Shows, MaySay}
-use Rattle.driver_laws.specs.shown.Laws.{IsSaid}
 use Rattle.driver_laws.proofs.shown.Core.{Core, IsHead}
 use Rattle.driver_laws.proofs.shown.Places.{segment_start}
 use Rattle.driver_laws.proofs.shown.Frame.{step_shows}
 use Rattle.driver_laws.proofs.shown.Facts.{At}
 use Rattle.driver_laws.proofs.shown.Plain.{Says, says_step}
+use Rattle.driver_laws.proofs.shown.Showing.{MaySay, Shows, IsSaid}
+use Rattle.driver_machine.proofs.Dues.{IsAtCommand, IsJudged}
 
 pub judged_progress : (last : Moved) (h : Held) (v : UnitView) (a : AdapterState) (seen : UnitSeen) (moved : ℕ) → Core h v a seen → IsJudged v moved last
     → seen.progress ≡ progress_judged last moved (transfer_of v) h

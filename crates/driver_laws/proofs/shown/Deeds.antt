@@ -29,13 +29,13 @@ use Rattle.driver_machine.specs.Acts.{Deed, Scene, effect, interrupted, transfer
 use Rattle.driver_machine.specs.Due.{task_for}
 use Rattle.driver_machine.specs.Guards.{May}
 use Rattle.driver_machine.specs.Sound.{IsTask, IsBegun}
-use Rattle.driver_machine.specs.DueFacts.{IsDue, IsJudged, IsReady, IsAtCommand}
 use Rattle.driver_laws.proofs.invariant.Try.{failed_less, next_of_try}
 use Rattle.driver_laws.proofs.invariant.Scene.{SceneOk, due_of}
 use Rattle.driver_laws.proofs.invariant.DeedFacts.{judged_is, transfer_at, left_by}
 use Rattle.driver_laws.specs.shown.Bytes.{done_at, done_in, last_at, last_in, IsForwarded, sector_for, HandBears}
 use Rattle.driver_laws.proofs.shown.Hand.{hand_anew, hand_at, hand_bus, hand_repaired}
 use Rattle.driver_laws.proofs.shown.Silent.{plus_none}
+use Rattle.driver_machine.proofs.Dues.{IsAtCommand, IsDue, IsJudged, IsReady}
 
 -- THE REQUEST IN HAND, by where its unit is with it
 abbrev pub At : (sure : ℕ → Type 0) → DriveKind → Option Table → Pack → Blocks → Held → Option TransferState → Phase → AdapterState → Type 0

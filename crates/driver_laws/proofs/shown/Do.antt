@@ -29,17 +29,16 @@ use Rattle.driver_machine.specs.Acts.{going_to, stepping}
 use Rattle.driver_machine.specs.Acts as deed
 use Rattle.driver_machine.specs.Lines.{step_told}
 use Rattle.driver_machine.specs.Sound.{Sound, IsTask}
-use Rattle.driver_machine.specs.DueFacts.{IsStep, MayGo}
-use Rattle.driver_laws.specs.shown.Shows.{Shows}
 use Rattle.driver_laws.proofs.shown.Told.{seen_told}
-use Rattle.driver_laws.specs.shown.Laws.{IsSaid}
 use Rattle.driver_laws.proofs.shown.Core.{Core}
 use Rattle.driver_laws.proofs.shown.Talk.{step_stage}
 use Rattle.driver_laws.proofs.shown.Facts.{At}
 use Rattle.driver_laws.proofs.shown.Plain.{IsPlain, plain_says, ready_plain}
 use Rattle.driver_laws.proofs.shown.DeedFacts.{no, said_by}
-use Rattle.driver_laws.proofs.shown.Drives.{below, segment_below}
+use Rattle.driver_laws.proofs.shown.Drives.{segment_below}
 use Rattle.driver_laws.proofs.invariant.Drives.{place_inside}
+use Rattle.driver_laws.proofs.shown.Showing.{Shows, IsSaid}
+use Rattle.driver_machine.proofs.Dues.{IsStep, MayGo}
 
 behind_more : (n : ℕ) (xs : List RetryStep) (x : RetryStep) (left : List RetryStep) → drop n xs ≡ x ∷ left → drop (n + 1) xs ≡ left
 behind_more n xs x left is = sym (drop-drop 1 n xs) ∙ ap (drop 1) is

@@ -15,7 +15,7 @@ use Rattle.driver_machine.specs.Events.{in_hand, or_nothing, can_move, attended,
 use Rattle.driver_machine.specs.Sound.{Sound, AtWork}
 use Rattle.driver_machine.specs.Runs.{Run, CanCome}
 use Rattle.driver_laws.proofs.invariant.Next.{next_none}
-use Rattle.driver_laws.specs.shown.Shows.{counted_by, outstanding_in, IsOnSurface}
+use Rattle.driver_laws.specs.shown.Shows.{counted_by, outstanding_in}
 use Rattle.driver_laws.specs.shown.Within.{Rests}
 use Rattle.driver_laws.specs.shown.Calls.{IsSurfaceOf, Stands, IsOverWithin, Ends, IsLeft, AreThere}
 use Rattle.driver_laws.proofs.shown.Telling.{IsTold}
@@ -26,6 +26,7 @@ use Rattle.driver_laws.proofs.shown.Inputs.{arrive_told, played_rests, same_surf
 use Rattle.driver_laws.proofs.shown.Moves.{move_told}
 use Rattle.driver_laws.proofs.shown.Lowest.{drain_is}
 use Rattle.driver_laws.proofs.shown.QuietRests.{none_counted}
+use Rattle.driver_laws.proofs.shown.Showing.{IsOnSurface}
 
 -- HOW MANY are outstanding: none, just where each request has ended.
 more_than : (b : Bool) (others : ℕ) → counted_by b others ≡ 0 → (b ≡ true) × (others ≡ 0)

@@ -5,7 +5,6 @@ use Rattle.pack_geometry.specs.Pack.{Pack}
 use Rattle.trace_replay.specs.Script as script
 use Rattle.trace_replay.specs.Script.{Input}
 use Rattle.trace_replay.specs.Adapters as told
-use Rattle.trace_replay.specs.Events as event
 use Rattle.trace_replay.specs.Events.{Act, NothingToDo, NoLine, is_no_line, wish_in}
 use Rattle.trace_replay.specs.Replay.{Replay, next_wish, after_moments}
 use Rattle.driver_machine.specs.World.{World}

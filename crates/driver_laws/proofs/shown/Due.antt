@@ -11,7 +11,6 @@ use Rattle.trace_replay.specs.Conversation as told
 use Rattle.trace_replay.specs.Conversation.{Stage, Hand, goes_on, outcome}
 use Rattle.trace_replay.specs.Replay.{UnitSeen, hand_of}
 use Rattle.driver_machine.specs.declared.RetryStep.{RetryStep}
-use Rattle.driver_machine.specs.declared.RetryStep.TheVariants as step
 use Rattle.driver_machine.specs.declared.Task.{Task}
 use Rattle.driver_machine.specs.declared.Task.TheVariants.{Judge, Steps}
 use Rattle.driver_machine.specs.declared.Phase.{Phase}
@@ -22,12 +21,13 @@ use Rattle.driver_machine.specs.Acts.{Deed}
 use Rattle.driver_machine.specs.Due.{next_of, next_by, deed_for, start_by, position_of, steps_of, step_of}
 use Rattle.driver_machine.specs.Lines.{deed_told}
 use Rattle.driver_machine.proofs.Measure.{is_resting}
-use Rattle.driver_machine.specs.DueFacts.{IsDue}
 use Rattle.driver_machine.proofs.DueFacts.{none_some}
 use Rattle.driver_laws.specs.shown.Stages.{stage_by, task_stage, lines_left, segment_seen, steps_seen}
-use Rattle.driver_laws.specs.shown.Shows.{IsUnitSeen, is_coming}
+use Rattle.driver_laws.specs.shown.Shows.{IsUnitSeen}
 use Rattle.driver_laws.proofs.shown.Core.{Core, IsHead, core_of, head_is}
 use Rattle.driver_laws.proofs.shown.Pack.{some_same}
+use Rattle.driver_laws.proofs.shown.Showing.{is_coming}
+use Rattle.driver_machine.proofs.Dues.{IsDue}
 
 -- A DEED TELLS one line or none.
 pub told_cases : (h : Held) (d : Deed) → (deed_told h d ≡ []) ⊎ ((line : moment.Deed) × (deed_told h d ≡ line ∷ []))

@@ -8,14 +8,11 @@ use Rattle.transfer_engine.specs.State as engine
 use Rattle.trace_replay.specs.Replay.{Replay}
 use Rattle.trace_replay.specs.Moments as moment
 use Rattle.driver_machine.specs.World.{World, slot_in_hand, transfer_of, unit_at, held_in}
-use Rattle.driver_machine.specs.Guards.{InHand, IsNext, May}
-use Rattle.driver_machine.specs.Acts.{Deed, scene_of}
+use Rattle.driver_machine.specs.Guards.{InHand, IsNext, May, Allowed}
+use Rattle.driver_machine.specs.Acts.{Deed, scene_of, Of, after}
 use Rattle.driver_machine.specs.Acts as deed
 use Rattle.driver_machine.specs.Sound.{Sound}
-use Rattle.driver_machine.specs.DueFacts.{IsDue, MayGo}
 use Rattle.driver_machine.proofs.DueFacts.{due_facts, chosen_facts}
-use Rattle.driver_laws.specs.shown.Shows.{Shows, IsOnSurface}
-use Rattle.driver_laws.specs.shown.Laws.{IsSaid, told_by, LinesAreSaid, SilentDeedsShow}
 use Rattle.driver_laws.proofs.shown.Facts.{At, at_facts}
 use Rattle.driver_laws.proofs.shown.Move.{transfer_deed}
 use Rattle.driver_laws.proofs.shown.Search.{search_line}
@@ -34,6 +31,8 @@ use Rattle.driver_laws.proofs.shown.Ready.{ready_next}
 use Rattle.driver_laws.proofs.shown.End.{end_line}
 use Rattle.driver_laws.proofs.shown.Sector.{sector_line}
 use Rattle.driver_laws.proofs.shown.Due.{one_same}
+use Rattle.driver_laws.proofs.shown.Showing.{IsOnSurface, Shows, IsSaid, told_by}
+use Rattle.driver_machine.proofs.Dues.{IsDue, MayGo}
 
 no_line : {x : moment.Deed} → [] ≡ x ∷ [] → {P : Type 0} → P
 no_line e = absurd (grind (arith, e))
@@ -102,10 +101,14 @@ module _ (line u id : ℕ) (w : World) (s : Replay) (told : moment.Deed) (sound 
       subst (IsSaid line u id w s (deed.End kind)) (one_same tells) (end_line line u id w s kind sound shows hand at (next_due u w (deed.End kind) may))
   said other may surface tells = no_line tells
 
-pub lines_are_said : LinesAreSaid
+-- EACH LINE of a deed that is allowed, in a world that is sound and shown, is said.
+pub lines_are_said : (line u id : ℕ) (w : World) (s : Replay) (deed : Deed) (told : moment.Deed) → Sound w → Shows u w s → Allowed w (Of line u id deed)
+    → IsOnSurface s u deed (scene_of w u) → told_by w u deed ≡ told ∷ [] → IsSaid line u id w s deed told
 lines_are_said line u id w s d told sound shows allowed surface tells = said line u id w s told sound shows allowed.0 d allowed.1 surface tells
 
-pub silent_deeds_show : SilentDeedsShow
+-- and a silent deed changes nothing that is seen
+pub silent_deeds_show : (line u id : ℕ) (w : World) (s : Replay) (deed : Deed) → Sound w → Shows u w s → Allowed w (Of line u id deed)
+    → told_by w u deed ≡ [] → Shows u (after w (Of line u id deed)) s
 silent_deeds_show line u id w s (deed.Ready t) sound shows allowed tells =
     ready_next t line u id w s sound shows allowed.0 (at_facts u id w s sound shows allowed.0) allowed.1 (next_due u w (deed.Ready t) allowed.1)
 silent_deeds_show line u id w s (deed.Repair moved place pattern) sound shows allowed tells =

@@ -34,11 +34,10 @@ use Rattle.driver_machine.specs.Acts as deed
 use Rattle.driver_machine.specs.Acts.{Scene, effect, scene_of, with_scene, without}
 use Rattle.driver_machine.specs.Lines.{answer_told}
 use Rattle.driver_machine.specs.Sound.{Sound, IsPhase, IsBegun}
-use Rattle.driver_machine.specs.DueFacts.{Ends, Offline, Locked, Left, Unforwarded, Tried, Finished, Calls, AtStart, AtStep, AtTransfer, AtChoice, IsAtCommand}
+use Rattle.driver_machine.proofs.Dues.{Offline, Locked, Left, Unforwarded, Tried, Finished, AtStart, AtStep, AtTransfer, AtChoice, Calls, Ends, IsAtCommand}
 use Rattle.driver_laws.specs.shown.Stages.{segment_by, steps_left, segment_seen, progress_judged, front_of, progress_with}
-use Rattle.driver_laws.specs.shown.Shows.{Match, IsAdapterSeen, is_coming, with_coming, outstanding_in, Shows}
+use Rattle.driver_laws.specs.shown.Shows.{Match, IsAdapterSeen, outstanding_in}
 use Rattle.driver_laws.proofs.shown.Told.{seen_told}
-use Rattle.driver_laws.specs.shown.Laws.{IsSaid}
 use Rattle.driver_laws.proofs.shown.Core.{Core, IsHead}
 use Rattle.driver_laws.proofs.shown.Frame.{step_shows, same_transfer}
 use Rattle.driver_laws.proofs.shown.Facts.{At}
@@ -48,6 +47,7 @@ use Rattle.driver_laws.proofs.shown.DeedFacts.{judged_progress, command_begun}
 use Rattle.driver_laws.proofs.shown.Fronts.{front_whole}
 use Rattle.driver_laws.proofs.shown.Silent.{mark_place}
 use Rattle.trace_replay.proofs.Unchanged.{with_other}
+use Rattle.driver_laws.proofs.shown.Showing.{Shows, is_coming, with_coming, IsSaid}
 
 -- The unit waits, and the next one that waits at it is its head.
 end_core : (h g : Held) (v : UnitView) (a c : AdapterState) (seen : UnitSeen) (b : AdapterState) (answer : Answer) → Core h v a seen

@@ -24,7 +24,7 @@ use Rattle.driver_machine.specs.World.{UnitView, Held, transfer_of, no_transfer}
 use Rattle.driver_machine.specs.Acts.{Scene}
 use Rattle.driver_machine.specs.Due.{done_with}
 use Rattle.driver_machine.specs.Sound.{IsTask, IsPhase}
-use Rattle.driver_machine.specs.DueFacts.{Calls, AtStart, AtStep, AtTransfer, AtChoice, IsJudged, IsAtCommand, Ends, Offline, Locked, Left, Unforwarded, Tried, Finished}
+use Rattle.driver_machine.proofs.Dues.{AtStart, AtStep, AtTransfer, AtChoice, Offline, Locked, Left, Unforwarded, Tried, Finished, Calls, Ends, IsAtCommand, IsJudged}
 use Rattle.driver_laws.proofs.invariant.Scene.{SceneOk, phase_is}
 use Rattle.driver_laws.proofs.invariant.DeedFacts.{judged_is}
 use Rattle.driver_laws.specs.shown.Bytes.{IsSureFor, IsForwarded, sector_for, HandBears, done_in, last_in, done_by, IsSaid, IsStep}

@@ -9,9 +9,10 @@ use Rattle.trace_replay.specs.Replay.{Replay, at_unit}
 use Rattle.driver_machine.specs.World.{World, Held, adapter_of, unit_at, adapter_at, slot_at, held_in, slot_in_hand}
 use Rattle.driver_machine.specs.Guards.{InHand}
 use Rattle.driver_machine.specs.Sound.{Sound, UnitOk, AdapterOk, SlotOk, IsOutstanding}
-use Rattle.driver_laws.specs.shown.Shows.{IsUnitSeen, IsAdapterSeen, Shows}
+use Rattle.driver_laws.specs.shown.Shows.{IsUnitSeen, IsAdapterSeen}
 use Rattle.driver_laws.proofs.shown.Core.{Core, IsHead, core_of, head_is}
 use Rattle.driver_laws.proofs.invariant.Frame.{held_is, adapter_of-small}
+use Rattle.driver_laws.proofs.shown.Showing.{Shows}
 
 pub record At (u id : ℕ) (w : World) (s : Replay) : Type 0 where
   pub small : adapter_of u < 4

@@ -19,13 +19,13 @@ use Rattle.driver_machine.specs.Guards.{InHand}
 use Rattle.driver_machine.specs.Acts.{with_transfer, Of, after}
 use Rattle.driver_machine.specs.Acts as deed
 use Rattle.driver_machine.specs.Sound.{Sound, IsPhase, IsBegun}
-use Rattle.driver_machine.specs.DueFacts.{IsJudged}
 use Rattle.driver_laws.specs.shown.Stages.{progress_judged, front_of}
-use Rattle.driver_laws.specs.shown.Shows.{Shows}
 use Rattle.driver_laws.proofs.shown.Core.{Core, IsHead}
 use Rattle.driver_laws.proofs.shown.Facts.{At}
 use Rattle.driver_laws.proofs.shown.DeedFacts.{judged_progress}
 use Rattle.driver_laws.proofs.shown.Silent.{plus_none, mark_place, silent_shows, due_ready}
+use Rattle.driver_laws.proofs.shown.Showing.{Shows}
+use Rattle.driver_machine.proofs.Dues.{IsJudged}
 
 pub record IsListed (index : Option ℕ) (table : Option Table) (place : Place) (i : ℕ) : Type 0 where
   pub own : index ≡ None

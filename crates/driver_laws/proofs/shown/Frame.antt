@@ -17,11 +17,12 @@ use Rattle.driver_machine.specs.Acts.{Scene, with_scene}
 use Rattle.driver_machine.specs.Guards.{IsHeldFor, IsSetUp, InHand}
 use Rattle.driver_machine.specs.Sound.{Sound, is_waiting}
 use Rattle.driver_laws.specs.shown.Stages.{stage_by, IsProgress}
-use Rattle.driver_laws.specs.shown.Shows.{Match, IsUnitSeen, IsAdapterSeen, is_coming, with_coming, outstanding_in, Shows}
+use Rattle.driver_laws.specs.shown.Shows.{Match, IsUnitSeen, IsAdapterSeen, outstanding_in}
 use Rattle.driver_laws.proofs.shown.Core.{Core}
 use Rattle.driver_laws.proofs.invariant.Frame.{slot_there, adapter_of-small, other_slot}
 use Rattle.driver_machine.proofs.Until.{own_unit}
 use Rattle.driver_machine.proofs.Frame.{other_unit, other_adapter}
+use Rattle.driver_laws.proofs.shown.Showing.{Shows, is_coming, with_coming}
 
 -- THE QUEUE stays, where each slot holds the same request.
 pub match_kept : (held held' : ℕ → Held) (kind : DriveKind) → ((n : ℕ) (r : Request) → IsHeldFor kind r (held n) → IsHeldFor kind r (held' n))

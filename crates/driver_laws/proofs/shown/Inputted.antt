@@ -1,13 +1,12 @@
 -- What is played in a run, and what is answered.
 use Rattle.std.proofs.Common.{◌≡◌, ℕ, List, [], ◌∷◌, ◌++◌, refl, ap, ◌∙◌}
-use Rattle.trace_replay.specs.Script.{Numbered}
+use Rattle.trace_replay.specs.Script.{Numbered, Input}
 use Rattle.trace_replay.specs.Moments as moment
 use Rattle.trace_replay.specs.Moments.{Moment, Played, played}
 use Rattle.driver_machine.specs.World.{World, held_in, slot_in_hand, unit_at}
 use Rattle.driver_machine.specs.Acts.{Act, Of, after}
 use Rattle.driver_machine.specs.Lines.{deed_told, lines_with, lines_of, lines_of_all}
-use Rattle.driver_laws.specs.shown.Runs.{CallsArePlayed, LinesPlayNothing, CallsAreAnswered}
-use Rattle.driver_laws.proofs.rules.WaitedLaws.{answers_append}
+use Rattle.driver_laws.specs.shown.Runs.{with_call}
 use Rattle.driver_laws.proofs.rules.Fronts.{played_append}
 
 lines_with_none : (line unit id : ℕ) (tolds : List moment.Deed) (ms : List Moment) → played (lines_with line unit id tolds ++ ms) ≡ played ms
@@ -26,14 +25,13 @@ nothing_more : (l : List Numbered) → l ++ [] ≡ l
 nothing_more [] = refl
 nothing_more (x ∷ xs) = ap (λ (l : List Numbered). x ∷ l) (nothing_more xs)
 
-pub lines_play_nothing : LinesPlayNothing
+pub lines_play_nothing : (moments : List Moment) (w : World) (acts : List Act) → played (moments ++ lines_of_all w acts) ≡ played moments
 lines_play_nothing moments w acts =
     played_append moments (lines_of_all w acts) ∙ ap (λ (l : List Numbered). played moments ++ l) (lines_none w acts) ∙ nothing_more (played moments)
 
-pub calls_are_played : CallsArePlayed
+-- THE INPUTS of a run are those of its calls, in their order; the lines that acts tell play none.
+pub calls_are_played : (moments : List Moment) (line : ℕ) (input : Input) (w : World) (acts : List Act)
+    → played (with_call moments line input w acts) ≡ played moments ++ record { line = line; input = input } ∷ []
 calls_are_played moments line input w acts =
     played_append moments (Played line input ∷ lines_of_all w acts)
     ∙ ap (λ (l : List Numbered). played moments ++ record { line = line; input = input } ∷ l) (lines_none w acts)
-
-pub calls_are_answered : CallsAreAnswered
-calls_are_answered moments line input w acts = answers_append moments (Played line input ∷ lines_of_all w acts)

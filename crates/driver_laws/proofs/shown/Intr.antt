@@ -13,14 +13,14 @@ use Rattle.driver_machine.specs.Acts.{in_phase, interrupted}
 use Rattle.driver_machine.specs.Acts as deed
 use Rattle.driver_machine.specs.Sound.{Sound}
 use Rattle.driver_laws.specs.shown.Stages.{last_verdict, sectors_left}
-use Rattle.driver_laws.specs.shown.Shows.{IsAdapterSeen, Shows}
+use Rattle.driver_laws.specs.shown.Shows.{IsAdapterSeen}
 use Rattle.driver_laws.proofs.shown.Told.{seen_told}
-use Rattle.driver_laws.specs.shown.Laws.{IsSaid}
 use Rattle.driver_laws.proofs.shown.Core.{Core}
 use Rattle.driver_laws.proofs.shown.Facts.{At}
 use Rattle.driver_laws.proofs.shown.Plain.{ready_plain}
 use Rattle.driver_laws.proofs.shown.DeedFacts.{said_by, no}
 use Rattle.driver_laws.proofs.shown.Busy.{only_one, Moves, moves, kept_bus}
+use Rattle.driver_laws.proofs.shown.Showing.{Shows, IsSaid}
 
 intr_core : (h : Held) (v : UnitView) (a : AdapterState) (seen : UnitSeen) (b : AdapterState) (moved : ℕ) (last : Moved)
     → Core h v a seen → v.phase ≡ Transferring → a.completion ≡ true → moved ≡ a.moved → last ≡ a.verdict

@@ -1,16 +1,15 @@
 -- One part of an event behind another; and the lines of an event follow, in a drain too.
-use Rattle.std.proofs.Common.{◌≡◌, ℕ, false, List, [], ◌∷◌, ◌++◌, refl, sym, ap, subst, ◌∙◌, rules}
+use Rattle.std.proofs.Common.{◌≡◌, ℕ, List, [], ◌∷◌, ◌++◌, refl, sym, ap, subst, ◌∙◌, rules}
 use Rattle.pack_geometry.specs.Pack as model
-use Rattle.trace_replay.specs.Moments.{Deed, Moment}
-use Rattle.trace_replay.specs.Events.{wish_of, is_no_line}
-use Rattle.trace_replay.specs.Replay.{Replay, LineMay, ToldMay, MayCome, next_wish, told_after, after_moment, after_moments, drained, Follows}
+use Rattle.trace_replay.specs.Moments.{Moment}
+use Rattle.trace_replay.specs.Replay.{Replay, MayCome, after_moment, after_moments, drained, Follows}
 use Rattle.driver_machine.specs.World.{World}
 use Rattle.driver_machine.specs.Acts.{Act, after, after_all}
 use Rattle.driver_machine.specs.Lines.{lines_of_all}
 use Rattle.driver_machine.specs.Events.{Part, followed}
 use Rattle.driver_laws.specs.answers.Packs.{packs_after, packs_after_all}
 use Rattle.driver_laws.proofs.invariant.Leads.{after_append}
-use Rattle.driver_laws.proofs.shown.Telling.{told_within, within, within_all, LineFollows, LinesFollow, Tells}
+use Rattle.driver_laws.proofs.shown.Telling.{within, within_all, LineFollows, LinesFollow, Tells}
 pub use Rattle.driver_laws.proofs.answers.Joined.{lines_append}
 
 -- behind the last of some moments a drain goes on
@@ -60,17 +59,6 @@ then_tells P Q w s acts part first next = tells_append P Q w s acts (part (after
 pub tells_too : (P Q : World → Replay → Type 0) (w : World) (s : Replay) (acts : List Act) → Tells P w s acts
     → (P (after_all w acts) (within_all s (lines_of_all w acts)) → Q (after_all w acts) (within_all s (lines_of_all w acts))) → Tells Q w s acts
 tells_too P Q w s acts tells so = search rules
-
--- A LINE of a unit is no refusal, and some line.
-pub line_may : (s : Replay) (line unit id : ℕ) (deed : Deed) → LineMay s line unit id deed → ToldMay (wish_of unit deed) s line unit id deed
-line_may s line unit id deed may = search rules
-
-pub line_after : (s : Replay) (unit : ℕ) (deed : Deed) → told_after (wish_of unit deed) s unit deed ≡ drained (told_within s unit deed)
-line_after s unit deed = search rules
-
--- where a line comes next a drain does not go on
-pub not_drained : (s : Replay) → is_no_line (next_wish s) ≡ false → drained s ≡ s
-not_drained s some = search rules
 
 drained_not : (m : Moment) (s : Replay) → LineFollows s m → drained s ≡ s
 drained_not m s may = search rules

@@ -25,7 +25,7 @@ use Rattle.driver_machine.specs.Acts.{Submit, after, joined, waiter_for}
 use Rattle.driver_machine.specs.Guards.{IsHeldFor, IsSetUp, IsNew}
 use Rattle.driver_machine.specs.Sound.{Sound, UnitOk, IsOutstanding, IsPhase, Among, is_waiting}
 use Rattle.driver_laws.specs.shown.Stages.{stage_by, IsProgress}
-use Rattle.driver_laws.specs.shown.Shows.{Match, IsUnitSeen, IsAdapterSeen, Shows, is_coming, with_coming, outstanding_in}
+use Rattle.driver_laws.specs.shown.Shows.{Match, IsUnitSeen, IsAdapterSeen, outstanding_in}
 use Rattle.std.specs.List.{AllByRecursion}
 use Rattle.driver_laws.proofs.shown.Frame.{either, progress_stays, same_transfer}
 use Rattle.driver_laws.proofs.shown.Plain.{with_same}
@@ -34,6 +34,7 @@ use Rattle.driver_laws.proofs.shown.End.{frames_same}
 use Rattle.driver_laws.proofs.shown.Queues.{each_of, match_same, match_joined}
 use Rattle.trace_replay.proofs.Unchanged.{with_other}
 use Rattle.driver_laws.proofs.invariant.Frame.{adapter_of-small}
+use Rattle.driver_laws.proofs.shown.Showing.{Shows, is_coming, with_coming}
 
 -- A UNIT WITH A REQUEST is not seen as one that has none.
 stage_goes : (phase : Phase) (v : UnitView) (a : AdapterState) (hand : told.Hand) (r : Request) → told.is_waiting (stage_by phase v a hand (Some r)) ≡ false

@@ -6,11 +6,15 @@ use Rattle.hardware_table.specs.Moves.{was_read}
 use Rattle.hardware_table.specs.Noise.{LiveNoise, Book, is_at, is_ended_by, with_noise, oldest, flips, strikes, after_strike, book_struck}
 use Rattle.trace_replay.specs.Script as script
 use Rattle.trace_replay.specs.Script.{Input}
-use Rattle.driver_machine.specs.World.{World, slot_in_hand, unit_at}
+use Rattle.driver_machine.specs.World.{World, slot_in_hand, unit_at, Setup, new_world}
 use Rattle.driver_machine.specs.Acts as deed
-use Rattle.driver_machine.specs.Acts.{Act, Of, Change, Deed, Scene, effect, scene_of, after}
+use Rattle.driver_machine.specs.Acts.{Act, Of, Change, Deed, Scene, effect, scene_of, after, after_all}
 use Rattle.driver_machine.specs.Guards.{Allowed}
-use Rattle.driver_laws.specs.shown.Noises.{AllFlip, NoneAtStart, ActsKeepNoise, StrikesFlip}
+use Rattle.driver_laws.specs.shown.Noises.{AllFlip}
+use Rattle.driver_machine.specs.Runs.{Run}
+use Rattle.hardware_table.specs.Drive.{DriveState}
+use Rattle.request_slots.specs.Move.{struck_at}
+use Rattle.trace_replay.specs.Bytes.{ArePlaces}
 
 flip_append : (xs ys : List LiveNoise) → AllFlip xs → AllFlip ys → AllFlip (xs ++ ys)
 flip_append [] ys one other = other
@@ -54,11 +58,12 @@ act_flips w (Of line u id d) allowed all = deed_flips line u (slot_in_hand (unit
 act_flips w (Change input) allowed all = change_flips w input allowed all
 act_flips w other allowed all = all
 
-pub acts_keep_noise : ActsKeepNoise
+pub acts_keep_noise : (w : World) (acts : List Act) → Run w acts → AllFlip w.book.live → AllFlip (after_all w acts).book.live
 acts_keep_noise w [] run all = all
 acts_keep_noise w (act ∷ acts) run all = acts_keep_noise (after w act) acts run.1 (act_flips w act run.0 all)
 
-pub none_at_start : NoneAtStart
+-- It is so at the start, and acts that run keep it.
+pub none_at_start : (setups : List Setup) (outstanding noises : ℕ) → AllFlip (new_world setups outstanding noises).book.live
 none_at_start setups outstanding noises = tt
 
 -- WHAT IS STRUCK
@@ -75,5 +80,6 @@ struck_flips unit block word (noise ∷ rest) places all e =
     found_flips (is_at unit block noise) (is_ended_by word noise.span) noise word (oldest unit block rest) places refl all.0
     (λ later. struck_flips unit block word rest places all.1 later) e
 
-pub strikes_flip : StrikesFlip
+-- So what is struck in a read are places.
+pub strikes_flip : (w : World) (unit block : ℕ) (d : DriveState) → AllFlip w.book.live → ArePlaces (struck_at unit block d w.book)
 strikes_flip w unit block d all = λ places. λ is. struck_flips unit block d.offset w.book.live places all is

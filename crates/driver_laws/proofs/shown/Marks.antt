@@ -1,17 +1,14 @@
 -- The packs as a run leaves them.
-use Rattle.std.proofs.Common.{◌≡◌, ℕ, [], ◌∷◌, refl, sym, ◌∙◌}
+use Rattle.std.proofs.Common.{◌≡◌, ℕ, [], ◌∷◌, refl, ◌∙◌}
 use Rattle.pack_geometry.specs.Pack.{Pack}
 use Rattle.main_memory.specs.Bytes.{filled}
 use Rattle.hardware_table.specs.Moves.{was_written}
 use Rattle.driver_machine.specs.World.{World, unit_at}
 use Rattle.driver_machine.specs.Acts as deed
 use Rattle.driver_machine.specs.Acts.{Act, Of, Deed, after}
-use Rattle.driver_laws.specs.answers.Packs.{packs_after}
-use Rattle.driver_laws.specs.shown.Left.{SectorsAreLeft, MarksStay}
+use Rattle.driver_laws.specs.answers.Packs.{packs_after, packs_after_all}
 use Rattle.driver_laws.proofs.shown.QuietEachDeed.{marks_by}
-
-pub sectors_are_left : SectorsAreLeft
-sectors_are_left start line moments held w unit block far = sym (far.left.stands.packs.sectors unit block)
+use Rattle.std.specs.Prelude.{List}
 
 deed_marks : (line u id : ℕ) (d : Deed) (w : World) (held : ℕ → Pack) (unit : ℕ) → (packs_after w held (Of line u id d) unit).marks ≡ (held unit).marks
 deed_marks line u id (deed.Sector block t) w held unit = marks_by (was_written (unit_at w u).drive t.verdict) held u block (filled 512 t.bytes) unit
@@ -21,6 +18,7 @@ act_marks : (act : Act) (w : World) (held : ℕ → Pack) (unit : ℕ) → (pack
 act_marks (Of line u id d) w held unit = deed_marks line u id d w held unit
 act_marks other w held unit = refl
 
-pub marks_stay : MarksStay
+-- and no act changes a mark.
+pub marks_stay : (w : World) (acts : List Act) (held : ℕ → Pack) (unit : ℕ) → (packs_after_all w held acts unit).marks ≡ (held unit).marks
 marks_stay w [] held unit = refl
 marks_stay w (act ∷ acts) held unit = marks_stay (after w act) acts (packs_after w held act) unit ∙ act_marks act w held unit

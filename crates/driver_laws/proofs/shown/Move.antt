@@ -21,10 +21,8 @@ use Rattle.driver_machine.specs.Guards.{InHand}
 use Rattle.driver_machine.specs.Acts.{going_to, transferring, commanded}
 use Rattle.driver_machine.specs.Acts as deed
 use Rattle.driver_machine.specs.Sound.{Sound, IsPhase, IsBegun, IsStill}
-use Rattle.driver_machine.specs.DueFacts.{IsAtCommand, MayGo}
-use Rattle.driver_laws.specs.shown.Shows.{IsAdapterSeen, is_coming, Shows}
+use Rattle.driver_laws.specs.shown.Shows.{IsAdapterSeen}
 use Rattle.driver_laws.proofs.shown.Told.{seen_told}
-use Rattle.driver_laws.specs.shown.Laws.{IsSaid}
 use Rattle.driver_laws.proofs.shown.Core.{Core, IsHead}
 use Rattle.driver_laws.proofs.shown.Talk.{guarded_command, transfer_guarded}
 use Rattle.driver_laws.proofs.shown.Facts.{At}
@@ -33,6 +31,8 @@ use Rattle.driver_laws.proofs.shown.DeedFacts.{said_by, no}
 use Rattle.driver_laws.proofs.shown.Drives.{segment_below}
 use Rattle.driver_laws.proofs.shown.Busy.{busy_with, kept_bus}
 use Rattle.driver_laws.proofs.invariant.Drives.{place_inside}
+use Rattle.driver_laws.proofs.shown.Showing.{Shows, is_coming, IsSaid}
+use Rattle.driver_machine.proofs.Dues.{IsAtCommand, MayGo}
 
 transfer_core : (h : Held) (u : ℕ) (v : UnitView) (a : AdapterState) (seen : UnitSeen) (b : AdapterState) (write : Bool) (segment : Segment)
     → Core h v a seen → IsAtCommand v.phase

@@ -35,7 +35,6 @@ use Rattle.driver_laws.proofs.invariant.Deeds.{deed_at}
 use Rattle.driver_laws.proofs.invariant.Due.{in_hand_one}
 use Rattle.driver_laws.proofs.invariant.Calls.{IsServing, serving}
 use Rattle.driver_laws.specs.answers.Packs.{packs_after}
-use Rattle.driver_laws.specs.shown.Shows.{Shows, is_coming, IsOnSurface}
 use Rattle.driver_laws.proofs.shown.Writes.{writes_show}
 use Rattle.driver_laws.proofs.shown.Facts.{At, at_facts}
 use Rattle.driver_laws.proofs.shown.Sector.{IsSector, sector_facts}
@@ -51,6 +50,7 @@ use Rattle.driver_laws.proofs.shown.Events.{drained_there}
 use Rattle.driver_laws.proofs.shown.Inputs.{rest_over}
 use Rattle.trace_replay.proofs.Unchanged.{read_same, read_marks}
 use Rattle.main_memory.proofs.BlockLaws.{size_few}
+use Rattle.driver_laws.proofs.shown.Showing.{IsOnSurface, Shows, is_coming}
 
 -- THE BYTES that a write gives, with zeros behind them
 pub cut_filled : (size : ℕ) (bytes : List ℕ) → length bytes ≤ size → take size (bytes ++ replicate size 0) ≡ filled size bytes

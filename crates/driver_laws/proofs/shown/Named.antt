@@ -8,7 +8,7 @@ use Rattle.trace_replay.specs.Replay.{Replay}
 use Rattle.driver_machine.specs.World.{World, adapter_at, unit_of}
 use Rattle.driver_machine.specs.Acts.{Tried, Sector, scene_of}
 use Rattle.driver_machine.specs.Events.{can_move}
-use Rattle.driver_laws.specs.shown.Shows.{IsOnSurface}
+use Rattle.driver_laws.proofs.shown.Showing.{IsOnSurface}
 
 -- the event that a drain goes on with, as the replay names it
 abbrev pub act_named : Replay → Input → Act

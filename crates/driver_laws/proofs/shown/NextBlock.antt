@@ -1,12 +1,12 @@
 -- The block at which the packs failed is the next block of a write, as the replay has it.
-use Rattle.std.proofs.Common.{◌≡◌, ◌≢◌, inl, ℕ, ◌+◌, ◌-◌, ◌*◌, ◌==◌, ◌&&◌, ◌<◌, ◌≤◌, Bool, true, false, not, List, [], take, drop, length, Option, None, Some, refl, sym, ap, subst, arith, ◌∙◌, rules}
+use Rattle.std.proofs.Common.{◌≡◌, inl, ℕ, ◌+◌, ◌-◌, ◌*◌, ◌==◌, ◌&&◌, ◌<◌, ◌≤◌, Bool, true, false, not, List, [], take, drop, length, Option, None, Some, refl, sym, ap, subst, arith, ◌∙◌, rules}
 use Rattle.std.specs.Prelude.{slice_index, slice_index_or, IsTrue}
 use Rattle.std.proofs.lemmas.Option.{none-some}
 use Rattle.std.proofs.lemmas.Bool.{false≢true}
 use Rattle.std.proofs.lemmas.Bool.Decides.{eqb_tells}
 use Rattle.pack_geometry.specs.declared.DriveKind.{DriveKind}
 use Rattle.pack_geometry.specs.Geometry.{block_count}
-use Rattle.pack_geometry.specs.Pack.{Pack, block_at, with_written, written}
+use Rattle.pack_geometry.specs.Pack.{Pack, block_at, with_written}
 use Rattle.pack_geometry.proofs.PackLaws.{block_at-with_block_same, block_at-with_block_other}
 use Rattle.hardware_table.specs.declared.Moved.{Moved}
 use Rattle.hardware_table.specs.declared.Moved.TheVariants as verdict
@@ -32,7 +32,6 @@ use Rattle.driver_laws.proofs.invariant.Sector.{next_below}
 use Rattle.driver_laws.proofs.invariant.Calls.{IsServing, serving}
 use Rattle.driver_laws.specs.answers.Outcome.{IsNextBlock}
 use Rattle.driver_laws.specs.shown.Stages.{segment_seen, progress_with}
-use Rattle.driver_laws.specs.shown.Shows.{Shows, is_coming}
 use Rattle.driver_laws.proofs.shown.Busy.{Moves, moves}
 use Rattle.driver_laws.proofs.shown.DeedFacts.{judged_start}
 use Rattle.driver_laws.proofs.shown.Facts.{At, at_facts}
@@ -49,6 +48,7 @@ use Rattle.driver_laws.specs.shown.RunsRuns.{AreDeclared}
 use Rattle.driver_laws.proofs.shown.Acts.{written_beyond}
 use Rattle.main_memory.proofs.BlockLaws.{size_few}
 use Rattle.driver_laws.proofs.shown.QuietEachDeed.{other_by}
+use Rattle.driver_laws.proofs.shown.Showing.{Shows, is_coming}
 
 -- ---- a try of the block, whatever its verdict
 verdict_by : Option Moved → Moved

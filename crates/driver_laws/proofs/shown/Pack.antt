@@ -21,16 +21,15 @@ use Rattle.driver_machine.specs.Due.{steps_of, target_of, next_by, step_of, comm
 use Rattle.driver_machine.specs.Acts.{with_drive, Deed, scene_of}
 use Rattle.driver_machine.specs.Acts as deed
 use Rattle.driver_machine.specs.Sound.{Sound, IsPhase, IsBegun}
-use Rattle.driver_machine.specs.DueFacts.{Calls, AtStart, AtStep, AtTransfer, AtChoice, IsAtCommand, IsDue}
+use Rattle.driver_machine.proofs.Dues.{AtStart, AtStep, AtTransfer, AtChoice, Calls, IsAtCommand, IsDue}
 use Rattle.driver_machine.proofs.DueFacts.{due_facts, chosen_facts}
-use Rattle.driver_laws.specs.shown.Shows.{is_coming, with_coming, Shows}
 use Rattle.driver_laws.proofs.shown.Told.{seen_told}
-use Rattle.driver_laws.specs.shown.Laws.{IsSaid}
 use Rattle.driver_laws.proofs.shown.Core.{Core, IsHead}
 use Rattle.driver_laws.proofs.shown.Facts.{At}
 use Rattle.driver_laws.proofs.shown.AdapterQueues.{ready_stays}
 use Rattle.driver_laws.proofs.shown.Plain.{ready_plain, plain_says}
 use Rattle.driver_laws.proofs.shown.DeedFacts.{said_by, command_begun}
+use Rattle.driver_laws.proofs.shown.Showing.{Shows, is_coming, with_coming, IsSaid}
 
 pack_core : (phase : Phase) (h : Held) (v : UnitView) (a : AdapterState) (seen : UnitSeen) (b : AdapterState) → v.phase ≡ phase → Calls phase
     → Core h v a seen → Core h (with_drive (performed function.Pack) v) a (seen_told seen b moment.Pack [])

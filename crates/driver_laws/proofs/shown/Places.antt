@@ -1,11 +1,9 @@
 -- Where a segment begins and how long it is, as the replay and the machine say it.
-use Rattle.std.proofs.Common.{◌≡◌, ℕ, List, [], take, ◌+◌, Option, Some, None, Bool, true, false, refl, rules}
-use Rattle.std.specs.Prelude.{if◌then◌else◌}
+use Rattle.std.proofs.Common.{◌≡◌, ℕ, ◌+◌, Option, Some, None, refl, rules}
 use Rattle.transfer_engine.specs.declared.job.Job.{Job}
 use Rattle.transfer_engine.specs.State as engine
 use Rattle.trace_replay.specs.requests.Requests.{first_block}
 use Rattle.trace_replay.specs.Conversation.{Hand, start_of, length_of}
-use Rattle.driver_machine.specs.World.{bytes_in}
 use Rattle.driver_laws.specs.shown.Stages.{segment_by}
 
 pub segment_start : (index : Option ℕ) (job : Job) (done moved : ℕ) (hand : Hand) → job.first ≡ first_block hand.kind hand.request
@@ -17,7 +15,3 @@ pub segment_length : (index : Option ℕ) (job : Job) (done : ℕ) (hand : Hand)
     → length_of (segment_by job.kind index) hand ≡ (engine.segment_by index job done).count
 segment_length None job done hand count is = rw (count, is) refl
 segment_length (Some i) job done hand count is = refl
-
-pub no_bytes : (write : Bool) (blocks : List (List ℕ)) → (if write then [] else bytes_in (take 0 blocks)) ≡ []
-no_bytes true blocks = refl
-no_bytes false blocks = refl

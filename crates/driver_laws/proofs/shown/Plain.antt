@@ -18,13 +18,14 @@ use Rattle.driver_machine.specs.World.{World, UnitView, Held, adapter_of, unit_a
 use Rattle.driver_machine.specs.Acts.{Scene, scene_of, with_scene}
 use Rattle.driver_machine.specs.Guards.{IsHeldFor}
 use Rattle.driver_machine.specs.Sound.{Among}
-use Rattle.driver_laws.specs.shown.Shows.{Match, IsAdapterSeen, is_coming, with_coming, counted_by, outstanding_in, Shows}
+use Rattle.driver_laws.specs.shown.Shows.{Match, IsAdapterSeen, counted_by, outstanding_in}
 use Rattle.driver_laws.proofs.shown.Core.{Core}
 use Rattle.driver_laws.proofs.shown.Frame.{Step, IsSameTransfer, same_transfer, same_held}
 use Rattle.driver_laws.proofs.shown.Facts.{At}
 use Rattle.driver_laws.proofs.shown.AdapterQueues.{ready_goes, coming_is}
 use Rattle.trace_replay.proofs.Unchanged.{with_other}
 use Rattle.driver_laws.proofs.invariant.Frame.{slot_there}
+use Rattle.driver_laws.proofs.shown.Showing.{Shows, is_coming, with_coming}
 
 pub with_same : {T : Type 0} (states : ℕ → T) (k : ℕ) (state : T) → with_state states k state k ≡ state
 with_same states k state = search rules

@@ -21,7 +21,6 @@ use Rattle.driver_machine.specs.Acts as deed
 use Rattle.driver_machine.specs.Acts.{Deed, Scene, Tried, Of, effect, scene_of, with_scene, answer_at, after}
 use Rattle.driver_machine.specs.Guards.{IsSetUp, Allowed}
 use Rattle.driver_machine.specs.Sound.{Sound, SlotOk}
-use Rattle.driver_machine.specs.Frame.{IsSame}
 use Rattle.driver_machine.proofs.Frame.{effect_same, other_slot}
 use Rattle.driver_laws.proofs.invariant.Scene.{SceneOk, due_of}
 use Rattle.driver_laws.proofs.invariant.Frame.{Changed, scene_ok, adapter_here, unit_here, slot_here, deed_changed}
@@ -36,6 +35,7 @@ use Rattle.driver_laws.proofs.shown.Tries.{Given, sector_bears}
 use Rattle.driver_laws.proofs.shown.Others.{LeavesMoves, leaves_moves, other_bears}
 use Rattle.driver_laws.proofs.shown.Answers.{Stays, StaySlots, steps_stay, steps_more}
 use Rattle.driver_laws.proofs.shown.Facts.{set_up}
+use Rattle.driver_machine.proofs.Frames.{IsSame}
 
 -- WHAT A DEED LEAVES of its scene: but for an end the queue and the answers, and but for a sector the noise
 same_queue : (line u p : ℕ) (d : Deed) (s : Scene) → ((kind : AnswerKind) → d ≢ deed.End kind) → ((effect line u p d s).unit.queue ≡ s.unit.queue) × ((effect line u p d s).answers ≡ s.answers)

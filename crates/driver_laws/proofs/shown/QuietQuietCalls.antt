@@ -24,7 +24,6 @@ use Rattle.driver_laws.proofs.invariant.Calls.{submit_works, event_works, taken_
 use Rattle.driver_laws.proofs.invariant.Next.{next_can}
 use Rattle.driver_laws.proofs.invariant.Sound.{sound_after}
 use Rattle.driver_laws.specs.answers.Packs.{packs_after_all}
-use Rattle.driver_laws.specs.shown.Shows.{Shows}
 use Rattle.driver_laws.proofs.shown.Rest.{rest_shows}
 use Rattle.driver_laws.specs.shown.Calls.{Stands, Ends, IsLeft, AreThere}
 use Rattle.driver_laws.proofs.shown.Telling.{IsTold}
@@ -41,6 +40,7 @@ use Rattle.driver_laws.specs.shown.QuietCalls.{IsOpen, QuietOpens, QuietSubmits,
 use Rattle.driver_laws.proofs.rules.Conserved.{work_of}
 use Rattle.driver_laws.proofs.rules.Quiet.{after_parts}
 use Rattle.trace_replay.proofs.Following.{joined as follows_append}
+use Rattle.driver_laws.proofs.shown.Showing.{Shows}
 
 -- ---- consistent, whatever the line before
 work_numbered : (b : Bool) (s : Replay) (n : ℕ) → WorkMay b s → WorkMay b (numbered n s)

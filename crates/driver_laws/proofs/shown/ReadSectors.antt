@@ -13,11 +13,11 @@ use Rattle.trace_replay.specs.Replay.{Replay}
 use Rattle.driver_machine.specs.World.{World, unit_of, unit_at, adapter_at, adapter_of, held_in, slot_in_hand}
 use Rattle.driver_machine.specs.Acts.{Tried, Of, Sector, scene_of}
 use Rattle.driver_laws.specs.answers.Packs.{Reads}
-use Rattle.driver_laws.specs.shown.Shows.{IsOnSurface}
 use Rattle.driver_laws.specs.shown.Within.{ShowsAll}
 use Rattle.driver_laws.specs.shown.Calls.{IsSurfaceOf, IsReadOf}
 use Rattle.driver_laws.proofs.shown.Named.{IsTriedOn}
 use Rattle.driver_laws.proofs.shown.Struck.{front_read}
+use Rattle.driver_laws.proofs.shown.Showing.{IsOnSurface}
 
 -- SO WHAT WAS READ of the packs is on the surface.
 pub reads_are_on_surface : (line u id block : ℕ) (tried : Tried) (held : ℕ → Pack) (w : World) (s : Replay) → ShowsAll w s → IsSurfaceOf held s

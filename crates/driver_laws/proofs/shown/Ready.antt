@@ -11,11 +11,11 @@ use Rattle.driver_machine.specs.Due.{next_by, start_of}
 use Rattle.driver_machine.specs.Acts as deed
 use Rattle.driver_machine.specs.Acts.{Deed, Of, scene_of, after}
 use Rattle.driver_machine.specs.Sound.{Sound}
-use Rattle.driver_machine.specs.DueFacts.{AllTaken, IsReady}
-use Rattle.driver_laws.specs.shown.Shows.{is_coming, Shows}
 use Rattle.driver_laws.proofs.shown.Core.{Core, IsHead}
 use Rattle.driver_laws.proofs.shown.Facts.{At}
 use Rattle.driver_laws.proofs.shown.Silent.{silent_shows}
+use Rattle.driver_laws.proofs.shown.Showing.{Shows, is_coming}
+use Rattle.driver_machine.proofs.Dues.{AllTaken, IsReady}
 
 pub ready_core : (h : Held) (v : UnitView) (a : AdapterState) (seen : UnitSeen) → Core h v a seen → IsHead h v.drive.kind seen → v.phase ≡ Waiting
     → start_of v h ≡ deed.Ready (begun (job_of v.drive.kind h))

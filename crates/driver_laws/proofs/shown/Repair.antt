@@ -15,14 +15,14 @@ use Rattle.driver_machine.specs.Guards.{InHand}
 use Rattle.driver_machine.specs.Acts.{in_phase, Of, after, repaired_at}
 use Rattle.driver_machine.specs.Acts as deed
 use Rattle.driver_machine.specs.Sound.{Sound, IsPhase}
-use Rattle.driver_machine.specs.DueFacts.{IsJudged}
 use Rattle.driver_laws.specs.shown.Stages.{front_of}
-use Rattle.driver_laws.specs.shown.Shows.{Shows}
 use Rattle.driver_laws.proofs.shown.Core.{Core}
 use Rattle.driver_laws.proofs.shown.Facts.{At}
 use Rattle.driver_laws.proofs.shown.DeedFacts.{judged_progress, kept_block}
 use Rattle.driver_laws.proofs.shown.Fronts.{front_more, repaired_same}
 use Rattle.driver_laws.proofs.shown.Silent.{not_first, silent_shows, due_ready}
+use Rattle.driver_laws.proofs.shown.Showing.{Shows}
+use Rattle.driver_machine.proofs.Dues.{IsJudged}
 
 -- The replay counts it at the interrupt.
 repaired_front : (h : Held) (k n at pattern : ℕ) → h.write ≡ false → k < length h.blocks → n ≡ k + 1

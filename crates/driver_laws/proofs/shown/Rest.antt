@@ -11,19 +11,19 @@ use Rattle.disksort.specs.declared.Waiter.{Waiter}
 use Rattle.trace_replay.specs.requests.Requests.{Request, Rejection, rejection_answer}
 use Rattle.trace_replay.specs.Script as script
 use Rattle.trace_replay.specs.Conversation as told
-use Rattle.trace_replay.specs.Replay.{UnitSeen, Replay, Refused, Joined, Submission, submission, submission_by, submitted, new_replay}
+use Rattle.trace_replay.specs.Replay.{UnitSeen, Replay, Refused, Joined, Submission, submission, submission_by, submitted, new_replay, replay_played}
 use Rattle.trace_replay.specs.declared.requests.answers.AnswerKind.{AnswerKind}
 use Rattle.driver_machine.specs.declared.Made.{Made}
 use Rattle.driver_machine.specs.declared.Phase.{Phase}
 use Rattle.driver_machine.specs.declared.Phase.TheVariants as phases
-use Rattle.driver_machine.specs.World.{World, AdapterView, Held, new_world, no_held, new_adapter_view, adapter_of, unit_at, adapter_at, held_in, slot_in_hand}
-use Rattle.driver_machine.specs.Acts.{Refuse, Submit, Taken, after, freed}
-use Rattle.driver_machine.specs.Events.{refusal_by, is_room}
+use Rattle.driver_machine.specs.World.{World, AdapterView, Held, new_world, no_held, new_adapter_view, adapter_of, unit_at, adapter_at, held_in, slot_in_hand, Setup}
+use Rattle.driver_machine.specs.Acts.{Refuse, Submit, Taken, after, freed, Change, Nothing}
+use Rattle.driver_machine.specs.Events.{refusal_by, is_room, refusal_of}
 use Rattle.driver_machine.specs.Lines.{answer_told}
-use Rattle.driver_machine.specs.Guards.{IsSetUp}
+use Rattle.driver_machine.specs.Guards.{IsSetUp, Allowed, IsHeldFor}
 use Rattle.driver_machine.specs.Sound.{Sound, IsOutstanding, IsMade}
-use Rattle.driver_laws.specs.shown.Shows.{IsUnitSeen, IsAdapterSeen, Shows, is_coming, with_coming, counted_by, outstanding_in}
-use Rattle.driver_laws.specs.shown.Acts.{RefusalsShow, ChangesShow, RestShows, SpeakersChange, StartIsShown, JoinsShow}
+use Rattle.driver_laws.specs.shown.Shows.{IsUnitSeen, IsAdapterSeen, counted_by, outstanding_in}
+use Rattle.driver_laws.specs.shown.Acts.{AreSetUp}
 use Rattle.driver_laws.proofs.shown.Frame.{progress_stays, same_transfer}
 use Rattle.driver_laws.proofs.shown.Queues.{each_of, match_same}
 use Rattle.driver_laws.proofs.shown.Joins.{joined_shows}
@@ -31,6 +31,13 @@ use Rattle.driver_laws.proofs.shown.Changes.{turn_shows, arm_shows, online_shows
 use Rattle.driver_laws.proofs.answers.Ids.{replicate_at}
 use Rattle.driver_laws.proofs.rules.Lookups.{true_false}
 use Rattle.driver_laws.proofs.shown.Facts.{some_one}
+use Rattle.trace_replay.specs.Script.{Input}
+use Rattle.trace_replay.proofs.requests.ServiceOrderRuns.{IsService}
+use Rattle.trace_replay.specs.Service.{cylinder_of}
+use Rattle.pack_geometry.specs.declared.DriveKind.{DriveKind}
+use Rattle.pack_geometry.specs.TableSpelling.{Table}
+use Rattle.trace_replay.specs.Packs.{Surface}
+use Rattle.driver_laws.proofs.shown.Showing.{Shows, is_coming, with_coming, IsAtWorkFor, IsRefused}
 
 -- A REFUSAL
 pub record IsRefusal (kind : AnswerKind) (met : Submission) : Type 0 where
@@ -51,7 +58,8 @@ same_submission u r w s shows set = rw ((shows.units r.unit set).drive, shows.fr
 refuse_shows : (u line : ℕ) (r : Request) (kind : AnswerKind) (w : World) (s : Replay) → Shows u w s → Shows u (after w (Refuse line r kind)) s
 refuse_shows u line r kind w s shows = search rules
 
-pub refusals_show : RefusalsShow
+pub refusals_show : (u line : ℕ) (r : Request) (kind : AnswerKind) (w : World) (s : Replay) → Shows u w s → Allowed w (Refuse line r kind)
+    → IsRefused u line r kind w s
 refusals_show u line r kind w s shows allowed =
     let is : IsRefusal kind (submission_by (admission (unit_at w r.unit).drive.kind r.part r.block r.count) (is_room r w)) =
     refused_by (admission (unit_at w r.unit).drive.kind r.part r.block r.count) (is_room r w) kind allowed.2 in
@@ -64,7 +72,10 @@ refusals_show u line r kind w s shows allowed =
     }
 
 -- A JOIN
-pub joins_show : JoinsShow
+pub joins_show : (line p : ℕ) (h : Held) (r : Request) (w : World) (s : Replay) → Sound w → Shows h.unit w s → Allowed w (Submit line p h)
+    → IsHeldFor (unit_at w h.unit).drive.kind r h → refusal_of r w ≡ None
+    → IsService (cylinder_of (s.units h.unit).drive.kind) (s.units h.unit).service
+    → Shows h.unit (after w (Submit line p h)) (replay_played s (script.Submit r))
 joins_show line p h r w s sound shows allowed is inside sorted =
     let set : IsSetUp w r.unit = subst (IsSetUp w) is.unit allowed.unit in
     let met : submission s r ≡ Joined =
@@ -72,7 +83,8 @@ joins_show line p h r w s sound shows allowed is inside sorted =
     subst (λ m. Shows h.unit (after w (Submit line p h)) (submitted s r m)) (sym met) (joined_shows line p h r w s sound allowed is sorted shows)
 
 -- CONDITIONS
-pub changes_show : ChangesShow
+pub changes_show : (u : ℕ) (input : Input) (w : World) (s : Replay) → Sound w → Shows u w s → Allowed w (Change input) → IsAtWorkFor w input
+    → Shows u (after w (Change input)) (replay_played s input)
 changes_show u (script.Turn x sector) w s sound shows allowed work = turn_shows u x sector w s sound allowed.0 work shows
 changes_show u (script.Noise noise) w s sound shows allowed work = noise_shows u noise w s shows
 changes_show u (script.Arm x kind times) w s sound shows allowed work = arm_shows u x kind times w s sound allowed.0 work shows
@@ -134,7 +146,8 @@ taken_seen w x seen sound small is = record {
       (Contains-get_or (unit_at w x).queue 0 (record { number = 0; cylinder = 0 }) ((sound.each_unit x small).head going)))) is.progress;
 }
 
-pub rest_shows : RestShows
+-- an event that finds nothing, and an answer that is taken, change nothing that is seen
+pub rest_shows : (u line : ℕ) (w : World) (s : Replay) → Sound w → Shows u w s → Shows u (after w (Nothing line)) s × Shows u (after w Taken) s
 rest_shows u line w s sound shows = (
   shows,
   record {
@@ -148,10 +161,6 @@ rest_shows u line w s sound shows = (
   },
 )
 
--- ANOTHER SPEAKER
-pub speakers_change : SpeakersChange
-speakers_change u x w s shows calm next small small' = search rules
-
 -- THE START
 none_outstanding : (n : ℕ) → 0 ≡ outstanding_in (replicate n None)
 none_outstanding zero = refl
@@ -164,7 +173,9 @@ waiting_calm other = refl
 new_adapters : IsAdapterSeen new_adapter new_adapter
 new_adapters = search rules
 
-pub start_is_shown : StartIsShown
+pub start_is_shown : (u : ℕ) (drives : ℕ → Option DriveKind) (tables : ℕ → Option Table) (surface : Surface) (setups : List Setup) (outstanding noises : ℕ)
+    → AreSetUp drives tables (new_world setups outstanding noises) → surface.live ≡ []
+    → Shows u (new_world setups outstanding noises) (new_replay drives tables surface)
 start_is_shown u drives tables surface setups outstanding noises start quiet = record {
   units = λ x set.
       subst (λ v. IsUnitSeen (held_in (new_world setups outstanding noises)) v (adapter_at (new_world setups outstanding noises) (adapter_of x)).state

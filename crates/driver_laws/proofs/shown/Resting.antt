@@ -18,12 +18,12 @@ use Rattle.driver_machine.proofs.Until.{due_over}
 use Rattle.driver_machine.specs.Runs.{Run}
 use Rattle.driver_laws.proofs.invariant.Deeds.{deed_at}
 use Rattle.driver_laws.proofs.invariant.Due.{begun_one, none_due}
-use Rattle.driver_laws.specs.shown.Shows.{Shows, is_coming}
 use Rattle.driver_laws.specs.shown.Within.{ShowsAll, Rests}
 use Rattle.driver_laws.proofs.shown.Telling.{Speaks, Tells}
 use Rattle.driver_laws.proofs.shown.Joined.{tells_append, tells_too}
 use Rattle.driver_laws.proofs.shown.Due.{IsQuiet, rest_quiet}
 use Rattle.driver_laws.proofs.shown.Speaking.{IsUntried, MayTell, tells_line, due_turns}
+use Rattle.driver_laws.proofs.shown.Showing.{Shows, is_coming}
 
 -- WHERE NOTHING IS DUE a unit rests, or waits with no request.
 abbrev pub IsAtRest : Phase → List Waiter → Type 0

@@ -17,7 +17,7 @@ use Rattle.driver_machine.specs.declared.Phase.TheVariants.{Waiting}
 use Rattle.driver_machine.specs.World.{World, UnitView, Held, Setup, new_unit, new_world, no_transfer, adapter_of, unit_at, adapter_at, held_in, slot_in_hand, transfer_of}
 use Rattle.driver_machine.specs.Guards.{IsSetUp}
 use Rattle.driver_machine.specs.Sound.{Among, Sound, AtWork, WorkOf, is_waiting}
-use Rattle.driver_laws.specs.invariant.Parts.{units_of}
+use Rattle.driver_laws.specs.invariant.Setups.{units_of}
 use Rattle.driver_laws.proofs.invariant.SlotsLists.{Contains-first, Contains-later}
 use Rattle.driver_laws.proofs.invariant.Starts.{stands_new, others_new}
 use Rattle.driver_laws.proofs.invariant.Frame.{head_out}

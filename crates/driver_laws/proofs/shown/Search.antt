@@ -25,15 +25,14 @@ use Rattle.driver_machine.specs.Due.{position_of, target_of}
 use Rattle.driver_machine.specs.Acts.{going_to, searching}
 use Rattle.driver_machine.specs.Acts as deed
 use Rattle.driver_machine.specs.Sound.{Sound, IsPhase}
-use Rattle.driver_machine.specs.DueFacts.{MayGo}
-use Rattle.driver_laws.specs.shown.Shows.{Shows}
 use Rattle.driver_laws.proofs.shown.Told.{seen_told}
-use Rattle.driver_laws.specs.shown.Laws.{IsSaid}
 use Rattle.driver_laws.proofs.shown.Core.{Core, IsHead}
 use Rattle.driver_laws.proofs.shown.Facts.{At, inside_limit}
 use Rattle.driver_laws.proofs.shown.Plain.{plain_says, ready_plain}
 use Rattle.driver_laws.proofs.shown.DeedFacts.{no, said_by}
 use Rattle.driver_laws.proofs.invariant.Drives.{place_inside, below_limit, is_addressed-addressed}
+use Rattle.driver_laws.proofs.shown.Showing.{Shows, IsSaid}
+use Rattle.driver_machine.proofs.Dues.{MayGo}
 
 -- a search is for the sector that is said
 pub record IsSearch (b : Bool) (s sector : ℕ) : Type 0 where

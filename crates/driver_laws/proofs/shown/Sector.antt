@@ -4,7 +4,6 @@ use Rattle.std.specs.Prelude.{if◌then◌else◌}
 use Rattle.pack_geometry.specs.declared.DriveKind.{DriveKind}
 use Rattle.hardware_table.specs.declared.Moved.{Moved}
 use Rattle.hardware_table.specs.declared.Moved.TheVariants.{Clean, Burst, Hard}
-use Rattle.hardware_table.specs.declared.Moved.TheVariants as verdict
 use Rattle.hardware_table.specs.declared.Work.TheVariants as work
 use Rattle.hardware_table.specs.declared.Work.{Work}
 use Rattle.hardware_table.specs.Adapter.{AdapterState, IsAdapter, bytes_between, stepped, step_bytes, next_block, next_window, drive_stepped}
@@ -31,9 +30,8 @@ use Rattle.driver_machine.specs.Acts.{with_drive, Tried, scene_of}
 use Rattle.driver_machine.specs.Acts as deed
 use Rattle.driver_machine.specs.Sound.{Sound, IsPhase, IsBegun}
 use Rattle.driver_laws.specs.shown.Stages.{segment_seen, last_verdict, left_by, progress_stopped, failures_at, front_of, progress_with}
-use Rattle.driver_laws.specs.shown.Shows.{IsAdapterSeen, is_coming, with_coming, Shows, IsOnSurface}
+use Rattle.driver_laws.specs.shown.Shows.{IsAdapterSeen}
 use Rattle.driver_laws.proofs.shown.Told.{seen_told}
-use Rattle.driver_laws.specs.shown.Laws.{IsSaid}
 use Rattle.driver_laws.proofs.shown.Core.{Core, IsHead}
 use Rattle.driver_laws.proofs.shown.Facts.{At, some_one}
 use Rattle.driver_laws.proofs.shown.Plain.{ready_plain}
@@ -41,6 +39,7 @@ use Rattle.driver_laws.proofs.shown.DeedFacts.{no, kept_block, said_by}
 use Rattle.driver_laws.proofs.shown.Busy.{Moves, moves, only_one}
 use Rattle.driver_laws.proofs.shown.Fronts.{front_more, front_same, block_set}
 use Rattle.driver_laws.proofs.rules.Known.{written_live}
+use Rattle.driver_laws.proofs.shown.Showing.{IsOnSurface, Shows, is_coming, with_coming, IsSaid}
 
 -- THE COMPLETION goes up behind a clean sector where it was the last, in bytes as in blocks.
 bytes_left : (blocks last skip count moved : ℕ) → 0 < bytes_between blocks last skip count - 512 * moved → moved < count

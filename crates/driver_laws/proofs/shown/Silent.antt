@@ -16,12 +16,13 @@ use Rattle.driver_machine.specs.Guards.{IsHeldFor, InHand}
 use Rattle.driver_machine.specs.Acts.{Scene, scene_of, with_scene}
 use Rattle.driver_machine.specs.Sound.{Sound, IsBegun}
 use Rattle.driver_laws.specs.shown.Stages.{failures_at}
-use Rattle.driver_laws.specs.shown.Shows.{Match, is_coming, with_coming, Shows}
+use Rattle.driver_laws.specs.shown.Shows.{Match}
 use Rattle.driver_laws.proofs.shown.Core.{Core, IsHead}
 use Rattle.driver_laws.proofs.shown.Frame.{step_shows, same_transfer, same_held}
 use Rattle.driver_laws.proofs.shown.Facts.{At}
 use Rattle.driver_laws.proofs.shown.Plain.{outstanding_same, same_slot}
 use Rattle.driver_laws.proofs.invariant.Frame.{slot_there}
+use Rattle.driver_laws.proofs.shown.Showing.{Shows, is_coming, with_coming}
 
 pub plus_none : (n : ℕ) → n ≡ n + 0
 plus_none n = omega arith

@@ -21,13 +21,12 @@ use Rattle.driver_machine.specs.Runs.{Run}
 use Rattle.driver_laws.proofs.invariant.Deeds.{deed_at}
 use Rattle.driver_laws.proofs.invariant.Sound.{sound_after}
 use Rattle.driver_laws.specs.answers.Packs.{packs_after}
-use Rattle.driver_laws.specs.shown.Shows.{Shows, IsOnSurface}
-use Rattle.driver_laws.specs.shown.Laws.{IsSaid, told_by}
 use Rattle.driver_laws.proofs.shown.EachDeed.{lines_are_said, silent_deeds_show}
 use Rattle.driver_laws.specs.shown.Within.{IsEvent}
 use Rattle.driver_laws.proofs.shown.Telling.{told_within, within_all, LinesFollow, Speaks, Tells}
 use Rattle.driver_laws.proofs.shown.Joined.{nothing_told, then_tells}
 use Rattle.driver_laws.proofs.shown.Due.{IsOwn, told_cases, due_own, own_line, due_goes}
+use Rattle.driver_laws.proofs.shown.Showing.{IsOnSurface, Shows, IsSaid, told_by}
 
 -- no sector is tried
 abbrev pub IsUntried : Deed → Type 0

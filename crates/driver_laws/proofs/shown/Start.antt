@@ -11,9 +11,8 @@ use Rattle.driver_machine.specs.World.{World, Setup, new_world, unit_at}
 use Rattle.driver_machine.specs.Acts.{Taken, after}
 use Rattle.driver_machine.specs.Guards.{IsSetUp}
 use Rattle.driver_machine.specs.Sound.{Sound, AtWork}
-use Rattle.driver_laws.specs.invariant.Parts.{AreSetups}
+use Rattle.driver_laws.specs.invariant.Setups.{AreSetups}
 use Rattle.driver_laws.proofs.invariant.Starts.{sound_new, rests_new}
-use Rattle.driver_laws.specs.shown.Shows.{Shows}
 use Rattle.driver_laws.specs.shown.Acts.{AreSetUp}
 use Rattle.driver_laws.proofs.shown.Rest.{start_is_shown, rest_shows, waiting_calm}
 use Rattle.driver_laws.specs.shown.Calls.{Stands}
@@ -21,6 +20,7 @@ use Rattle.driver_laws.specs.shown.Runs.{IsSoFar}
 use Rattle.driver_laws.proofs.shown.Resting.{shows_one, shows_all}
 use Rattle.driver_laws.proofs.shown.Submits.{calm}
 use Rattle.driver_laws.proofs.shown.TraceRuns.{filter_by}
+use Rattle.driver_laws.proofs.shown.Showing.{Shows}
 
 -- AT THE START, where the drives and tables are those of the units that are set up
 pub starts : (drives : ℕ → Option DriveKind) (tables : ℕ → Option Table) (held : ℕ → Pack) (setups : List Setup) (outstanding noises : ℕ)

@@ -20,8 +20,6 @@ use Rattle.driver_laws.proofs.invariant.Deeds.{deed_at}
 use Rattle.driver_laws.proofs.invariant.Due.{begun_one}
 use Rattle.driver_laws.proofs.invariant.Start.{start_is, no_more}
 use Rattle.driver_laws.proofs.invariant.Sound.{sound_after}
-use Rattle.driver_laws.specs.shown.Shows.{is_coming}
-use Rattle.driver_laws.specs.shown.Laws.{told_by}
 use Rattle.driver_laws.specs.shown.Within.{Rests}
 use Rattle.driver_laws.proofs.shown.Telling.{within_all, Tells}
 use Rattle.driver_laws.specs.shown.Calls.{IsOverWithin}
@@ -29,6 +27,7 @@ use Rattle.driver_laws.proofs.shown.Joined.{nothing_told, then_tells, tells_too}
 use Rattle.driver_laws.proofs.shown.Due.{IsOwn, IsOwnLine, told_cases, own_line}
 use Rattle.driver_laws.proofs.shown.Speaking.{own_untried, on_surface}
 use Rattle.driver_laws.proofs.shown.Resting.{Rested, shows_one, begun_told}
+use Rattle.driver_laws.proofs.shown.Showing.{is_coming, told_by}
 
 -- A PART THAT IS DONE AGAIN
 until_turn : (P : World → Replay → Type 0) (part again : Part) (w : World) (s : Replay) (acts : List deed.Act)

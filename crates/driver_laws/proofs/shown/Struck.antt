@@ -1,5 +1,5 @@
 -- What a read gives of a sector at which no alias is among the noise that was armed.
-use Rattle.std.proofs.Common.{◌≡◌, ℕ, ◌+◌, ◌*◌, ◌/◌, ◌%◌, ◌<◌, ◌≤◌, List, length, get_or, take, Option, Some, None, sym, ap, subst, arith, ◌∙◌, rules}
+use Rattle.std.proofs.Common.{◌≡◌, ℕ, ◌+◌, ◌*◌, ◌<◌, ◌≤◌, List, length, get_or, take, Option, Some, None, sym, ap, subst, arith, ◌∙◌, rules}
 use Rattle.std.specs.Int.{bit_at}
 use Rattle.std.proofs.lemmas.Nat.Bits.{same_from_bits_below}
 use Rattle.std.proofs.lemmas.Grind.{same_number_lists}
@@ -14,13 +14,6 @@ use Rattle.trace_replay.proofs.ReadBytes.{reads_as_told}
 use Rattle.driver_machine.specs.Repaired.{repaired}
 use Rattle.driver_laws.proofs.rules.Noises.{Harmless, read_clean, read_burst}
 use Rattle.driver_laws.proofs.shown.Fronts.{repaired_same}
-
--- two words with the same places flipped have the same bytes
-pub row : (i j : ℕ) → j < 8 → (8 * i + j) / 8 ≡ i
-row i j less = omega (arith, less)
-
-pub column : (i j : ℕ) → j < 8 → (8 * i + j) % 8 ≡ j
-column i j less = omega (arith, less)
 
 pub bit_here : (bytes : List ℕ) (check i j : ℕ) → i < 512 → j < 8 → bit_of_word bytes check (8 * i + j) ≡ bit_at (get_or bytes i 0) j
 bit_here bytes check i j small less = search rules

@@ -27,8 +27,6 @@ use Rattle.driver_laws.proofs.invariant.Leads.{run_split}
 use Rattle.driver_laws.proofs.invariant.Start.{until_stop}
 use Rattle.driver_laws.proofs.invariant.Sound.{sound_after}
 use Rattle.driver_laws.specs.answers.Packs.{packs_after_all}
-use Rattle.driver_laws.specs.shown.Shows.{Shows}
-use Rattle.driver_laws.specs.shown.Acts.{IsRefused, IsAtWorkFor}
 use Rattle.driver_laws.proofs.shown.Rest.{refusals_show, joins_show, changes_show}
 use Rattle.driver_laws.specs.shown.Within.{ShowsAll, Rests}
 use Rattle.driver_laws.proofs.shown.Telling.{within_all, Speaks, Tells, IsTold}
@@ -40,6 +38,7 @@ use Rattle.driver_laws.proofs.shown.Resting.{Rested, shows_one, shows_all, due_t
 use Rattle.driver_laws.proofs.shown.Starting.{wish_resting, start_told}
 use Rattle.driver_laws.proofs.shown.Events.{not_drained, same_packs, drained_there}
 use Rattle.driver_laws.proofs.invariant.Calls.{eighth}
+use Rattle.driver_laws.proofs.shown.Showing.{Shows, IsAtWorkFor, IsRefused}
 
 -- OUTSIDE A DRAIN behind its lines an event is over.
 not_in_drain : (s : Replay) → s.event.drains ≡ false → drained s ≡ s

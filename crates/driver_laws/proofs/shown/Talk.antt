@@ -13,10 +13,10 @@ use Rattle.driver_machine.specs.declared.Phase.TheVariants.{Due}
 use Rattle.driver_machine.specs.World.{UnitView, Held, transfer_of}
 use Rattle.driver_machine.specs.Due.{steps_of}
 use Rattle.driver_machine.specs.Sound.{IsBegun}
-use Rattle.driver_machine.specs.DueFacts.{IsAtCommand}
 use Rattle.driver_laws.specs.shown.Stages.{step_seen, steps_seen, segment_seen, progress_with}
 use Rattle.driver_laws.proofs.shown.Core.{Core, IsHead}
 use Rattle.driver_laws.proofs.shown.Places.{segment_start, segment_length}
+use Rattle.driver_machine.proofs.Dues.{IsAtCommand}
 
 -- A COMMAND that is due comes where the drive may be given it.
 pub record MayBeGiven (d : DriveState) (command : moment.Deed) : Type 0 where

@@ -11,10 +11,10 @@ use Rattle.driver_machine.specs.Acts.{after_all}
 use Rattle.driver_machine.specs.Lines.{lines_of_all}
 use Rattle.driver_machine.specs.Guards.{IsSetUp}
 use Rattle.driver_machine.specs.Sound.{Sound}
-use Rattle.driver_laws.specs.shown.Shows.{Shows}
 use Rattle.driver_laws.specs.answers.Packs.{packs_after_all}
 use Rattle.driver_laws.specs.shown.Within.{IsEvent}
 use Rattle.driver_laws.specs.shown.Calls.{Ends}
+use Rattle.driver_laws.proofs.shown.Showing.{Shows}
 
 -- THE LINES of one event, each after those before it
 abbrev pub told_within : Replay → (unit : ℕ) → Deed → Replay

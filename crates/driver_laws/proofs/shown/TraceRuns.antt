@@ -12,7 +12,7 @@ use Rattle.trace_replay.specs.Script.{Input}
 use Rattle.trace_replay.specs.Replay.{Replay, Submission, Refused, Joined, all_units, new_replay, InputMay, Follows, after_moment, after_moments, replay_played, submitted, submission, Legal}
 use Rattle.driver_laws.proofs.rules.Conserved.{is_conserved}
 use Rattle.driver_machine.specs.World.{World, UnitView, unit_at}
-use Rattle.driver_machine.specs.Acts.{Act, Submit, Change, Nothing, after, after_all}
+use Rattle.driver_machine.specs.Acts.{Act, Change, Nothing, after, after_all}
 use Rattle.driver_machine.specs.Lines.{lines_of_all}
 use Rattle.driver_machine.specs.Events.{next_event}
 use Rattle.driver_machine.specs.Guards.{Allowed}

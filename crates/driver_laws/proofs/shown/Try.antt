@@ -2,7 +2,6 @@
 use Rattle.std.proofs.Common.{◌≡◌, ◌<◌, ℕ, [], ◌∷◌, ◌+◌, Option, Some, None, false, refl, sym, ap, arith, ◌∙◌, rules}
 use Rattle.pack_geometry.specs.Geometry.{place_at}
 use Rattle.hardware_table.specs.declared.Moved.{Moved}
-use Rattle.hardware_table.specs.declared.Moved.TheVariants as verdict
 use Rattle.hardware_table.specs.Adapter.{AdapterState}
 use Rattle.trace_replay.specs.declared.retry_offsets.Step.{Step}
 use Rattle.trace_replay.specs.declared.retry_offsets.Step.TheVariants as retry
@@ -23,17 +22,16 @@ use Rattle.driver_machine.specs.Due.{steps_of, steps_for, task_for, try_of}
 use Rattle.driver_machine.specs.Acts.{with_transfer, transfer_tried}
 use Rattle.driver_machine.specs.Acts as deed
 use Rattle.driver_machine.specs.Sound.{Sound, IsBegun, IsTask}
-use Rattle.driver_machine.specs.DueFacts.{IsJudged, IsFailure}
 use Rattle.driver_laws.specs.shown.Stages.{stage_by, IsProgress, segment_seen, progress_judged, front_of, progress_with}
-use Rattle.driver_laws.specs.shown.Shows.{Shows}
 use Rattle.driver_laws.proofs.shown.Told.{seen_told}
-use Rattle.driver_laws.specs.shown.Laws.{IsSaid}
 use Rattle.driver_laws.proofs.shown.Core.{Core, IsHead}
 use Rattle.driver_laws.proofs.shown.Facts.{At}
 use Rattle.driver_laws.proofs.shown.Plain.{plain_says, ready_plain}
 use Rattle.driver_laws.proofs.shown.DeedFacts.{judged_progress, judged_start, no, said_by}
 use Rattle.driver_laws.proofs.shown.Silent.{plus_none}
 use Rattle.driver_laws.proofs.invariant.Try.{failed_less}
+use Rattle.driver_laws.proofs.shown.Showing.{Shows, IsSaid}
+use Rattle.driver_machine.proofs.Dues.{IsFailure, IsJudged}
 
 -- A FAILURE counts, and leaves this progress.
 abbrev pub progress_failed : ℕ → TransferState → Held → told.Progress

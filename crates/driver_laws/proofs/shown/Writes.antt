@@ -1,10 +1,8 @@
 -- What a write gives a sector: the block of its buffer.
 use Rattle.std.proofs.Common.{◌≡◌, ℕ, zero, suc, ◌+◌, ◌*◌, ◌<◌, Bool, true, List, [], ◌∷◌, ◌++◌, take, drop, length, Option, Some, None, refl, sym, ap, subst, arith, ◌∙◌, rules}
 use Rattle.std.proofs.lemmas.List.{drop-drop}
-use Rattle.std.specs.Prelude.{is_some, slice_index_or, replicate}
+use Rattle.std.specs.Prelude.{is_some, slice_index_or, replicate, IsTrue}
 use Rattle.hardware_table.specs.declared.Moved.{Moved}
-use Rattle.hardware_table.specs.declared.Moved.TheVariants as verdict
-use Rattle.hardware_table.specs.declared.Work.TheVariants as work
 use Rattle.hardware_table.specs.Drive.{DriveState, is_writing}
 use Rattle.hardware_table.specs.Moves.{was_written}
 use Rattle.hardware_table.specs.Adapter.{AdapterState, next_window}
@@ -12,11 +10,16 @@ use Rattle.main_memory.specs.Blocks.{size_at}
 use Rattle.trace_replay.specs.requests.Requests.{Request}
 use Rattle.trace_replay.specs.Packs.{size_of_block, sector_of_block}
 use Rattle.trace_replay.specs.Conversation as told
-use Rattle.driver_machine.specs.World.{UnitView, Held, adapter_of, unit_at, adapter_at, held_in, slot_in_hand, transfer_of, block_in, pieces}
+use Rattle.driver_machine.specs.World.{UnitView, Held, adapter_of, unit_at, adapter_at, held_in, slot_in_hand, transfer_of, block_in, pieces, World}
 use Rattle.driver_laws.specs.shown.Stages.{progress_with}
-use Rattle.driver_laws.specs.shown.Acts.{WritesShow}
 use Rattle.driver_laws.proofs.shown.Sector.{sector_progress, IsSector, sector_facts}
 use Rattle.driver_laws.proofs.shown.Facts.{At, at_facts}
+use Rattle.trace_replay.specs.Service.{in_hand}
+use Rattle.trace_replay.specs.Replay.{Replay}
+use Rattle.driver_machine.specs.Acts.{Of, Sector, Tried}
+use Rattle.driver_machine.specs.Guards.{Allowed}
+use Rattle.driver_machine.specs.Sound.{Sound}
+use Rattle.driver_laws.proofs.shown.Showing.{Shows}
 
 cut_same : (size n : ℕ) (xs : List ℕ) → length (take n xs) ≡ size → take size xs ≡ take n xs
 cut_same size zero [] is = rw (sym is) refl
@@ -47,7 +50,10 @@ sector_same r bytes k size block written same is counted =
     let cut : take size (drop (512 * k) bytes) ≡ block = cut_same size 512 (drop (512 * k) bytes) (ap length (sym is) ∙ counted) ∙ sym is in
     rw (written, same, cut) refl
 
-pub writes_show : WritesShow
+-- THE PACKS. What a write gives a sector in the replay is the block of its buffer, with zeros behind it.
+pub writes_show : (u id block line : ℕ) (t : Tried) (w : World) (s : Replay) → Sound w → Shows u w s → Allowed w (Of line u id (Sector block t))
+    → IsTrue (was_written (unit_at w u).drive t.verdict)
+    → sector_of_block (in_hand (s.units u).service) (s.units u).progress.done ≡ take 512 (t.bytes ++ replicate 512 0)
 writes_show u id block line t w s sound shows allowed written =
     let h : Held = held_in w (slot_in_hand (unit_at w u)) in
     let v : UnitView = unit_at w u in

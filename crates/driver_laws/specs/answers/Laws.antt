@@ -1,15 +1,13 @@
 -- The counts rise by what a script brings, what is set up stays, and what the counts say of slots.
-use Rattle.std.specs.Prelude.{◌≡◌, ℕ, ◌+◌, ◌<◌, ◌≤◌, false, List, [], length, slice_index_or, Option, None, Some, IsSome}
+use Rattle.std.specs.Prelude.{◌≡◌, ℕ, ◌+◌, ◌≤◌, List}
 use Rattle.trace_replay.specs.requests.Requests.{Request}
 use Rattle.trace_replay.specs.Script.{Input}
-use Rattle.driver_machine.specs.World.{World, Held, Setup, new_world, unit_at, slot_at}
+use Rattle.driver_machine.specs.World.{World, Held, Setup, new_world, unit_at}
 use Rattle.driver_machine.specs.Acts.{Act, Taken, Tried, after, after_all}
 use Rattle.driver_machine.specs.Events.{submit_acts, event_acts}
 use Rattle.driver_machine.specs.Guards.{Allowed}
-use Rattle.driver_machine.specs.Sound.{Sound}
 use Rattle.driver_machine.specs.Runs.{Run}
-use Rattle.request_slots.specs.Requests.{frames_lent}
-use Rattle.driver_laws.specs.answers.Counts.{IsWithin, IsSetAs, in_use, noises_of, faults_of, brings_request, brings_noise, brings_faults, bring_requests, bring_noises, bring_faults}
+use Rattle.driver_laws.specs.answers.Counts.{IsWithin, IsSetAs, noises_of, faults_of, brings_request, brings_noise, brings_faults, bring_requests, bring_noises, bring_faults}
 
 -- At the start there are none, whatever is set up,
 abbrev pub StartsWithNone : Type 0
@@ -56,20 +54,3 @@ CapacityStays = (w : World) (acts : List Act) → (after_all w acts).book.capaci
 -- and so does what is set up of each unit.
 abbrev pub SetupsStay : Type 0
 SetupsStay = (w : World) (acts : List Act) (u : ℕ) → IsSetAs (unit_at w u) (unit_at (after_all w acts) u)
-
--- A SLOT IS FREE where fewer have a request than there are,
-abbrev pub FreeWhereRoom : Type 0
-FreeWhereRoom = (slots : List (Option Held)) → in_use slots < length slots
-    → (p : ℕ) × (p < length slots) × (slice_index_or slots p None ≡ None)
-
--- and where each one has a request, just so many have one.
-abbrev pub FullWhereTaken : Type 0
-FullWhereTaken = (slots : List (Option Held)) → ((p : ℕ) → p < length slots → IsSome (slice_index_or slots p None)) → in_use slots ≡ length slots
-
--- WHERE NO ANSWER WAITS in a sound world no request in a slot has ended,
-abbrev pub NoneEnded : Type 0
-NoneEnded = (w : World) → Sound w → w.answers ≡ [] → (p : ℕ) (h : Held) → slot_at w p ≡ Some h → h.ended ≡ false
-
--- and so the frames that outstanding requests need are all that are lent.
-abbrev pub AllLentAreNeeded : Type 0
-AllLentAreNeeded = (w : World) → Sound w → w.answers ≡ [] → w.frames ≡ frames_lent w.slots

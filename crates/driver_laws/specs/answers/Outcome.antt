@@ -1,5 +1,5 @@
 -- What a call of the driver comes to: all its acts, or only the first ones, up to a failure of the trace or of the packs.
-use Rattle.std.specs.Prelude.{◌≡◌, ◌⊎◌, ℕ, Bool, false, true, IsTrue, List, [], ◌++◌, Result, Ok, Err, Option, None, Some}
+use Rattle.std.specs.Prelude.{◌≡◌, ◌⊎◌, ℕ, Bool, false, true, IsTrue, List, ◌++◌, Result, Ok, Err, Option, None, Some}
 use Rattle.main_memory.specs.Bytes.{filled}
 use Rattle.pack_geometry.specs.Pack.{Pack, is_marked, with_written}
 use Rattle.hardware_table.specs.Drive.{is_writing}
@@ -93,15 +93,3 @@ abbrev pub Outcome : Told → List Act → Site → Site → Option Stop → Typ
 Outcome told acts old new None = Does told acts old new
 Outcome told acts old new (Some Sink) = StopsAtTrace told acts old new
 Outcome told acts old new (Some Store) = StopsAtPacks told old new
-
--- COMPOSITION. What is done, and then a call's outcome; and a call that stopped, of which more was to follow.
-abbrev pub OneThenOther : Type 0
-OneThenOther = (told : Told) (first next : List Act) (old mid new : Site) (stop : Option Stop)
-    → Does told first old mid → Outcome told next mid new stop → Outcome told (first ++ next) old new stop
-
-abbrev pub StoppedBefore : Type 0
-StoppedBefore = (told : Told) (first next : List Act) (old new : Site) (stop : Stop)
-    → Outcome told first old new (Some stop) → Outcome told (first ++ next) old new (Some stop)
-
-abbrev pub NothingDone : Type 0
-NothingDone = (told : Told) (s : Site) → Does told [] s s

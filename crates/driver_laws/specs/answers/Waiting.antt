@@ -6,11 +6,10 @@ use Rattle.trace_replay.specs.Moments.{Answered, answers_in}
 use Rattle.driver_machine.specs.declared.Made.{Made}
 use Rattle.driver_machine.specs.World.{World, Held, held_in}
 use Rattle.driver_machine.specs.Acts.{Act, Taken, Tried, after, after_all}
-use Rattle.driver_machine.specs.Lines.{answer_told, lines_of, lines_of_all}
+use Rattle.driver_machine.specs.Lines.{answer_told, lines_of_all}
 use Rattle.driver_machine.specs.Events.{submit_acts, event_acts}
-use Rattle.driver_machine.specs.Guards.{Allowed}
 use Rattle.driver_machine.specs.Sound.{Sound, AtWork}
-use Rattle.driver_machine.specs.Runs.{Run, MaySubmit, MayCome}
+use Rattle.driver_machine.specs.Runs.{MaySubmit, MayCome}
 
 -- the blocks of the request in a slot; a request that was refused has none
 abbrev pub blocks_for : World → Option ℕ → List (List ℕ)
@@ -36,20 +35,6 @@ is_taking act = false
 abbrev pub AreNoTakings : List Act → Type 0
 AreNoTakings [] = Unit {0}
 AreNoTakings (act ∷ acts) = (is_taking act ≡ false) × AreNoTakings acts
-
--- AN ACT that takes none adds the answers of its lines behind those that wait, and so does a run of such acts.
-abbrev pub ActsAnswer : Type 0
-ActsAnswer = (w : World) (act : Act) → Sound w → Allowed w act → is_taking act ≡ false
-    → waiting (after w act) ≡ waiting w ++ answers_in (lines_of w act)
-
-abbrev pub RunsAnswer : Type 0
-RunsAnswer = (w : World) (acts : List Act) → Sound w → Run w acts → AreNoTakings acts
-    → waiting (after_all w acts) ≡ waiting w ++ answers_in (lines_of_all w acts)
-
--- Where none waited, just those of the lines wait behind the run.
-abbrev pub RunsAlone : Type 0
-RunsAlone = (w : World) (acts : List Act) → Sound w → Run w acts → AreNoTakings acts → w.answers ≡ []
-    → waiting (after_all w acts) ≡ answers_in (lines_of_all w acts)
 
 -- THE TAKING takes the first one, and the others wait as they did.
 abbrev pub TakingDrops : Type 0

@@ -1,20 +1,17 @@
 -- THE PARTS AGREE. The stage of each unit, what its drive does, the unit for which its adapter is busy and the units that are ready
 -- at the adapter tell one state in four ways, and each moment that may come keeps them in agreement.
-use Rattle.std.specs.Prelude.{◌≡◌, ◌⊎◌, ℕ, ◌<◌, ◌==◌, ◌&&◌, ◌||◌, Bool, true, false, not, List, [], ◌∷◌, is_some, Option, ◌*◌}
+use Rattle.std.specs.Prelude.{◌≡◌, ◌⊎◌, ℕ, ◌<◌, ◌==◌, ◌&&◌, ◌||◌, Bool, true, false, not, List, [], ◌∷◌, is_some, ◌*◌}
 use Rattle.std.specs.Int.{bit_at}
 use Rattle.std.specs.List.{list_any}
-use Rattle.pack_geometry.specs.declared.DriveKind.{DriveKind}
-use Rattle.pack_geometry.specs.TableSpelling.{Table}
 use Rattle.hardware_table.specs.Drive.{is_positioning, is_transferring, has_error, on}
 use Rattle.hardware_table.specs.Adapter.{AdapterState}
 use Rattle.trace_replay.specs.Script.{AreApart}
-use Rattle.trace_replay.specs.Moments.{Deed, Clear, Centre, Try, Moment}
+use Rattle.trace_replay.specs.Moments.{Deed, Clear, Centre, Try}
 use Rattle.trace_replay.specs.Adapters.{AdapterSeen, adapter_of, drive_of, is_busy_for, can_move}
-use Rattle.trace_replay.specs.Packs.{Surface}
 use Rattle.trace_replay.specs.Service.{head_of}
 use Rattle.trace_replay.specs.Conversation.{Stage, Steps, AtOnce, Moving, Saying, Ending, is_waiting, waits, goes_on, is_under_way, is_clean, left_of}
 use Rattle.trace_replay.specs.Events.{Act, Arriving, Trying, Serving}
-use Rattle.trace_replay.specs.Replay.{Replay, UnitSeen, at_unit, WorkMay, new_replay, after_moments, after_moment, MayCome, Follows}
+use Rattle.trace_replay.specs.Replay.{Replay, UnitSeen, at_unit, WorkMay}
 
 -- sectors move, or have moved and the interrupt is still to come
 abbrev pub is_moving : Stage → Bool
@@ -148,16 +145,3 @@ pub record IsConsistent (s : Replay) : Type 0 where
   pub units : (unit : ℕ) → Agrees (s.units unit) (at_unit s unit) unit
   pub adapters : (adapter : ℕ) → IsInOrder (s.adapters adapter) adapter
   pub event : IsUnderControl s
-
--- It is so at the start,
-abbrev pub StartsConsistent : Type 0
-StartsConsistent = (drives : ℕ → Option DriveKind) (tables : ℕ → Option Table) (surface : Surface) → IsConsistent (new_replay drives tables surface)
-
--- and each moment that may come keeps it.
-abbrev pub StaysConsistent : Type 0
-StaysConsistent = (s : Replay) (m : Moment) → MayCome s m → IsConsistent s → IsConsistent (after_moment s m)
-
--- So every state is consistent that a legal beginning reaches.
-abbrev pub IsAlwaysConsistent : Type 0
-IsAlwaysConsistent = (drives : ℕ → Option DriveKind) (tables : ℕ → Option Table) (surface : Surface) (ms : List Moment)
-    → Follows (new_replay drives tables surface) ms → IsConsistent (after_moments (new_replay drives tables surface) ms)

@@ -7,7 +7,7 @@ use Rattle.pack_geometry.specs.Homes.{home_of}
 use Rattle.fire_code.specs.Noise.{IsAlias}
 use Rattle.hardware_table.specs.Noise.{LiveNoise}
 use Rattle.trace_replay.specs.requests.Requests.{Request, first_block}
-use Rattle.trace_replay.specs.Script.{Input, Submit, Noise, Numbered}
+use Rattle.trace_replay.specs.Script.{Input, Noise, Numbered}
 use Rattle.trace_replay.specs.Moments.{Answered}
 use Rattle.driver_laws.specs.rules.Machine.{Blocks, Machine, idle, after_input, answers_of_input, kind_of, Steps}
 
@@ -61,20 +61,6 @@ AreNoAliases (n ∷ inputs) = IsNoAlias n.input × AreNoAliases inputs
 -- and then those of all reads are
 abbrev pub all_claimed : (line : ℕ) → Request → Type 0
 all_claimed line r = Unit {0}
-
--- the bytes of no read are
-abbrev pub none_claimed : (line : ℕ) → Request → Type 0
-none_claimed line r = ⊥
-
--- the ids that are asked for, in order: with that of an input
-abbrev pub with_asked : Input → List ℕ → List ℕ
-with_asked (Submit r) ids = r.id ∷ ids
-with_asked input ids = ids
-
--- of all inputs
-abbrev pub ids_asked : List Numbered → List ℕ
-ids_asked [] = []
-ids_asked (n ∷ inputs) = with_asked n.input (ids_asked inputs)
 
 -- how often an id is answered
 abbrev pub times_answered : ℕ → List Answered → ℕ

@@ -1,14 +1,10 @@
 -- WHEN A REQUEST IS REFUSED: directly after its own line of the script, before anything else happens, by what the request meets
 -- there.
-use Rattle.std.specs.Prelude.{◌≡◌, ℕ, true, List, [], ◌∷◌, ◌++◌, Option}
-use Rattle.pack_geometry.specs.Pack as model
-use Rattle.pack_geometry.specs.TableSpelling.{Table}
+use Rattle.std.specs.Prelude.{◌≡◌, ℕ, List, [], ◌∷◌, ◌++◌}
 use Rattle.trace_replay.specs.requests.Requests.{Request, Answer, Rejection, rejection_answer}
-use Rattle.trace_replay.specs.Script.{Script, Submit}
-use Rattle.trace_replay.specs.Moments.{Moment, Played, Told, End}
-use Rattle.trace_replay.specs.History.{is_refusal}
+use Rattle.trace_replay.specs.Script.{Submit}
+use Rattle.trace_replay.specs.Moments.{Moment, Played}
 use Rattle.trace_replay.specs.Replay.{Replay, Refused, submission, after_moments}
-use Rattle.trace_replay.specs.Runs.{IsLegalRun, start_of}
 
 -- The last moment is the line that submits the request, and the request meets a refusal there: its partition ends before it, or its
 -- frames are not there.
@@ -22,9 +18,3 @@ pub record IsRefusedBehind (start : Replay) (unit id : ℕ) (answer : Answer) (b
   pub last : before ≡ ahead ++ Played line (Submit request) ∷ []
   pub met : submission (after_moments start ahead) request ≡ Refused why
   pub answer_is : answer ≡ rejection_answer why
-
--- each answer of a legal run that is a refusal
-abbrev pub RefusalsAreMet : Type 0
-RefusalsAreMet = (script : Script) (tables : ℕ → Option Table) (old new : ℕ → model.Pack) (ms ns : List Moment) (line unit id : ℕ) (answer : Answer)
-    → IsLegalRun script tables old new (ms ++ Told line unit id (End answer) ∷ ns) → is_refusal answer ≡ true
-    → IsRefusedBehind (start_of script tables old) unit id answer ms

@@ -1,17 +1,15 @@
 -- The bounds of a run: a script that is played over packs.
-use Rattle.std.specs.Prelude.{◌≡◌, ℕ, ◌*◌, ◌≤◌, false, List, [], ◌∷◌, ◌++◌, Option}
+use Rattle.std.specs.Prelude.{◌≡◌, ℕ, ◌*◌, ◌≤◌, false, List, ◌∷◌, ◌++◌, Option}
 use Rattle.pack_geometry.specs.Pack as model
 use Rattle.pack_geometry.specs.TableSpelling.{Table}
 use Rattle.trace_replay.specs.Script.{Script}
 use Rattle.trace_replay.specs.requests.Requests.{Answer}
-use Rattle.trace_replay.specs.Moments.{End, Moment, Told, played}
+use Rattle.trace_replay.specs.Moments.{End, Moment, Told}
 use Rattle.trace_replay.specs.Service.{in_hand}
 use Rattle.trace_replay.specs.Replay.{after_moments}
 use Rattle.trace_replay.specs.History.{is_refusal, lines_of}
 use Rattle.trace_replay.specs.Runs.{start_of, IsLegalRun}
 use Rattle.driver_laws.specs.rules.Commands.{commands_in}
-use Rattle.driver_laws.specs.rules.Measure.{blocks_outstanding}
-use Rattle.driver_laws.specs.rules.Drains.{events_in}
 
 -- EACH REQUEST of a legal run that is not refused as it is submitted ends behind at most 300 commands for each of its blocks.
 abbrev pub RunCommandsAreBounded : Type 0
@@ -19,9 +17,3 @@ RunCommandsAreBounded = (script : Script) (tables : ℕ → Option Table) (old n
     → IsLegalRun script tables old new (ms ++ Told line unit id (End answer) ∷ ns) → is_refusal answer ≡ false
     → (commands_in (lines_of unit ms) ≤ 300 * (in_hand ((after_moments (start_of script tables old) ms).units unit).service).count)
     × ((in_hand ((after_moments (start_of script tables old) ms).units unit).service).id ≡ id)
-
--- EACH DRAIN of a legal run, and each part of one, has at most 200 event lines for each block that is outstanding before it.
-abbrev pub RunDrainsAreBounded : Type 0
-RunDrainsAreBounded = (script : Script) (tables : ℕ → Option Table) (old new : ℕ → model.Pack) (ms ts ns : List Moment)
-    → IsLegalRun script tables old new (ms ++ (ts ++ ns)) → played ts ≡ []
-    → events_in ts ≤ 200 * blocks_outstanding (after_moments (start_of script tables old) ms)

@@ -1,12 +1,11 @@
 -- WHICH MACHINE OF BLOCKS the state of a replay stands for.
-use Rattle.std.specs.Prelude.{◌≡◌, ◌≢◌, ℕ, ◌<◌, ◌≤◌, ◌+◌, true, zero, suc, List, [], ◌∷◌, ◌++◌, length, take, All, Option, None, Some, is_some, IsSome}
+use Rattle.std.specs.Prelude.{◌≡◌, ◌≢◌, ℕ, ◌<◌, ◌≤◌, ◌+◌, true, zero, suc, List, [], ◌∷◌, length, take, All, Option, None, Some, is_some, IsSome}
 use Rattle.std.specs.List.{AllByRecursion}
 use Rattle.pack_geometry.specs.declared.DriveKind.{DriveKind}
 use Rattle.pack_geometry.specs.Geometry.{limit_of}
 use Rattle.pack_geometry.specs.Pack as model
 use Rattle.pack_geometry.specs.TableSpelling.{Table}
 use Rattle.pack_geometry.specs.Homes.{home_of}
-use Rattle.pack_geometry.specs.PackTable.{AreTablesOf}
 use Rattle.fire_code.specs.Noise.{IsNoise, IsAlias}
 use Rattle.hardware_table.specs.declared.Moved.{Moved}
 use Rattle.hardware_table.specs.declared.Moved.TheVariants as verdict
@@ -15,14 +14,14 @@ use Rattle.hardware_table.specs.Drive.{is_transferring, is_writing}
 use Rattle.hardware_table.specs.Noise.{LiveNoise}
 use Rattle.trace_replay.specs.requests.ServiceOrder.{Waiting as Waiter}
 use Rattle.trace_replay.specs.requests.Requests.{Request, IsRequest, first_block, Answer, ReadOk, WriteOk, rejection_answer}
-use Rattle.trace_replay.specs.Script.{Input, Submit, Noise, Numbered, IsThere, IsInput}
-use Rattle.trace_replay.specs.Moments.{Moment, Played, Told, End, Answered}
+use Rattle.trace_replay.specs.Script.{Input, Noise, Numbered, IsThere}
+use Rattle.trace_replay.specs.Moments.{Answered}
 use Rattle.trace_replay.specs.Packs.{size_of_block, repaired_from, surface_of}
 use Rattle.trace_replay.specs.Service.{in_hand}
 use Rattle.trace_replay.specs.Conversation.{Stage, Moving, Saying, Ending, Progress}
 use Rattle.trace_replay.specs.Events.{Wish, Refusal}
-use Rattle.trace_replay.specs.Replay.{UnitSeen, Replay, new_replay, next_wish, Follows, after_moment, after_moments}
-use Rattle.driver_laws.specs.rules.Machine.{Blocks, Machine, request_of, frames_of, kind_of, bytes_or_none, bytes_of_first, blocks_done, after_input, answers_of_input, Steps}
+use Rattle.trace_replay.specs.Replay.{UnitSeen, Replay, new_replay, next_wish}
+use Rattle.driver_laws.specs.rules.Machine.{Blocks, Machine, request_of, frames_of, bytes_or_none, bytes_of_first, blocks_done}
 
 -- What stays through a run: the drives that are declared, the tables of their packs, and the packs as they were first.
 pub record Setup : Type 0 where
@@ -140,32 +139,9 @@ pub record StandsFor (setup : Setup) (armed : List LiveNoise) (s : Replay) (m : 
   pub others : (unit sector : ℕ) → ((block : ℕ) → home_in setup unit block ≢ Some sector)
       → s.surface.sector unit sector ≡ model.block_at (setup.packs unit).image sector
 
--- MOMENTS. What a line of the script speaks of is there.
-abbrev pub IsGiven : (ℕ → Option DriveKind) → Moment → Type 0
-IsGiven drives (Played line input) = IsInput drives input
-IsGiven drives moment = Unit {0}
-
--- the same of moments
-abbrev pub AreGiven : (ℕ → Option DriveKind) → List Moment → Type 0
-AreGiven drives [] = Unit {0}
-AreGiven drives (m ∷ ms) = IsGiven drives m × AreGiven drives ms
-
--- no id is asked for that is outstanding
-abbrev pub IsNew : Machine → Moment → Type 0
-IsNew m (Played line (Submit r)) = request_of r.id m.outstanding ≡ None
-IsNew m moment = Unit {0}
-
 -- the start over the packs as they were first
 abbrev pub start_over : Setup → Replay
 start_over setup = new_replay setup.drives setup.tables (surface_of setup.packs)
-
--- a state that a legal beginning reaches, where the tables are those of the packs
-pub record IsReached (setup : Setup) (s : Replay) : Type 0 where
-  pub moments : List Moment
-  pub tables_read : AreTablesOf setup.drives setup.packs setup.tables
-  pub given : AreGiven setup.drives moments
-  pub follows : Follows (start_over setup) moments
-  pub is : s ≡ after_moments (start_over setup) moments
 
 -- the answer of a refused request whose end line is still to come
 abbrev pub owed_by : Wish → ℕ → List Answered
@@ -176,45 +152,12 @@ owed_by wish line = []
 abbrev pub owed : Replay → List Answered
 owed s = owed_by (next_wish s) s.event.line
 
--- the answer that a moment tells
-abbrev pub told_by : Moment → List Answered
-told_by (Told line unit id (End answer)) = record { line = line; id = id; answer = answer } ∷ []
-told_by moment = []
-
--- the machine after what a moment submits
-abbrev pub machine_at : (ℕ → Option DriveKind) → Machine → Moment → Machine
-machine_at drives m (Played line input) = after_input drives m input
-machine_at drives m moment = m
-
--- and what is answered at once
-abbrev pub answers_of_moment : (ℕ → Option DriveKind) → Machine → Moment → List Answered
-answers_of_moment drives m (Played line input) = answers_of_input drives m line input
-answers_of_moment drives m moment = []
-
 -- the noise that was armed, the last first: after an input
 abbrev pub armed_by : List LiveNoise → Input → List LiveNoise
 armed_by armed (Noise noise) = noise ∷ armed
 armed_by armed input = armed
 
--- after a moment
-abbrev pub armed_after : List LiveNoise → Moment → List LiveNoise
-armed_after armed (Played line input) = armed_by armed input
-armed_after armed moment = armed
-
 -- and after inputs
 abbrev pub armed_behind : List LiveNoise → List Numbered → List LiveNoise
 armed_behind armed [] = armed
 armed_behind armed (n ∷ inputs) = armed_behind (armed_by armed n.input) inputs
-
--- the bytes of a sure read are claimed
-abbrev pub sure_claims : Setup → List LiveNoise → (line : ℕ) → Request → Type 0
-sure_claims setup armed line r = IsSure (is_sure_among armed r.unit) (home_in setup r.unit) (first_block (kind_of setup.drives r.unit) r) r
-
--- ONE MOMENT. What it tells, with what is then owed, is what was owed, what its submission is answered at once, and then a step of
--- an outstanding request, or none.
-pub record MomentStep (setup : Setup) (armed : List LiveNoise) (s : Replay) (m : Machine) (moment : Moment) : Type 0 where
-  pub later : List Answered
-  pub new : Machine
-  pub order : told_by moment ++ owed (after_moment s moment) ≡ owed s ++ (answers_of_moment setup.drives m moment ++ later)
-  pub steps : Steps setup.drives (sure_claims setup armed) (after_moment s moment).event.line (machine_at setup.drives m moment) later new
-  pub stands : StandsFor setup (armed_after armed moment) (after_moment s moment) new

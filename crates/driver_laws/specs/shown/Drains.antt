@@ -4,16 +4,16 @@ use Rattle.pack_geometry.specs.declared.DriveKind.{DriveKind}
 use Rattle.pack_geometry.specs.Pack.{Pack}
 use Rattle.pack_geometry.specs.TableSpelling.{Table}
 use Rattle.trace_replay.specs.Moments.{Moment, Played}
-use Rattle.trace_replay.specs.Causes.{AsksSome, AskSome}
+use Rattle.trace_replay.specs.Causes.{AskSome}
 use Rattle.trace_replay.specs.Script as script
 use Rattle.trace_replay.specs.Script.{Input}
 use Rattle.trace_replay.specs.Packs.{Surface}
 use Rattle.trace_replay.specs.Replay.{Replay, new_replay, after_moments}
 use Rattle.driver_laws.specs.rules.Measure.{events_left, blocks_outstanding}
-use Rattle.driver_laws.specs.rules.Drains.{IsIdle, IsOf, AreOf}
+use Rattle.driver_laws.specs.rules.Drains.{IsIdle, AreOf}
 use Rattle.driver_laws.specs.rules.Consistent.{IsConsistent}
 use Rattle.driver_machine.specs.World.{World}
-use Rattle.driver_machine.specs.Acts.{Act, Tried}
+use Rattle.driver_machine.specs.Acts.{Tried}
 use Rattle.driver_machine.specs.Lines.{lines_of_all}
 use Rattle.driver_machine.specs.Events.{event_acts, next_event}
 use Rattle.driver_machine.specs.Runs.{MayCome}
@@ -68,12 +68,3 @@ abbrev pub DrainsKeep : Type 0
 DrainsKeep = (start : Replay) (moments : List Moment) (next : ℕ)
     → (events_left (after_moments start (moments ++ Played next script.Drain ∷ [])) ≡ events_left (after_moments start moments))
     × (blocks_outstanding (after_moments start (moments ++ Played next script.Drain ∷ [])) ≡ blocks_outstanding (after_moments start moments))
-
--- THE LINES that acts tell ask for nothing, and a call for what its input asks.
-abbrev pub LinesAskNothing : Type 0
-LinesAskNothing = (there : List ℕ) (moments : List Moment) (w : World) (acts : List Act)
-    → AreAsked there moments → AreAsked there (moments ++ lines_of_all w acts)
-
-abbrev pub CallsAsk : Type 0
-CallsAsk = (there : List ℕ) (moments : List Moment) (line : ℕ) (input : Input) (w : World) (acts : List Act)
-    → AreAsked there moments → AsksSome input → IsOf there input → AreAsked there (with_call moments line input w acts)

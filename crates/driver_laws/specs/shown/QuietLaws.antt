@@ -15,7 +15,7 @@ use Rattle.driver_machine.specs.Acts.{Act, Change, Taken, Tried, after, after_al
 use Rattle.driver_machine.specs.Events.{submit_acts, event_acts}
 use Rattle.driver_machine.specs.Guards.{IsSetUp, Allowed}
 use Rattle.driver_machine.specs.Sound.{Sound, AtWork}
-use Rattle.driver_laws.specs.invariant.Parts.{AreSetups}
+use Rattle.driver_laws.specs.invariant.Setups.{AreSetups}
 use Rattle.driver_machine.specs.Runs.{Run, NoneOutstanding}
 use Rattle.driver_laws.specs.answers.Packs.{Reads, ReadAll, packs_after, packs_after_all}
 use Rattle.driver_laws.specs.shown.Bytes.{Bears, maps_behind}

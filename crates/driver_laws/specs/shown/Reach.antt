@@ -12,7 +12,7 @@ use Rattle.driver_machine.specs.Acts.{Act, Submit, Taken, Tried, after, after_al
 use Rattle.driver_machine.specs.Events.{submit_acts, event_acts, refusal_of}
 use Rattle.driver_machine.specs.Guards.{Allowed, IsHeldFor}
 use Rattle.driver_machine.specs.Sound.{Sound, AtWork}
-use Rattle.driver_laws.specs.invariant.Parts.{AreSetups}
+use Rattle.driver_laws.specs.invariant.Setups.{AreSetups}
 use Rattle.driver_machine.specs.Runs.{MaySubmit, MayCome}
 use Rattle.driver_laws.specs.answers.Outcome.{IsNextBlock}
 use Rattle.driver_laws.specs.answers.Packs.{packs_after, packs_after_all}

@@ -4,7 +4,7 @@ use Rattle.pack_geometry.specs.declared.DriveKind.{DriveKind}
 use Rattle.pack_geometry.specs.Pack.{Pack}
 use Rattle.pack_geometry.specs.TableSpelling.{Table}
 use Rattle.trace_replay.specs.requests.Requests.{Request}
-use Rattle.trace_replay.specs.Moments.{Moment, Played, played, answers_in}
+use Rattle.trace_replay.specs.Moments.{Moment, Played}
 use Rattle.trace_replay.specs.Causes.{AskSome}
 use Rattle.trace_replay.specs.Script as script
 use Rattle.trace_replay.specs.Script.{Input}
@@ -16,7 +16,7 @@ use Rattle.driver_machine.specs.Lines.{lines_of_all}
 use Rattle.driver_machine.specs.Events.{refusal_of, submit_acts, event_acts, next_event}
 use Rattle.driver_machine.specs.Guards.{IsSetUp, IsHeldFor}
 use Rattle.driver_machine.specs.Sound.{AtWork}
-use Rattle.driver_laws.specs.invariant.Parts.{AreSetups}
+use Rattle.driver_laws.specs.invariant.Setups.{AreSetups}
 use Rattle.driver_machine.specs.Runs.{MaySubmit, MayCome}
 use Rattle.driver_laws.specs.answers.Packs.{packs_after_all}
 use Rattle.driver_laws.specs.shown.Acts.{AreSetUp}
@@ -110,16 +110,3 @@ abbrev pub RunsAreLegal : Type 0
 RunsAreLegal = (drives : ℕ → Option DriveKind) (tables : ℕ → Option Table) (surface : Surface) (line : ℕ) (moments : List Moment) (held : ℕ → Pack)
     (w : World) → IsSoFar (new_replay drives tables surface) line moments held w → next_event w ≡ None
     → Legal (new_replay drives tables surface) moments
-
--- THE INPUTS of a run are those of its calls, in their order; the lines that acts tell play none.
-abbrev pub CallsArePlayed : Type 0
-CallsArePlayed = (moments : List Moment) (line : ℕ) (input : Input) (w : World) (acts : List Act)
-    → played (with_call moments line input w acts) ≡ played moments ++ record { line = line; input = input } ∷ []
-
-abbrev pub LinesPlayNothing : Type 0
-LinesPlayNothing = (moments : List Moment) (w : World) (acts : List Act) → played (moments ++ lines_of_all w acts) ≡ played moments
-
--- THE ANSWERS of a run are those of its calls' lines.
-abbrev pub CallsAreAnswered : Type 0
-CallsAreAnswered = (moments : List Moment) (line : ℕ) (input : Input) (w : World) (acts : List Act)
-    → answers_in (with_call moments line input w acts) ≡ answers_in moments ++ answers_in (lines_of_all w acts)

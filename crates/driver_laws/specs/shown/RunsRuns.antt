@@ -14,7 +14,7 @@ use Rattle.driver_machine.specs.World.{World, Held, Setup, new_world, unit_at}
 use Rattle.driver_machine.specs.Acts.{Act, Taken, Tried, after, after_all}
 use Rattle.driver_machine.specs.Events.{submit_acts, event_acts, next_event}
 use Rattle.driver_machine.specs.Sound.{Sound, AtWork}
-use Rattle.driver_laws.specs.invariant.Parts.{AreSetups}
+use Rattle.driver_laws.specs.invariant.Setups.{AreSetups}
 use Rattle.driver_machine.specs.Runs.{Run, MaySubmit, MayCome}
 use Rattle.driver_laws.specs.answers.Packs.{packs_after_all}
 use Rattle.driver_laws.specs.shown.Acts.{AreSetUp}

@@ -3,22 +3,9 @@
 //!
 //! Defined in `specs/`: an answer that waits, as a trace tells it (`told_by`, `waiting`), and the ids of the requests in slots
 //! (`AreOf`).
-//!
-//! What is proved: `act_law`: an act that takes no answer leaves the answers that waited, and puts behind them exactly
-//! the answers of its lines, with their ids and the bytes of their blocks; a run of such acts does the same. `taken_law`:
-//! taking an answer takes the first one, and the others wait as before; if each is taken, none waits. `calls_law`: no
-//! event and no submission takes an answer; hence, after a submission, and after an event before which no answer waited,
-//! exactly the answers of its lines wait. `ids_law`: from the start on, each request in a slot has an id that was submitted.
 
 ghost use Rattle.driver_laws.specs.answers.Ids.{StartsOfNone, ActsAdd, RunsAdd, EventsAddNone, SubmissionsAdd, TakingAddsNone, NoOthers, OthersAreFresh};
-ghost use Rattle.driver_laws.specs.answers.Waiting.{ActsAnswer, RunsAnswer, RunsAlone, TakingDrops, TakingLeaves, NoneWaits, EventsTakeNone, SubmissionsTakeNone, EventsAnswer, EventsAlone, SubmissionsAlone};
-
-/// An act that takes no answer puts the answers of its lines behind those that wait, with their ids and blocks. A run of such acts does the same.
-pub fn act_law()
-    ensures act { ActsAnswer }
-    ensures acts { RunsAnswer }
-    ensures alone { RunsAlone }
-{}
+ghost use Rattle.driver_laws.specs.answers.Waiting.{TakingDrops, TakingLeaves, NoneWaits, EventsTakeNone, SubmissionsTakeNone, EventsAnswer, EventsAlone, SubmissionsAlone};
 
 /// Taking an answer takes the first one, and the others wait as before. If each answer is taken, none waits.
 pub fn taken_law()

@@ -1,13 +1,8 @@
-//! What a call of the driver comes to, whether it ends, or a call to the packs or to the trace fails in it. The functions
-//! here do nothing: each stands for a law.
+//! What a call of the driver comes to, whether it ends, or a call to the packs or to the trace fails in it.
 //!
 //! Defined in `specs/`: what a call comes to. A call that ends does all its acts and tells their whole text. If the trace
 //! fails, the call does the first of its acts and tells a front of their text. If the packs fail, it does some of its
 //! acts, and the next block of one write is old or new.
-//!
-//! What is proved: `outcome_law`: the outcomes of calls that come one after another join.
-
-ghost use Rattle.driver_laws.specs.answers.Outcome.{OneThenOther, StoppedBefore, NothingDone};
 
 use thiserror::Error;
 
@@ -21,11 +16,3 @@ pub enum Stop {
     #[error("the trace failed")]
     Sink,
 }
-
-/// Outcomes join: what was done first and what the rest then came to make what the whole call came to. If a part of a
-/// call stopped, the whole call stopped.
-pub fn outcome_law()
-    ensures nothing { NothingDone }
-    ensures then { OneThenOther }
-    ensures stopped { StoppedBefore }
-{}

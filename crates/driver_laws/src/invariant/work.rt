@@ -1,7 +1,4 @@
 //! Drains and parts of the driver's machine: what is left to do is done. The functions here do nothing: each stands for a law.
-//!
-//! What is proved: `drain_law`: a drain has a next event exactly if a request is outstanding. `until_law`: a part that is
-//! done again until it has nothing to do does the same acts, whatever the bound on its turns.
 
 ghost use Rattle.std.specs.Prelude.{◌≡◌, ◌↔◌, ℕ, [], Some, None};
 ghost use Rattle.trace_replay.specs.Script.{Input};

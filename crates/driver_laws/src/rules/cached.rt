@@ -1,8 +1,4 @@
 //! A cache of blocks with delayed writes, as a list, and the requests of its calls. The function here does nothing: it stands for a law.
-//!
-//! What is proved: `cache_law`: a read leaves all cached contents as they are and gives the content of its block; a write
-//! makes the content of its block what was written, and leaves all others as they are; a sync makes the packs hold all
-//! cached contents. After the requests of each call, a block on its pack holds what it held before, what was cached, or what was to be written.
 
 ghost use Rattle.driver_laws.specs.rules.CachedLaws.{ReadKeeps, WriteKeeps, SyncWrites, ReadLeavesOne, WriteLeavesOne, SyncLeavesOne};
 

@@ -1,12 +1,7 @@
 //! What is promised of a run, in the words of its script, its packs and its answers; each legal run keeps it. And what is
 //! promised of a run that was begun. The functions here do nothing: each stands for a law.
 //!
-//! Defined in `specs/`: what is promised of a run, in the words of its script, its packs and its answers (`Promises`),
-//! and which requests nothing hinders.
-//!
-//! What is proved: `promises_law`: each legal run keeps all that is promised. `beginnings_law`: what holds of a run that
-//! was begun, however it goes on: its answers so far are legal and have their causes, and each data block holds what the
-//! answered writes left, except that the first blocks of one request of each unit, which is not answered yet, may be written already.
+//! Defined in `specs/`: what is promised of a run (`Promises`), and which requests nothing hinders.
 
 ghost use Rattle.std.specs.Prelude.{ℕ, Option, List};
 ghost use Rattle.pack_geometry.specs.Pack.{Pack};
@@ -17,13 +12,8 @@ ghost use Rattle.trace_replay.specs.Runs.{IsLegalRun};
 ghost use Rattle.driver_laws.specs.rules.Beginnings.{BeginningsKeep, FrontsKeep, NextBlocksKeep, QuietMomentsKeep};
 ghost use Rattle.driver_laws.specs.rules.Promises.{Promises};
 
-use crate::rules::bounds::{commands_law, drain_law};
-use crate::rules::machine::{
-    answers_law, last_write_law, once_law, packs_law, refusals_law, step_law,
-};
+use crate::rules::bounds::commands_law;
 use crate::rules::strikes::strikes_law;
-use crate::rules::work::{consistent_law, told_causes_law};
-use pack_geometry::packs::pack_table_law;
 use trace_replay::{bounds_law, cause_law, one_trace_law};
 
 /// The law of the headline: each legal run keeps all that is promised.
@@ -31,19 +21,11 @@ pub fn promises_law()
     ensures { (script : Script) → (tables : ℕ → Option Table) → (old new : ℕ → Pack) → (moments : List Moment)
         → IsLegalRun script tables old new moments → Promises script tables old new moments }
 {
-    once_law();
-    last_write_law();
-    answers_law();
-    packs_law();
     cause_law();
-    refusals_law();
-    told_causes_law();
     strikes_law();
     commands_law();
-    drain_law();
     bounds_law();
     one_trace_law();
-    pack_table_law();
 }
 
 /// The law of a run that was begun, however it goes on: its answers so far are legal and have their causes. If the packs
@@ -56,7 +38,5 @@ pub fn beginnings_law()
     ensures quiet { QuietMomentsKeep }
     ensures fronts { FrontsKeep }
 {
-    step_law();
-    consistent_law();
     cause_law();
 }

@@ -1,6 +1,4 @@
 //! How often tries of a unit can fail: at most as often as faults and noise of the script strike there.
-//!
-//! What is proved: `strikes_law`: if the lines of a script can make fewer than 28 tries of a unit fail, fewer than 28 fail in a legal run.
 
 ghost use Rattle.driver_laws.specs.rules.Strikes.{FailuresAreFew};
 

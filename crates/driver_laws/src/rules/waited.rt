@@ -1,10 +1,6 @@
 //! One request at a time, which is waited for: from a replay at rest, whatever the heads and registers are, it has one
 //! answer, which depends only on what the packs hold, and the replay after it rests again. The function here does
 //! nothing: it stands for a law.
-//!
-//! What is proved: `waited_law`: from a replay at rest over packs with its tables, a request that is submitted and
-//! drained has exactly the answer that its partition and the map of contents give. The homes hold the map after it, all
-//! other sectors stay, and the replay after it rests again. The start of a script rests. `moves_law`: each block that is done has its clean line.
 
 ghost use Rattle.driver_laws.specs.rules.Rest.{StartRests};
 ghost use Rattle.driver_laws.specs.rules.Waited.{WaitedIsAnswered, RestsAgain, PacksHoldMap};

@@ -2,10 +2,6 @@
 //! them. The functions here do nothing: each stands for a law.
 //!
 //! Defined in `specs/`: what homes, buffers and tables hold for a map (`Bears`). The answers that wait are its steps.
-//!
-//! What is proved: `rest_law`: a driver with nothing outstanding stands for what its packs hold, and this holds of a new
-//! driver. `calls_law`: each act, submission, event and taking of an answer keeps the map that the driver stands for, up
-//! to the answers that then wait.
 
 ghost use Rattle.driver_laws.specs.shown.QuietLaws.{RestBears, NewRests, ActsBear, SubmissionsBear, EventsBear, TakingsBear, WritesStay};
 

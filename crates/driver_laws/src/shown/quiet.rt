@@ -1,9 +1,5 @@
 //! The quiet driver: it stands for a replay at rest over its packs, whatever these packs hold, and its calls follow from
 //! any such replay, whatever led to that replay. The functions here do nothing: each stands for a law.
-//!
-//! What is proved: `rests_law`: a driver with no request outstanding, no answer waiting and nothing that hinders stands
-//! for a replay at rest over any packs; a new driver is quiet. `calls_law`: a submission and its drain follow from each
-//! such replay. After a request that is waited for, the driver is quiet again, and stands for the replay after that request.
 
 ghost use Rattle.driver_laws.specs.shown.Quiet.{QuietRests, NewIsQuiet};
 ghost use Rattle.driver_laws.specs.shown.QuietCalls.{QuietOpens, QuietSubmits, DrainsFindNothing, DrainsBegin, DrainsContinue, DrainsAreOver, TakingsOpen, TakingsDrain, QuietAgain, SetupStays};

@@ -3,10 +3,6 @@
 //!
 //! Defined in `specs/`: what is written ends below some block of each unit (`AskBelow`); if something may be written to a
 //! pack that has a table, the whole drive lies below that block (`TablesBelow`).
-//!
-//! What is proved: `calls_law`: from the start on, each act, event, submission and taking of an answer keeps what images
-//! have from that block on (`IsWithinReach`). `next_block_law`: a block at whose write the packs failed keeps it too.
-//! `lengths_law`: each image is exactly as long as the blocks that the lines of the run wrote make it (`AreAsLong`).
 
 ghost use Rattle.driver_laws.specs.shown.Reach.{StartsWithinReach, ActsKeepReach, EventsKeepReach, SubmissionsKeepReach, AnswersKeepReach, NextBlocksStay};
 ghost use Rattle.driver_laws.specs.shown.Lengths.{EventsKeepLengths, FirstEventsKeepLengths, LaterEventsKeepLengths, EmptyDrainsKeepLengths, SubmissionsKeepLengths};

@@ -46,7 +46,7 @@ returns-in_err-write g c =
     let marked = c.in_ok-marked.ensures in
     let write = c.in_err-write.ensures in
     let p = err_from_is_err_and c.from_residual-in_err-write.result c.from_residual-in_err-write.ensures.1 in
-    rw (p.1, p.2, ← c.book.view_is) (record {
+    rw (p.1, p.2) (record {
       tries = failed (sym c.stop.ensures ∙ c.in_default.is) refl
           (write_fails c.args.unit c.args.block c.args.self.now _ (site_of (scene_at c.args.book.now c.args.window.now) (g.P.Packs.held c.args.packs.now)) _ _ _ (sym c.is_writing.ensures ∙ c.if-is_writing.true) (λ t. sym c.if-branch.false ∙ marked.mark (write.never_again t)) (λ t. marked.same (write.never_again t)) c.copy_out.ensures.bytes write.err)
           (λ t. marked.never_again (write.never_again t)) (omega (arith, marked.cause.later, write.cause.later)) (omega (arith, marked.cause.later, write.cause.failed));
@@ -63,7 +63,7 @@ returns-then-is_writing g c =
     let writes = sym c.is_writing.ensures ∙ c.if-is_writing.true in
     record {
       tries = tried (write_moves c.args.unit c.args.block c.args.self.now (window_len c.args.window.now) (g.P.Packs.tells c.write.new.self) _ _ goes writes (λ t. sym c.if-branch.false ∙ marked.mark (write.never_again t))
-          c.book.view_is refl (λ t. cc (write.ok t, marked.same (write.never_again t), c.copy_out.ensures.bytes)))
+          refl refl (λ t. cc (write.ok t, marked.same (write.never_again t), c.copy_out.ensures.bytes)))
           (λ s. goes_on _ goes s) (λ t. marked.never_again (write.never_again t)) (omega (arith, marked.cause.later, write.cause.later));
       drive = c.take-then-is_writing.ensures;
       window = write_window c.args.self.now c.args.window.now writes;
@@ -75,7 +75,7 @@ returns-in_err-read g c =
     let marked = c.in_ok-marked.ensures in
     let read = c.in_err-read.ensures in
     let p = err_from_is_err_and c.from_residual-in_err-read.result c.from_residual-in_err-read.ensures.1 in
-    rw (p.1, p.2, ← c.book.view_is) (record {
+    rw (p.1, p.2) (record {
       tries = failed (sym c.stop.ensures ∙ c.in_default.is) refl (λ t. inl (read.same t ∙ marked.same (read.never_again t)))
           (λ t. marked.never_again (read.never_again t)) (omega (arith, marked.cause.later, read.cause.later)) (omega (arith, marked.cause.later, read.cause.failed));
       drive = refl;
@@ -89,9 +89,9 @@ returns g c =
     let read = c.in_ok-read.ensures in
     let goes = sym c.stop.ensures ∙ c.in_default.is in
     let reads = sym c.is_writing.ensures ∙ c.if-is_writing.false in
-    rw (← c.book.view_is) (record {
-      tries = tried (read_moves c.args.unit c.args.block c.bits-of.result c.args.self.now (window_len c.args.window.now) (g.P.Packs.tells c.read.new.self) _ _ c.read_through-moved.result c.read.new.into c.read_through-moved.new.bytes
-          (c.bits-of.ensures tt ∙ ap (λ (d : DriveState). d.offset) c.self.view_is) goes reads
+    record {
+      tries = tried (read_moves c.args.unit c.args.block c.self.inside.offset c.args.self.now (window_len c.args.window.now) (g.P.Packs.tells c.read.new.self) _ _ c.read_through-moved.result c.read.new.into c.read_through-moved.new.bytes
+          (ap (λ (d : DriveState). d.offset) c.self.view_is) goes reads
           (λ t. sym c.if-branch.false ∙ marked.mark (read.never_again t)) c.read_through-moved.ensures.verdict c.read_through-moved.ensures.book c.read_through-moved.ensures.bytes
           (λ t. read.block t ∙ ap (λ (h : ℕ → Pack). block_at (h c.args.unit).image c.args.block) (marked.same (read.never_again t)))
           c.copy_in.ensures.bytes (λ t. read.same t ∙ marked.same (read.never_again t)))
@@ -99,4 +99,4 @@ returns g c =
       drive = c.take-2.ensures;
       window = read_window c.args.self.now _ c.read_through-moved.result c.args.window.now c.copy_in.new.self _ reads c.read_through-moved.ensures.verdict c.copy_in.ensures.bytes c.copy_in.ensures.writes;
       same_memory = c.copy_in.ensures.same_memory;
-    })
+    }

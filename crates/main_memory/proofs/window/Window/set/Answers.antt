@@ -1,32 +1,24 @@
-use Rattle.std.proofs.Common.{◌≡◌, ℕ, ◌<◌, List, length, refl, ap, ◌∙◌}
-use Rattle.std.proofs.Math.ListN.{set, length-set}
+use Rattle.std.proofs.Common.{◌≡◌, ℕ, ◌<◌, List, length, ap, ◌∙◌, subst}
+use Rattle.std.proofs.Math.ListN.{set}
 use Rattle.main_memory.specs.declared.window.Window.{Window}
-use Rattle.main_memory.specs.Blocks.{bytes_in, with_bytes_in, place_in}
-use Rattle.main_memory.specs.Memory.{Memory}
-use Rattle.main_memory.proofs.BlockLaws.{set-bytes_in, bytes_in-with_bytes_in, length-bytes_in}
+use Rattle.main_memory.specs.Bytes.{front, filled}
+use Rattle.main_memory.specs.Windows.{Writes, window_len, window_bytes}
+use Rattle.main_memory.proofs.ByteLaws.{front-set}
+use Rattle.main_memory.proofs.BlockLaws.{length-bytes_in}
 use Rattle.main_memory.proofs.window.Window.set.Goals as goal
 
--- the memory's bytes with one byte set, as its bytes with a block replaced
-set_is : (window : Window) (at byte place : ℕ) → place ≡ place_in window.span at → length window.memory.now.bytes ≡ 8388608 → at < window.span.len
-    → set window.memory.now.bytes place byte ≡ with_bytes_in window.span (set (bytes_in window.span window.memory.now.bytes) at byte) window.memory.now.bytes
-set_is window at byte place is size inside =
-    ap (λ (i : ℕ). set window.memory.now.bytes i byte) is ∙ set-bytes_in window.span window.memory.now.bytes at byte window.inside size inside
+-- a byte of the block set among the bytes that were read
+read_set : (window : Window) (at byte : ℕ) (into : List ℕ) → into ≡ filled 512 (window_bytes window) → length window.memory.now.bytes ≡ 8388608
+    → at < window_len window → front (window_len window) (set into at byte) ≡ set (window_bytes window) at byte
+read_set window at byte into is size inside =
+    ap (λ (xs : List ℕ). front window.span.len (set xs at byte)) is
+    ∙ front-set 512 window.span.len at byte (window_bytes window) (length-bytes_in window.span window.memory.now.bytes window.inside size) inside
 
 pub returns-clause-writes : goal.returns-clause-writes
 returns-clause-writes c =
-    let window = c.args.self.now in
-    record {
-      same_block = refl;
-      memory = c.set_byte.ensures.memory
-          ∙ ap (λ (bytes : List ℕ). record window.memory.now { bytes = bytes }) (set_is window c.args.at c.args.byte c.place.result c.place.ensures.place c.set_byte.ensures.size c.requires);
-      whole = c.set_byte.ensures.size;
-    }
+    subst (λ (block : List ℕ). Writes c.args.self.now c.copy_in.new.self block)
+    (read_set c.args.self.now c.args.at c.args.byte c.copy_out.new.into c.copy_out.ensures.bytes c.copy_out.ensures.whole c.requires) c.copy_in.ensures.writes
 
 pub returns-clause-bytes : goal.returns-clause-bytes
 returns-clause-bytes c =
-    let window = c.args.self.now in
-    let block : List ℕ = set (bytes_in window.span window.memory.now.bytes) c.args.at c.args.byte in
-    let size : length block ≡ window.span.len = length-set (bytes_in window.span window.memory.now.bytes) c.args.at c.args.byte ∙ length-bytes_in window.span window.memory.now.bytes window.inside c.set_byte.ensures.size in
-    ap (λ (m : Memory). bytes_in window.span m.bytes) c.set_byte.ensures.memory
-    ∙ ap (bytes_in window.span) (set_is window c.args.at c.args.byte c.place.result c.place.ensures.place c.set_byte.ensures.size c.requires)
-    ∙ bytes_in-with_bytes_in window.span block window.memory.now.bytes window.inside size c.set_byte.ensures.size
+    c.copy_in.ensures.bytes ∙ read_set c.args.self.now c.args.at c.args.byte c.copy_out.new.into c.copy_out.ensures.bytes c.copy_out.ensures.whole c.requires
