@@ -1,7 +1,7 @@
 -- A script that is too long is refused by its front.
 use Rattle.std.proofs.Common.{◌≡◌, ◌⊎◌, inl, inr, ℕ, ◌+◌, ◌<◌, ◌≤◌, List, [], ◌++◌, length, subst, sym, ap, ◌∙◌, arith, append-nil, length-append, Result, Ok, Err, IfErr, IsErrAnd}
 use Rattle.script_lines.specs.Script.{Script}
-use Rattle.script_lines.specs.declared.dialect.Dialect.{Dialect}
+use Rattle.script_lines.specs.declared.dialect.Dialect.TheVariants.{Cached}
 use Rattle.script_lines.specs.declared.kinds.ScriptKind.{ScriptKind}
 use Rattle.script_lines.specs.declared.kinds.ScriptKind.TheVariants.{ScriptLong}
 use Rattle.script_lines.specs.Words.{all_verbs}
@@ -12,10 +12,12 @@ use Rattle.script_reader.specs.Grammar as play
 use Rattle.script_reader.specs.Lines.{lines_of}
 use Rattle.script_reader.specs.Reading.{Refuses}
 use Rattle.script_reader.specs.cached.Scripts as cached
+use Rattle.script_reader.specs.declared.cached.kind.CachedRefusal.{CachedRefusal}
+use Rattle.script_reader.specs.declared.cached.kind.CachedRefusal.TheVariants as refusal
 use Rattle.script_reader.specs.declared.cached.statement.Line.{Line}
 use Rattle.command_parts.specs.declared.load.LoadFault.{LoadFault}
 use Rattle.command_parts.specs.declared.load.LoadFault.TheVariants as loading
-use Rattle.command_parts.specs.Loading.{Means, MeansCached, RefusesAll, from_read, longest}
+use Rattle.command_parts.specs.Loading.{Means, MeansCached, RefusesAll, from_read, from_cached, longest}
 
 -- BYTES ARE REFUSED by a front of them that is too long, or is all of them.
 abbrev pub ByFront : (List ℕ → ℕ → ScriptKind → Type 0) → Type 0
@@ -35,8 +37,11 @@ by_front Fault left bytes after number kind all (inr long) (inl r) =
     inl (omega (arith, l, long), r.1, r.2)
 by_front Fault left bytes after number kind all (inr long) (inr r) = absurd (omega (arith, long, r.0))
 
-pub grammar_by_front : (dialect : Dialect) → ByFront (play.IsRefused dialect)
-grammar_by_front dialect = by_front (λ bytes number kind. play.FirstFault dialect (lines_of bytes) number kind)
+pub play_by_front : ByFront (play.IsRefused all_verbs)
+play_by_front = by_front (λ bytes number kind. play.FirstFault all_verbs (lines_of bytes) number kind)
+
+pub cached_by_front : ByFront cached.IsRefused
+cached_by_front = by_front (λ bytes number kind. play.FirstFault Cached (lines_of bytes) number kind)
 
 -- bytes that have a fault mean no script
 abbrev pub NoFault : (List ℕ → Script → Type 0) → (List ℕ → ℕ → ScriptKind → Type 0) → Type 0
@@ -56,9 +61,13 @@ Found First loading.Memory bytes = Unit {0}
 Found First loading.Failed bytes = Unit {0}
 Found First (loading.Refused line kind) bytes = First bytes line kind
 
-pub found : (dialect : Dialect) (fault : ReadFault) (bytes : List ℕ) → Refuses dialect fault bytes → Found (play.IsRefused dialect) (from_read fault) bytes
-found dialect reading.Memory bytes r = tt
-found dialect (reading.Refused line kind) bytes r = r
+pub play_found : (fault : ReadFault) (bytes : List ℕ) → Refuses all_verbs fault bytes → Found (play.IsRefused all_verbs) (from_read fault) bytes
+play_found reading.Memory bytes r = tt
+play_found (reading.Refused line kind) bytes r = r
+
+pub cached_found : (fault : CachedRefusal) (bytes : List ℕ) → cached.Refuses fault bytes → Found cached.IsRefused (from_cached fault) bytes
+cached_found refusal.Memory bytes r = tt
+cached_found (refusal.Refused line kind) bytes r = r
 
 module _ {Means : List ℕ → Script → Type 0} {First : List ℕ → ℕ → ScriptKind → Type 0} (front : ByFront First) (no_fault : NoFault Means First) where
   refuses : (left bytes after : List ℕ) (fault : LoadFault) → left ≡ bytes ++ after → (after ≡ []) ⊎ (longest < length bytes) → Found First fault bytes → RefusesAll Means First fault left

@@ -4,8 +4,11 @@ use Rattle.outside_traits.specs.declared.whole.ReadAllFault.{ReadAllFault}
 use Rattle.outside_traits.specs.declared.whole.ReadAllFault.TheVariants.{Memory as AllMemory, Failed as AllFailed}
 use Rattle.script_reader.specs.declared.fault.ReadFault.{ReadFault}
 use Rattle.script_reader.specs.declared.fault.ReadFault.TheVariants.{Memory as ReadMemory, Refused as ReadRefused}
+use Rattle.script_reader.specs.declared.cached.kind.CachedRefusal.{CachedRefusal}
+use Rattle.script_reader.specs.declared.cached.kind.CachedRefusal.TheVariants.{Memory as CachedMemory, Refused as CachedRefused}
 use Rattle.script_reader.specs.cached.Scripts.{Script as Lines, Spells as CachedSpells}
 use Rattle.script_reader.specs.cached.Meaning.{meaning_of}
+use Rattle.script_reader.specs.cached.Kinds.{kind_of}
 use Rattle.script_reader.specs.Grammar.{Spells}
 use Rattle.script_reader.specs.Meaning.{meaning}
 use Rattle.script_lines.specs.Known.{Numbered}
@@ -44,6 +47,10 @@ from_read_all AllFailed = faults.Failed
 abbrev pub from_read : ReadFault → LoadFault
 from_read ReadMemory = faults.Memory
 from_read (ReadRefused line kind) = faults.Refused line kind
+
+abbrev pub from_cached : CachedRefusal → LoadFault
+from_cached CachedMemory = faults.Memory
+from_cached (CachedRefused line kind) = faults.Refused line (kind_of kind)
 
 -- a refusal names the first fault of bytes that mean no script
 abbrev pub RefusesAll : (List ℕ → Script → Type 0) → (List ℕ → ℕ → ScriptKind → Type 0) → LoadFault → List ℕ → Type 0

@@ -8,7 +8,7 @@ ghost use Rattle.command_parts.specs.Loading.{Means, MeansCached, RefusesAll, lo
 
 use outside_traits::traits::Source;
 use outside_traits::whole::{ReadAllFault, read_all};
-use script_reader::cached::{CachedScript, cached_grammar_law, read_cached};
+use script_reader::cached::{CachedRefusal, CachedScript, cached_grammar_law, read_cached};
 use script_reader::{ReadFault, Script, ScriptKind, grammar_law, read_script};
 use std::alloc::Global;
 use thiserror::Error;
@@ -54,6 +54,23 @@ impl From<ReadFault> for LoadFault {
         match fault {
             ReadFault::Memory => LoadFault::Memory,
             ReadFault::Refused { line, kind } => LoadFault::Refused { line, kind },
+        }
+    }
+}
+
+impl From<CachedRefusal> for LoadFault {
+    ghost use Rattle.command_parts.specs.Loading.{from_cached};
+    ghost use Rattle.std.specs.Prelude.{◌≡◌};
+
+    ghost from_gives = { λ f e. e ≡ from_cached f };
+
+    fn from(fault: CachedRefusal) -> LoadFault {
+        match fault {
+            CachedRefusal::Memory => LoadFault::Memory,
+            CachedRefusal::Refused { line, kind } => LoadFault::Refused {
+                line,
+                kind: kind.script_kind(),
+            },
         }
     }
 }

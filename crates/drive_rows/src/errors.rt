@@ -11,6 +11,7 @@ use outside_traits::whole::ReadAllFault;
 use pack_format::FormatFault;
 use script_lines::ScriptKind;
 use script_reader::ReadFault;
+use script_reader::cached::{CachedKind, CachedRefusal};
 use script_runs::PlayFault;
 use std::alloc::Global;
 use std::fmt::Display;
@@ -131,6 +132,17 @@ static SCRIPTS: [(ReadFault, &str); 2] = [
     ),
 ];
 
+static CACHED: [(CachedRefusal, &str); 2] = [
+    (CachedRefusal::Memory, "there is no memory"),
+    (
+        CachedRefusal::Refused {
+            line: 2,
+            kind: CachedKind::Word,
+        },
+        "line 2 is refused",
+    ),
+];
+
 static LOADS: [(LoadFault, &str); 3] = [
     (LoadFault::Memory, "there is no memory"),
     (LoadFault::Failed, "the source failed"),
@@ -199,6 +211,7 @@ fn texts_of_errors(rt: HostRuntime) {
 fn texts_of_refusals(rt: HostRuntime) {
     let alloc = rt.alloc();
     assert!(rt; have_texts(alloc, &SCRIPTS));
+    assert!(rt; have_texts(alloc, &CACHED));
     assert!(rt; have_texts(alloc, &LOADS));
     assert!(rt; have_texts(alloc, &PLAYS));
     assert!(rt; have_texts(alloc, &TRACES));

@@ -1,2 +1,3 @@
 pub mod Narrow
+mod Wrongs
 mod Wells

@@ -1,3 +1,4 @@
+pub mod Kinds
 pub mod Scripts
 pub mod Formed
 pub mod Meaning

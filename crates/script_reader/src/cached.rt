@@ -4,8 +4,10 @@
 //! by line and kind. `cached_grammar_law`: any bytes have a script or a fault, and never both. What a script holds is always what some
 //! bytes spell. Only tested: that memory suffices.
 
+mod kind;
 mod script;
 mod statement;
 
+pub use kind::{CachedKind, CachedRefusal};
 pub use script::{CachedScript, cached_grammar_law, read_cached};
 pub use statement::{Asked, Line, Statement};

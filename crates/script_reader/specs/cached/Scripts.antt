@@ -11,10 +11,13 @@ use Rattle.script_lines.specs.declared.statement.Statement.TheVariants as any
 use Rattle.script_lines.specs.Known.{Known, Said, Numbered}
 use Rattle.script_lines.specs.Known as any_known
 use Rattle.script_reader.specs.Grammar as grammar
+use Rattle.script_reader.specs.declared.cached.kind.CachedRefusal.{CachedRefusal}
+use Rattle.script_reader.specs.declared.cached.kind.CachedRefusal.TheVariants.{Memory, Refused}
 use Rattle.script_reader.specs.declared.cached.statement.Asked.{Asked}
 use Rattle.script_reader.specs.declared.cached.statement.Statement.{Statement}
 use Rattle.script_reader.specs.declared.cached.statement.Statement.TheVariants as says
 use Rattle.script_reader.specs.declared.cached.statement.Line.{Line}
+use Rattle.script_reader.specs.cached.Kinds.{kind_of}
 
 -- ---- THE SAME of any script: whole blocks of partition `c`
 abbrev pub whole_blocks : Asked → Request
@@ -56,6 +59,11 @@ Spells bytes lines count = grammar.Spells Cached bytes (map as_line lines) count
 -- bytes spell no script: they are too many, or there is a first faulty line
 abbrev pub IsRefused : List ℕ → ℕ → ScriptKind → Type 0
 IsRefused bytes number kind = grammar.IsRefused Cached bytes number kind
+
+-- a refusal says which line is the first faulty one, or that there was no memory
+abbrev pub Refuses : CachedRefusal → List ℕ → Type 0
+Refuses Memory bytes = Unit {0}
+Refuses (Refused line kind) bytes = IsRefused bytes line (kind_of kind)
 
 -- A SCRIPT: its lines, and how many lines there are in all; some bytes spell them
 pub record Script : Type 0 where

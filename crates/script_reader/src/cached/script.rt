@@ -2,10 +2,10 @@ ghost use Rattle.std.specs.Prelude.{◌≡◌, ◌⊎◌, ℕ, List, IfOk, IfErr
 ghost use Rattle.script_lines.specs.declared.kinds.ScriptKind.{ScriptKind};
 ghost use Rattle.script_reader.specs.declared.cached.statement.Line.{Line};
 ghost use Rattle.script_reader.specs.cached.Formed.{IsScript};
-ghost use Rattle.script_reader.specs.Reading.{Refuses};
-ghost use Rattle.script_reader.specs.cached.Scripts.{asked_of, narrowed, narrowed_line, Spells, IsRefused};
+ghost use Rattle.script_reader.specs.cached.Scripts.{asked_of, narrowed, narrowed_line, Spells, IsRefused, Refuses};
 
 use crate::ReadFault;
+use crate::cached::kind::{CachedKind, CachedRefusal};
 use crate::cached::statement::{Asked, Line, Statement};
 use crate::script::{Stored, read_in};
 use fire_code::Noise;
@@ -49,9 +49,9 @@ fn narrowed(statement: &script_lines::Statement<Span, Box<Noise>>) -> Statement
 }
 
 /// Lines of the cache, without what other lines have.
-fn narrowed_lines(alloc: Global, lines: &[Stored]) -> Result<Vec<Line>, ReadFault>
+fn narrowed_lines(alloc: Global, lines: &[Stored]) -> Result<Vec<Line>, CachedRefusal>
     ensures ok { IfOk result (λ narrow. narrow.items ≡ map narrowed_line lines.now) }
-    ensures err { IfErr result (λ fault. fault ≡ ReadFault.Memory) }
+    ensures err { IfErr result (λ fault. fault ≡ CachedRefusal.Memory) }
 {
     let mut narrow = Vec::new(alloc);
     for line in lines {
@@ -80,12 +80,22 @@ impl Model for CachedScript {
     ghost invariant = { λ s. IsSpelled (record { lines = s.lines.items; count = s.count }) };
 }
 
-/// Reads a script of the cache from its bytes, as `read_script` reads one of events.
-pub fn read_cached(alloc: Global, bytes: Vec<u8>) -> Result<CachedScript, ReadFault>
+/// Reads a script from its bytes. It is refused exactly where the bytes spell none, with the first fault: Refused at line 0 as
+/// ScriptLong for more than 16 MiB; else the first line that is faulty, and its kind. Memory tells only that there was none.
+pub fn read_cached(alloc: Global, bytes: Vec<u8>) -> Result<CachedScript, CachedRefusal>
     ensures ok { IfOk result (λ script. Spells bytes.items script.lines script.count) }
-    ensures err { IfErr result (λ fault. Refuses Dialect.Cached fault bytes.items) }
+    ensures err { IfErr result (λ refusal. Refuses refusal bytes.items) }
 {
-    let script = read_in(alloc, Dialect::Cached, bytes)?;
+    let script = match read_in(alloc, Dialect::Cached, bytes) {
+        Ok(script) => script,
+        Err(ReadFault::Memory) => return Err(CachedRefusal::Memory),
+        Err(ReadFault::Refused { line, kind }) => {
+            return Err(CachedRefusal::Refused {
+                line,
+                kind: CachedKind::named(kind),
+            });
+        }
+    };
     let lines = narrowed_lines(alloc, script.lines())?;
     Ok(CachedScript {
         lines,
