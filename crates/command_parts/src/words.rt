@@ -1,11 +1,8 @@
 // The words of a transfer.
 ghost use Rattle.std.specs.Prelude.{◌≡◌, ◌<◌, ◌≤◌, ◌^◌, map, IfSome};
-ghost use Rattle.std.specs.Option.{option_map};
 ghost use Rattle.std.specs.String.{string_bytes};
-ghost use Rattle.command_parts.specs.Fields.{kind_named, of_two, unit_named};
+ghost use Rattle.command_parts.specs.Fields.{kind_named, unit_named};
 ghost use Rattle.command_parts.specs.Words.{IsInRange, IsTarget, dump_named, part_named, place_named, raw_named, size_named, sized_named, target_of, written_named};
-ghost use Rattle.command_parts.specs.declared.words.Transfer.TheVariants.{Read as TheRead, Write as TheWrite};
-ghost use Rattle.command_parts.specs.declared.words.Writing.TheVariants.{Raw as TheRaw};
 
 use crate::fields::{kind_in, unit_in};
 use mass_text::{Radix, number};
@@ -81,36 +78,18 @@ fn target_in(unit: &str, kind: &str, part: &str, at: &str) -> Option<Target>
     })
 }
 
-fn read_in(target: Option<Target>, size: &str) -> Option<Transfer>
-    requires { IfSome target IsTarget }
-    ensures named { result ≡ of_two TheRead target (size_named size.now) }
-    ensures valid { IfSome result IsInRange }
-{
-    let target = target?;
-    let size = size_in(size)?;
-    Some(Transfer::Read { target, size })
-}
-
-fn write_in(target: Option<Target>) -> Option<Transfer>
-    requires { IfSome target IsTarget }
-    ensures named { result ≡ option_map (λ t. TheWrite (TheRaw t)) target }
-    ensures valid { IfSome result IsInRange }
-{
-    let target = target?;
-    Some(Transfer::Write {
-        writing: Writing::Raw { target },
-    })
-}
-
 /// What `raw write` transfers, by a unit, a kind, a partition and a place; None for another verb.
 fn written_in(verb: &str, unit: &str, kind: &str, part: &str, at: &str) -> Option<Transfer>
     ensures named { result ≡ written_named verb.now unit.now kind.now part.now at.now }
     ensures valid { IfSome result IsInRange }
 {
-    if verb == "write" {
-        return write_in(target_in(unit, kind, part, at));
+    if verb != "write" {
+        return None;
     }
-    None
+    let target = target_in(unit, kind, part, at)?;
+    Some(Transfer::Write {
+        writing: Writing::Raw { target },
+    })
 }
 
 /// What `raw read` transfers, by a unit, a kind, a partition, a place and a number of bytes; None for another verb.
@@ -125,10 +104,12 @@ fn sized_in(
     ensures named { result ≡ sized_named verb.now unit.now kind.now part.now at.now size.now }
     ensures valid { IfSome result IsInRange }
 {
-    if verb == "read" {
-        return read_in(target_in(unit, kind, part, at), size);
+    if verb != "read" {
+        return None;
     }
-    None
+    let target = target_in(unit, kind, part, at)?;
+    let size = size_in(size)?;
+    Some(Transfer::Read { target, size })
 }
 
 /// What `raw` transfers, by its verb, a unit, a kind and the words after them. `read` takes a partition, a place in it below 2^40, and

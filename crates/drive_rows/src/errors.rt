@@ -9,7 +9,7 @@ use mba_autoconf::{AttachFault, ProbeFault};
 use outside_traits::traits::{NoMemory, SinkFailed, SourceFailed, StoreFailed};
 use outside_traits::whole::ReadAllFault;
 use pack_format::FormatFault;
-use script_lines::{LineFault, ScriptKind};
+use script_lines::ScriptKind;
 use script_reader::ReadFault;
 use script_reader::cached::{CachedKind, CachedRefusal};
 use script_runs::PlayFault;
@@ -121,14 +121,6 @@ static TOOLS: [(ToolFault, &str); 8] = [
     (ToolFault::Sink, "the sink failed"),
 ];
 
-static LINES: [(LineFault, &str); 2] = [
-    (LineFault::Memory, "there is no memory"),
-    (
-        LineFault::Kind(ScriptKind::Word),
-        "the line is faulty: Word",
-    ),
-];
-
 static SCRIPTS: [(ReadFault, &str); 2] = [
     (ReadFault::Memory, "there is no memory"),
     (
@@ -218,7 +210,6 @@ fn texts_of_errors(rt: HostRuntime) {
 #[test]
 fn texts_of_refusals(rt: HostRuntime) {
     let alloc = rt.alloc();
-    assert!(rt; have_texts(alloc, &LINES));
     assert!(rt; have_texts(alloc, &SCRIPTS));
     assert!(rt; have_texts(alloc, &CACHED));
     assert!(rt; have_texts(alloc, &LOADS));

@@ -19,7 +19,7 @@ use outside_traits::Gather;
 use outside_traits::traits::{Sink, SinkFailed};
 use request_slots::{Answers, Channel, Slots};
 use std::marker::Model;
-use trace_lines::{LineText, Told, clean_line};
+use trace_lines::{Told, clean_line, deed, idle};
 use transfer_engine::Job;
 
 /// The whole driver: 32 units, some of which are set up; four adapters; the slots of requests, and the frames that the requests need;
@@ -91,8 +91,7 @@ impl Core {
     ) -> Result<(), Stop>
         ensures { (answer : AnswerTold) → Tells T.tells T.taken T.faults trace.old trace.new self.old self.new result (moment_text (moments.Told number unit id (deed_of answer told))) }
     {
-        let mut text = LineText::new();
-        text.write(number, unit, id, told);
+        let text = deed(number, unit, id, told);
         sent(self.gather.put(text.as_bytes(), trace))
     }
 
@@ -157,8 +156,7 @@ impl Core {
         ensures gathers { Gathers T.tells T.taken T.faults trace.old trace.new self.old.kept self.new.kept result (moment_text (moments.Idle number)) }
         ensures world { self.new.world ≡ self.old.world }
     {
-        let mut text = LineText::new();
-        text.write_idle(number);
+        let text = idle(number);
         self.gather.put(text.as_bytes(), trace)
     }
 

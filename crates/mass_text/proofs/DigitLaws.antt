@@ -132,3 +132,11 @@ length-digits-le zero base n b fits small =
     omega (arith, ap length (digits-last base n some (omega (arith, power))))
 length-digits-le (suc k) base n b fits small =
     length_by (suc k) base n b fits small (λ more wide narrow. length-digits-le k base (n / base) b wide narrow) (cases_lt n base)
+
+-- and one of 64 bits at most 22
+pub length-digits-22 : (base n : ℕ) → (base ≡ 8) ⊎ (base ≡ 16) → n < 2 ^ 64 → length (digits base false n) ≤ 22
+length-digits-22 base n b fits = length-digits-le 21 base n b fits (wide b)
+  where
+    wide : (base ≡ 8) ⊎ (base ≡ 16) → n < base ^ 22
+    wide (inl octal) = rw octal (omega (arith, fits))
+    wide (inr hex) = rw hex (omega (arith, fits))

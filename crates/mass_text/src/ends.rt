@@ -5,7 +5,7 @@ ghost use Rattle.std.specs.Prelude.{◌≡◌, ◌≤◌, ◌+◌, ◌∷◌, �
 use itoa::write_digits;
 
 /// Puts a piece in front of what stands from `start` on, and returns the place at which the piece starts.
-pub fn put_piece<const N: usize>(bytes: &mut [u8; N], start: usize, piece: &[u8]) -> usize
+pub(crate) fn put_piece<const N: usize>(bytes: &mut [u8; N], start: usize, piece: &[u8]) -> usize
     requires inside { start ≤ N }
     requires room { length piece.now ≤ start }
     ensures start { result + length piece.now ≡ start }
@@ -18,7 +18,7 @@ pub fn put_piece<const N: usize>(bytes: &mut [u8; N], start: usize, piece: &[u8]
 }
 
 /// Puts a byte in front of what stands from `start` on, and returns the place of that byte.
-pub fn put_byte<const N: usize>(bytes: &mut [u8; N], start: usize, byte: u8) -> usize
+pub(crate) fn put_byte<const N: usize>(bytes: &mut [u8; N], start: usize, byte: u8) -> usize
     requires inside { start ≤ N }
     requires room { 1 ≤ start }
     ensures start { result + 1 ≡ start }
@@ -29,7 +29,7 @@ pub fn put_byte<const N: usize>(bytes: &mut [u8; N], start: usize, byte: u8) -> 
 }
 
 /// Puts the decimal digits of a number in front of what stands from `start` on, and returns the place at which they start.
-pub fn put_digits<const N: usize>(bytes: &mut [u8; N], start: usize, value: u64) -> usize
+pub(crate) fn put_digits<const N: usize>(bytes: &mut [u8; N], start: usize, value: u64) -> usize
     requires inside { start ≤ N }
     requires room { length (decimal value) ≤ start }
     ensures start { result + length (decimal value) ≡ start }

@@ -3,9 +3,9 @@ ghost use Rattle.std.specs.Prelude.{◌≡◌, ◌≤◌, ◌+◌, [], ◌∷◌
 use crate::ends::{put_byte, put_digits, put_piece};
 use std::marker::Model;
 
-/// A text of at most `END` bytes that is put together from its end: each piece goes in front of what is there. `END` is
-/// at most 64. The text ends at place `END` of a room of `ROOM` bytes, which has 64 more bytes behind that place, so that
-/// 64 bytes can always be read from the start of the text.
+/// A text of at most `END` bytes that is put together from its end: each piece goes in front of what is there. The text
+/// ends at place `END` of a room of `ROOM` bytes, which has 64 more bytes behind that place, so that 64 bytes can always be
+/// read from the start of the text.
 #[derive(Drop)]
 pub struct FrontLine<const ROOM: usize, const END: usize> {
     bytes: [u8; ROOM],
@@ -19,13 +19,12 @@ impl<const ROOM: usize, const END: usize> Model for FrontLine<ROOM, END> {
 
     ghost view = { λ line. take (END - line.start) (drop line.start line.bytes) };
 
-    ghost invariant = { λ line. (line.start ≤ END) × (END ≤ 64) × (END + 64 ≤ ROOM) };
+    ghost invariant = { λ line. (line.start ≤ END) × (END + 64 ≤ ROOM) };
 }
 
 impl<const ROOM: usize, const END: usize> FrontLine<ROOM, END> {
     /// An empty text.
     pub fn new() -> FrontLine<ROOM, END>
-        requires few { END ≤ 64 }
         requires room { END + 64 ≤ ROOM }
         ensures { result ≡ [] }
     {
@@ -74,8 +73,9 @@ impl<const ROOM: usize, const END: usize> FrontLine<ROOM, END> {
         END - self.start
     }
 
-    /// 64 bytes, which begin with the text.
+    /// 64 bytes, which begin with the text, if `END` is at most 64.
     pub fn front(&self) -> &[u8; 64]
+        requires { END ≤ 64 }
         ensures { take (length self.now) result.now ≡ self.now }
     {
         let bytes = &self.bytes[..];

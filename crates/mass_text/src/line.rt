@@ -9,13 +9,19 @@ use arrayvec::ArrayVec;
 use itoa::Buffer;
 use std::marker::Model;
 
-/// A text that is put together piece by piece, of at most 1,100 bytes.
+/// A text of at most `N` bytes that is put together piece by piece.
 #[derive(Drop)]
-pub struct LineBuf {
-    text: ArrayVec<u8, 1100>,
+pub struct TextBuf<const N: usize> {
+    text: ArrayVec<u8, N>,
 }
 
-impl Model for LineBuf {
+/// A text with room for the digits of a whole block.
+pub type LineBuf = TextBuf<1100>;
+
+/// The text of a short line. Making and moving a `LineBuf` costs more than most lines themselves.
+pub type ShortLine = TextBuf<240>;
+
+impl<const N: usize> Model for TextBuf<N> {
     ghost use Rattle.std.specs.Prelude.{ℕ, List};
 
     ghost Value = { List ℕ };
@@ -31,12 +37,41 @@ fn is_one_byte(bytes: &[u8]) -> bool
     bytes[1..] == bytes[..bytes.len() - 1]
 }
 
-impl LineBuf {
+/// The character of a digit, in lower case.
+fn glyph(digit: u64) -> u8
+    requires { digit < 16 }
+    ensures { result ≡ digit_glyph false digit }
+{
+    let digit = digit as u8;
+    if digit < 10 {
+        b'0' + digit
+    } else {
+        b'a' - 10 + digit
+    }
+}
+
+/// The digits of a number in base 8 or 16, with no leading zero.
+fn octal_or_hex(value: u64, base: u64) -> ArrayVec<u8, 22>
+    requires { (base ≡ 8) ⊎ (base ≡ 16) }
+    ensures { result.items ≡ digits base false value }
+{
+    if value < base {
+        let mut text = ArrayVec::new();
+        text.push(glyph(value));
+        text
+    } else {
+        let mut text = octal_or_hex(value / base, base);
+        text.push(glyph(value % base));
+        text
+    }
+}
+
+impl<const N: usize> TextBuf<N> {
     /// An empty text.
-    pub fn new() -> LineBuf
+    pub fn new() -> TextBuf<N>
         ensures { result ≡ [] }
     {
-        LineBuf {
+        TextBuf {
             text: ArrayVec::new(),
         }
     }
@@ -51,13 +86,13 @@ impl LineBuf {
     /// The text that was put so far.
     pub fn as_bytes(&self) -> &[u8]
         ensures text { result.now ≡ self.now }
-        ensures room { length self.now ≤ 1100 }
+        ensures room { length self.now ≤ N }
     {
         self.text.as_slice()
     }
 
     fn append(&mut self, bytes: &[u8])
-        requires { length self.old + length bytes.now ≤ 1100 }
+        requires { length self.old + length bytes.now ≤ N }
         ensures { self.new ≡ self.old ++ bytes.now }
     {
         self.text.try_extend_from_slice(bytes).unwrap();
@@ -65,7 +100,7 @@ impl LineBuf {
 
     /// Puts a text. It must fit.
     pub fn put(&mut self, text: &str)
-        requires { length self.old + length text.now ≤ 1100 }
+        requires { length self.old + length text.now ≤ N }
         ensures { self.new ≡ self.old ++ text.now }
     {
         self.append(text.as_bytes());
@@ -73,45 +108,19 @@ impl LineBuf {
 
     /// Puts the digits of a number in a radix, with no leading zero. They must fit.
     pub fn put_number(&mut self, value: u64, radix: Radix)
-        requires { length self.old + length (numeral radix value) ≤ 1100 }
+        requires { length self.old + length (numeral radix value) ≤ N }
         ensures { self.new ≡ self.old ++ numeral radix value }
     {
         match radix {
-            Radix::Octal => self.put_digits(value, 8),
+            Radix::Octal => self.append(octal_or_hex(value, 8).as_slice()),
             Radix::Decimal => self.append(Buffer::new().format(value).as_bytes()),
-            Radix::Hex => self.put_digits(value, 16),
+            Radix::Hex => self.append(octal_or_hex(value, 16).as_slice()),
         }
-    }
-
-    fn put_digits(&mut self, value: u64, base: u64)
-        requires base { (base ≡ 8) ⊎ (base ≡ 16) }
-        requires room { length self.old + length (digits base false value) ≤ 1100 }
-        ensures { self.new ≡ self.old ++ digits base false value }
-    {
-        if value < base {
-            self.put_digit(value);
-        } else {
-            self.put_digits(value / base, base);
-            self.put_digit(value % base);
-        }
-    }
-
-    fn put_digit(&mut self, digit: u64)
-        requires digit { digit < 16 }
-        requires room { length self.old < 1100 }
-        ensures { self.new ≡ self.old ++ digit_glyph false digit ∷ [] }
-    {
-        let digit = digit as u8;
-        self.text.push(if digit < 10 {
-            b'0' + digit
-        } else {
-            b'a' - 10 + digit
-        });
     }
 
     /// Puts the 512 bytes of a block, as `put_bytes` does. They must fit.
     pub fn put_block(&mut self, bytes: &[u8; 512])
-        requires { length self.old + length (content_text bytes.now) ≤ 1100 }
+        requires { length self.old + length (content_text bytes.now) ≤ N }
         ensures { self.new ≡ self.old ++ content_text bytes.now }
     {
         self.put_bytes(bytes);
@@ -122,7 +131,7 @@ impl LineBuf {
     pub fn put_bytes(&mut self, bytes: &[u8])
         requires some { 1 ≤ length bytes.now }
         requires few { length bytes.now ≤ 512 }
-        requires room { length self.old + length (content_text bytes.now) ≤ 1100 }
+        requires room { length self.old + length (content_text bytes.now) ≤ N }
         ensures { self.new ≡ self.old ++ content_text bytes.now }
     {
         if is_one_byte(bytes) {
@@ -134,7 +143,7 @@ impl LineBuf {
 
     /// Puts `fill` and a byte by its two digits.
     fn put_fill(&mut self, byte: u8)
-        requires { length self.old + 7 ≤ 1100 }
+        requires { length self.old + 7 ≤ N }
         ensures { self.new ≡ self.old ++ (codes "fill " ++ hex_byte byte) }
     {
         self.put("fill ");
@@ -144,7 +153,7 @@ impl LineBuf {
     /// Puts `hex` and each byte by its two digits.
     fn put_each(&mut self, bytes: &[u8])
         requires few { length bytes.now ≤ 512 }
-        requires room { length self.old + 4 + 2 * length bytes.now ≤ 1100 }
+        requires room { length self.old + 4 + 2 * length bytes.now ≤ N }
         ensures { self.new ≡ self.old ++ (codes "hex " ++ flat_map hex_byte bytes.now) }
     {
         let mut digits = [0; 1024];
@@ -155,7 +164,7 @@ impl LineBuf {
     /// Puts two digits for each byte. `digits` is room for them.
     fn put_hex(&mut self, bytes: &[u8], digits: &mut [u8])
         requires digits { length digits.old ≡ 2 * length bytes.now }
-        requires room { length self.old + 2 * length bytes.now ≤ 1100 }
+        requires room { length self.old + 2 * length bytes.now ≤ N }
         ensures { self.new ≡ self.old ++ flat_map hex_byte bytes.now }
     {
         hex::encode_to_slice(bytes, digits).unwrap();

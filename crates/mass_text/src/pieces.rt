@@ -1,5 +1,5 @@
-ghost use Rattle.std.specs.Prelude.{◌≡◌, ◌∷◌, [], MatchOption, IfNone, IfSome, position, not};
-ghost use Rattle.mass_text.specs.Pieces.{is_blank, pieces};
+ghost use Rattle.std.specs.Prelude.{◌≡◌, ◌∷◌, [], true, false, MatchOption, IfNone, IfSome, drop, position, not};
+ghost use Rattle.mass_text.specs.Pieces.{begins, is_blank, pieces};
 
 use std::marker::Model;
 
@@ -63,5 +63,21 @@ impl<'a> Fields<'a> {
         let (field, rest) = first_piece(self.rest)?;
         self.rest = rest;
         Some(field)
+    }
+
+    /// Takes the next field if it is this word, and tells whether it is.
+    pub fn next_if(&mut self, word: &[u8]) -> bool
+        ensures is { result ≡ begins word.now self.old }
+        ensures taken { result ≡ true → self.new ≡ drop 1 self.old }
+        ensures kept { result ≡ false → self.new ≡ self.old }
+    {
+        let Some((field, rest)) = first_piece(self.rest) else {
+            return false;
+        };
+        if field != word {
+            return false;
+        }
+        self.rest = rest;
+        true
     }
 }

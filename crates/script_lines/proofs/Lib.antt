@@ -1,9 +1,5 @@
 pub mod Results
 pub mod WordLaws
-pub mod AloneLaws
 pub mod FieldLaws
 pub mod KnownLaws
 pub mod PlacesLaws
-pub mod WholeLaws
-pub mod NoiseLaws
-pub mod TailLaws

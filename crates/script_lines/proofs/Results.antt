@@ -1,6 +1,5 @@
 -- Results of readings.
-use Rattle.std.proofs.Common.{◌≡◌, refl, sym, ap, Result, Ok, Err}
-use Rattle.std.specs.Prelude.{MatchResult}
+use Rattle.std.proofs.Common.{◌≡◌, refl, Result, Ok, Err}
 use Rattle.script_lines.specs.Fields.{and_then}
 
 pub same_Ok : {A E : Type 0} (x y : A) → ◌≡◌ {A = Result A E} (Ok x) (Ok y) → x ≡ y

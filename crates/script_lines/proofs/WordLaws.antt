@@ -5,10 +5,10 @@ use Rattle.std.specs.Option.{ok_or}
 use Rattle.std.specs.Str.{bytes_eq}
 use Rattle.std.proofs.lemmas.Slice.Eq.{bytes_eq-Decides}
 use Rattle.pack_geometry.specs.declared.DriveKind.{DriveKind}
-use Rattle.pack_geometry.specs.declared.DriveKind.TheVariants.{Rp06, Rm03, Rm05}
+use Rattle.pack_geometry.specs.declared.DriveKind.TheVariants.{Rp06}
 use Rattle.pack_geometry.specs.Geometry.{kind_word}
 use Rattle.partitions.specs.declared.Part.{Part}
-use Rattle.partitions.specs.declared.Part.TheVariants.{A, B, C, D, E, F, G, H}
+use Rattle.partitions.specs.declared.Part.TheVariants.{A}
 use Rattle.partitions.specs.Partitions.{letter_of}
 use Rattle.script_lines.specs.declared.kinds.ScriptKind.TheVariants.{Word}
 use Rattle.script_lines.specs.Fields.{some_or, kind_field, part_field}

@@ -7,6 +7,5 @@ pub mod Knowing
 pub mod Known
 pub mod Places
 pub mod Renamed
-pub mod Struck
 pub use Rattle.trace_replay.specs.Script
 pub use Rattle.trace_replay.specs.Text

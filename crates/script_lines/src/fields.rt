@@ -1,21 +1,25 @@
-ghost use Rattle.std.specs.Prelude.{◌≡◌, ◌∷◌, [], ◌*◌, ◌≤◌, ◌<◌, IfOk, MatchResult};
+// Fields that are taken from the front of a line. Each function that takes one answers `Word` if there is none.
+ghost use Rattle.std.specs.Prelude.{◌≡◌, ◌∷◌, [], ◌*◌, ◌≤◌, ◌<◌, ℕ, List, IfOk, MatchResult};
 ghost use Rattle.std.specs.List.{list_all};
 ghost use Rattle.hex.specs.Hex.{is_hex_digit};
 ghost use Rattle.script_lines.specs.Fields.{number_field, count_field, byte_field, seq_field, digits_field, place_field};
+ghost use Rattle.script_lines.specs.Forms.{field, gives, mapped, next, Parses};
+ghost use Rattle.script_lines.specs.Renamed.{content_by};
 
 use crate::kinds::ScriptKind;
+use crate::statement::{Content, Span};
 use hex::FromHex;
 use mass_text::{Fields, NumberFault, Radix, number};
 
-/// Takes the next field. `Word` if there is none.
-pub fn need<'a>(fields: &mut Fields<'a>) -> Result<&'a [u8], ScriptKind>
+/// Takes the next field.
+pub(crate) fn need<'a>(fields: &mut Fields<'a>) -> Result<&'a [u8], ScriptKind>
     ensures { MatchResult result (λ text. fields.old ≡ text.now ∷ fields.new) (λ kind. (fields.old ≡ []) × (kind ≡ ScriptKind.Word)) }
 {
     fields.next().ok_or(ScriptKind::Word)
 }
 
 /// Reads a decimal number from `low` to `high`. `Number` otherwise.
-pub fn number_field(field: &[u8], low: u32, high: u32) -> Result<u32, ScriptKind>
+pub(crate) fn number_field(field: &[u8], low: u32, high: u32) -> Result<u32, ScriptKind>
     ensures value { result ≡ number_field low high field.now }
     ensures bound { IfOk result (λ n. n ≤ high) }
 {
@@ -25,32 +29,43 @@ pub fn number_field(field: &[u8], low: u32, high: u32) -> Result<u32, ScriptKind
     }
 }
 
-/// Reads a count of blocks, 1 to 127. `Count` for a number out of this range, and `Number` for a field that is no number.
-pub fn count_field(field: &[u8]) -> Result<u32, ScriptKind>
-    ensures value { result ≡ count_field field.now }
+/// Takes a decimal number from `low` to `high`. `Number` otherwise.
+#[tactic(auto, using(crate::proofs::FieldLaws::field_read))]
+pub(crate) fn next_number(fields: &mut Fields, low: u32, high: u32) -> Result<u32, ScriptKind>
+    ensures value { Parses (field (number_field low high)) fields.old result fields.new }
+    ensures bound { IfOk result (λ n. n ≤ high) }
+{
+    number_field(need(fields)?, low, high)
+}
+
+/// Takes a count of blocks, 1 to 127. `Count` for a number out of this range, and `Number` for a field that is no number.
+#[tactic(auto, using(crate::proofs::FieldLaws::field_read))]
+pub(crate) fn next_count(fields: &mut Fields) -> Result<u8, ScriptKind>
+    ensures value { Parses (field count_field) fields.old result fields.new }
     ensures bound { IfOk result (λ n. n ≤ 127) }
 {
-    match number(field, Radix::Decimal, 127) {
-        Ok(0) => Err(ScriptKind::Count),
-        Ok(count) => Ok(count as u32),
-        Err(NumberFault::Large) => Err(ScriptKind::Count),
+    match number(need(fields)?, Radix::Decimal, 127) {
+        Ok(0) | Err(NumberFault::Large) => Err(ScriptKind::Count),
+        Ok(count) => Ok(count as u8),
         Err(_) => Err(ScriptKind::Number),
     }
 }
 
-/// Reads a byte, as two hexadecimal digits. `Data` otherwise.
-pub fn byte_field(field: &[u8]) -> Result<u8, ScriptKind>
-    ensures { result ≡ byte_field field.now }
+/// Takes a byte, as two hexadecimal digits. `Data` otherwise.
+#[tactic(auto, using(crate::proofs::FieldLaws::field_read))]
+pub(crate) fn next_byte(fields: &mut Fields) -> Result<u8, ScriptKind>
+    ensures { Parses (field byte_field) fields.old result fields.new }
 {
-    let [byte] = <[u8; 1]>::from_hex(field).map_err(|_| ScriptKind::Data)?;
+    let [byte] = <[u8; 1]>::from_hex(need(fields)?).map_err(|_| ScriptKind::Data)?;
     Ok(byte)
 }
 
-/// Reads the start of a sequence, 0 to 255 in decimal. `Data` otherwise.
-pub fn seq_field(field: &[u8]) -> Result<u8, ScriptKind>
-    ensures { result ≡ seq_field field.now }
+/// Takes the start of a sequence, 0 to 255 in decimal. `Data` otherwise.
+#[tactic(auto, using(crate::proofs::FieldLaws::field_read))]
+pub(crate) fn next_seq(fields: &mut Fields) -> Result<u8, ScriptKind>
+    ensures { Parses (field seq_field) fields.old result fields.new }
 {
-    let value = number(field, Radix::Decimal, 255).map_err(|_| ScriptKind::Data)?;
+    let value = number(need(fields)?, Radix::Decimal, 255).map_err(|_| ScriptKind::Data)?;
     Ok(value as u8)
 }
 
@@ -61,23 +76,27 @@ fn are_digits(field: &[u8]) -> bool
     field.iter().all(|byte| byte.is_ascii_hexdigit())
 }
 
-/// Checks that a field is 1,024 hexadecimal digits for each of `count` blocks. `Data` otherwise.
-pub fn check_digits(count: u32, field: &[u8]) -> Result<(), ScriptKind>
-    requires { count ≤ 127 }
-    ensures { MatchResult result (λ _. digits_field count field.now ≡ Ok field.now) (λ kind. digits_field count field.now ≡ Err kind) }
+/// Takes 1,024 hexadecimal digits for each of `count` blocks, on the line at `span`. `Data` otherwise.
+pub(crate) fn next_digits(
+    count: u8,
+    span: Span,
+    fields: &mut Fields,
+) -> Result<Content<Span>, ScriptKind>
+    ensures { Parses (mapped (content_by {C = List ℕ} (λ _. span)) (next (field (digits_field count)) (λ digits. gives (Content.Hex digits)))) fields.old result fields.new }
 {
-    if field.len() != 1024 * count as usize {
+    let text = need(fields)?;
+    if text.len() != 1024 * usize::from(count) {
         return Err(ScriptKind::Data);
     }
-    if are_digits(field) {
-        Ok(())
+    if are_digits(text) {
+        Ok(Content::Hex(span))
     } else {
         Err(ScriptKind::Data)
     }
 }
 
 /// Reads a place of noise, 0 to 4127 in decimal. `Bits` otherwise.
-pub fn place_field(field: &[u8]) -> Result<u16, ScriptKind>
+pub(crate) fn place_field(field: &[u8]) -> Result<u16, ScriptKind>
     ensures value { result ≡ place_field field.now }
     ensures bound { IfOk result (λ place. place ≤ 4127) }
 {

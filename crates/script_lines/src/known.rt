@@ -1,10 +1,13 @@
 ghost use Rattle.std.specs.Prelude.{◌≡◌, ◌<◌, ◌≤◌, ◌+◌, ◌==◌, ◌||◌, ℕ, true, false, if◌then◌else◌, OnOk};
 ghost use Rattle.script_lines.specs.Known.{new_unit_field, unit_field, id_field, is_full};
 ghost use Rattle.script_lines.specs.Fields.{number_field};
+ghost use Rattle.script_lines.specs.Forms.{field, Parses};
 ghost use Rattle.script_lines.specs.Knowing.{known_in, Learns};
 
+use crate::fields::{need, number_field};
 use crate::statement::Statement;
-use crate::{ScriptKind, Verb, number_field};
+use crate::{ScriptKind, Verb};
+use mass_text::Fields;
 use pack_geometry::DriveKind;
 use std::alloc::{AllocFailed, Global};
 use std::collections::BTreeSet;
@@ -81,22 +84,24 @@ impl Known {
         self.kinds[usize::from(unit)]
     }
 
-    /// The number of a unit that was not declared.
-    pub(crate) fn new_unit_field(&self, field: &[u8]) -> Result<u8, ScriptKind>
-        ensures { result ≡ new_unit_field (known_in self.now) field.now }
+    /// Takes the number of a unit that was not declared.
+    #[tactic(auto, using(crate::proofs::FieldLaws::field_read))]
+    pub(crate) fn new_unit(&self, fields: &mut Fields) -> Result<u8, ScriptKind>
+        ensures { Parses (field (new_unit_field (known_in self.now))) fields.old result fields.new }
     {
-        let unit = unit_number(field)?;
+        let unit = unit_number(need(fields)?)?;
         match self.kind(unit) {
             Some(_) => Err(ScriptKind::UnitTwice),
             None => Ok(unit),
         }
     }
 
-    /// The number of a unit that was declared, and its kind.
-    pub(crate) fn unit_field(&self, field: &[u8]) -> Result<(u8, DriveKind), ScriptKind>
-        ensures { result ≡ unit_field (known_in self.now) field.now }
+    /// Takes the number of a unit that was declared, and gives its kind too.
+    #[tactic(auto, using(crate::proofs::FieldLaws::field_read))]
+    pub(crate) fn old_unit(&self, fields: &mut Fields) -> Result<(u8, DriveKind), ScriptKind>
+        ensures { Parses (field (unit_field (known_in self.now))) fields.old result fields.new }
     {
-        let unit = unit_number(field)?;
+        let unit = unit_number(need(fields)?)?;
         match self.kind(unit) {
             Some(kind) => Ok((unit, kind)),
             None => Err(ScriptKind::UnitUnknown),
@@ -111,11 +116,12 @@ impl Known {
         (self.low <= number && number < self.next) || self.ids.contains(&id)
     }
 
-    /// An id that was not used.
-    pub(crate) fn id_field(&self, field: &[u8]) -> Result<u32, ScriptKind>
-        ensures { result ≡ id_field (known_in self.now) field.now }
+    /// Takes an id that was not used.
+    #[tactic(auto, using(crate::proofs::FieldLaws::field_read))]
+    pub(crate) fn new_id(&self, fields: &mut Fields) -> Result<u32, ScriptKind>
+        ensures { Parses (field (id_field (known_in self.now))) fields.old result fields.new }
     {
-        match number_field(field, 0, u32::MAX) {
+        match number_field(need(fields)?, 0, u32::MAX) {
             Ok(id) if self.is_used(id) => Err(ScriptKind::IdTwice),
             result => result,
         }
@@ -183,8 +189,9 @@ impl Known {
                 self.learn_unit(*unit, *kind);
                 Ok(())
             }
-            Statement::Read { request } => self.learn_request(request.id),
-            Statement::Write { request, .. } => self.learn_request(request.id),
+            Statement::Read { request } | Statement::Write { request, .. } => {
+                self.learn_request(request.id)
+            }
             Statement::Noise { .. } => {
                 self.noises += 1;
                 self.later = true;

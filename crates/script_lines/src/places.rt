@@ -3,7 +3,8 @@ ghost use Rattle.script_lines.specs.Fields.{and_then};
 ghost use Rattle.script_lines.specs.Places.{ahead};
 ghost use Rattle.script_lines.specs.Forms.{noise_or, places_form, Parses};
 
-use crate::{ScriptKind, place_field};
+use crate::ScriptKind;
+use crate::fields::place_field;
 use arrayvec::ArrayVec;
 use fire_code::Noise;
 use mass_text::Fields;

@@ -2,13 +2,16 @@ ghost use Rattle.std.specs.Prelude.{◌≡◌};
 ghost use Rattle.std.specs.Str.{bytes_eq};
 ghost use Rattle.script_lines.specs.Fields.{some_or, kind_field, part_field, offset_field, fault_field};
 ghost use Rattle.script_lines.specs.Dialects.{cached_word, cached_verbs, word_of, verbs_of};
+ghost use Rattle.script_lines.specs.Forms.{field, Parses};
 ghost use Rattle.script_lines.specs.Words.{named, verb_word, event_verbs, first_verbs, later_verbs, offsets, faults};
 ghost use Rattle.trace_replay.specs.Text.{offset_word, fault_word};
 
 use crate::dialect::Dialect;
+use crate::fields::need;
 use crate::kinds::ScriptKind;
 use crate::verbs::Verb;
 use drive_registers::OffsetCode;
+use mass_text::Fields;
 use pack_geometry::{DriveKind, kind_of};
 use partitions::{Part, part_of};
 use trace_replay::FaultKind;
@@ -104,11 +107,11 @@ pub fn verb(dialect: Dialect, word: &[u8]) -> Result<Verb, ScriptKind>
     verb.ok_or(ScriptKind::Word)
 }
 
-/// Reads a kind of drive. `Word` if the field names none.
-pub fn kind_field(word: &[u8]) -> Result<DriveKind, ScriptKind>
-    ensures { result ≡ kind_field word.now }
+/// Takes a kind of drive. `Word` if the field names none.
+pub(crate) fn next_kind(fields: &mut Fields) -> Result<DriveKind, ScriptKind>
+    ensures { Parses (field kind_field) fields.old result fields.new }
 {
-    kind_of(word).ok_or(ScriptKind::Word)
+    kind_of(need(fields)?).ok_or(ScriptKind::Word)
 }
 
 /// Reads a partition's letter. `Word` if the field names none.
@@ -119,6 +122,14 @@ pub fn part_field(word: &[u8]) -> Result<Part, ScriptKind>
         return Err(ScriptKind::Word);
     }
     part_of(word[0]).ok_or(ScriptKind::Word)
+}
+
+/// Takes a partition's letter, as `part_field` reads it.
+#[tactic(auto, using(crate::proofs::FieldLaws::field_read))]
+pub(crate) fn next_part(fields: &mut Fields) -> Result<Part, ScriptKind>
+    ensures { Parses (field part_field) fields.old result fields.new }
+{
+    part_field(need(fields)?)
 }
 
 /// The offset of the heads that a word names. None if it names none.
@@ -161,16 +172,18 @@ pub fn fault_in(word: &[u8]) -> Option<FaultKind>
     }
 }
 
-/// Reads an offset of the heads. `Word` if the field names none.
-pub fn offset_field(word: &[u8]) -> Result<OffsetCode, ScriptKind>
-    ensures { result ≡ offset_field word.now }
+/// Takes an offset of the heads. `Word` if the field names none.
+#[tactic(auto, using(crate::proofs::FieldLaws::field_read))]
+pub(crate) fn next_offset(fields: &mut Fields) -> Result<OffsetCode, ScriptKind>
+    ensures { Parses (field offset_field) fields.old result fields.new }
 {
-    offset_in(word).ok_or(ScriptKind::Word)
+    offset_in(need(fields)?).ok_or(ScriptKind::Word)
 }
 
-/// Reads a kind of fault. `Word` if the field names none.
-pub fn fault_field(word: &[u8]) -> Result<FaultKind, ScriptKind>
-    ensures { result ≡ fault_field word.now }
+/// Takes a kind of fault. `Word` if the field names none.
+#[tactic(auto, using(crate::proofs::FieldLaws::field_read))]
+pub(crate) fn next_fault(fields: &mut Fields) -> Result<FaultKind, ScriptKind>
+    ensures { Parses (field fault_field) fields.old result fields.new }
 {
-    fault_in(word).ok_or(ScriptKind::Word)
+    fault_in(need(fields)?).ok_or(ScriptKind::Word)
 }

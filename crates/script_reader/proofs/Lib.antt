@@ -1,7 +1,7 @@
 pub mod BackLaws
+pub mod EntryLaws
 pub mod CarriesLaws
 pub mod DataLaws
-pub mod EntryLaws
 pub mod FormLaws
 pub mod LineLaws
 pub mod ReaderLaws

@@ -3,17 +3,16 @@ ghost use Rattle.std.specs.Option.{option_map};
 ghost use Rattle.script_lines.specs.declared.kinds.ScriptKind.{ScriptKind};
 ghost use Rattle.script_lines.specs.declared.dialect.Dialect.{Dialect};
 ghost use Rattle.script_reader.specs.Data.{IsData};
-ghost use Rattle.script_lines.specs.Fields.{and_then, changed};
+ghost use Rattle.script_lines.specs.Fields.{changed};
 ghost use Rattle.script_reader.specs.Grammar.{entry, line_says, Spells, IsRefused};
 ghost use Rattle.script_reader.specs.Formed.{AreWell, AreWellIn};
 ghost use Rattle.script_lines.specs.Known.{Said, Numbered, known_of};
-ghost use Rattle.script_lines.specs.Knowing.{known_in, Learns, LearnsFrom};
+ghost use Rattle.script_lines.specs.Knowing.{known_in, LearnsFrom};
 ghost use Rattle.script_reader.specs.Lines.{lines_of};
 ghost use Rattle.script_reader.specs.Printing.{text_of, numbered};
 ghost use Rattle.script_reader.specs.Reading.{reading, Finds, Refuses};
-ghost use Rattle.script_lines.specs.Struck.{Answers};
 ghost use Rattle.script_lines.specs.Renamed.{content_by, renamed, read_of};
-ghost use Rattle.script_reader.specs.Stored.{digits_at, seen, lines_in, StoresRead, Stores};
+ghost use Rattle.script_reader.specs.Stored.{digits_at, seen, lines_in, Stores};
 ghost use Rattle.script_lines.specs.Words.{all_verbs};
 ghost use Rattle.std.specs.Box.{box_value};
 
@@ -22,9 +21,7 @@ use crate::fault::ReadFault;
 use crate::lines::{first_piece, without_cr};
 use fire_code::Noise;
 use mass_text::Fields;
-use script_lines::{
-    Content, Dialect, Known, Line, LineFault, Read, ScriptKind, Span, Statement, said, verb,
-};
+use script_lines::{Content, Dialect, Known, Line, Read, ScriptKind, Span, Statement, said, verb};
 use std::alloc::Global;
 use std::marker::Model;
 
@@ -40,64 +37,54 @@ const LONGEST_LINE: usize = 140_000;
 /// A line as a script holds it. The digits of a write are named by the place of their line in the text.
 pub type Stored = Line<Span, Box<Noise>>;
 
-/// A statement, if one was read.
-fn some_read(read: Result<Read, LineFault>) -> Result<Option<Read>, LineFault>
-    ensures { result ≡ and_then read (λ r. Ok (Some r)) }
-{
-    match read {
-        Ok(read) => Ok(Some(read)),
-        Err(fault) => Err(fault),
-    }
-}
-
 /// What fields say, on the line at `span` of the text. None if there is no field.
 fn entry(
-    alloc: Global,
     dialect: Dialect,
     known: &Known,
     span: Span,
     fields: &mut Fields,
-) -> Result<Option<Read>, LineFault>
-    ensures { Answers result (changed (option_map (read_of span)) (entry dialect (known_in known.now) fields.old)) }
+) -> Result<Option<Read>, ScriptKind>
+    ensures { result ≡ changed (option_map (read_of span)) (entry dialect (known_in known.now) fields.old) }
 {
     match fields.next() {
-        Some(word) => match verb(dialect, word) {
-            Ok(verb) => some_read(said(alloc, dialect, known, verb, span, fields)),
-            Err(kind) => Err(LineFault::Kind(kind)),
-        },
+        Some(word) => {
+            let verb = verb(dialect, word)?;
+            let read = said(dialect, known, verb, span, fields)?;
+            Ok(Some(read))
+        }
         None => Ok(None),
     }
 }
 
 /// What line number `number` says, at `span` of the text. None if the line is passed over.
 fn line_says(
-    alloc: Global,
     dialect: Dialect,
     known: &Known,
     number: u32,
     span: Span,
     line: &[u8],
-) -> Result<Option<Read>, LineFault>
-    ensures value { Answers result (changed (option_map (read_of span)) (line_says dialect (known_in known.now) number line.now)) }
+) -> Result<Option<Read>, ScriptKind>
+    ensures value { result ≡ changed (option_map (read_of span)) (line_says dialect (known_in known.now) number line.now) }
     ensures number { OnOk result (number ≤ 1000000) }
 {
     if number > MOST_LINES {
-        return Err(LineFault::Kind(ScriptKind::TooMany));
+        return Err(ScriptKind::TooMany);
     }
     if line.len() > LONGEST_LINE {
-        return Err(LineFault::Kind(ScriptKind::LineLong));
+        return Err(ScriptKind::LineLong);
     }
     if !line.is_empty() && line[0] == b'#' {
         return Ok(None);
     }
-    entry(alloc, dialect, known, span, &mut Fields::new(line))
+    entry(dialect, known, span, &mut Fields::new(line))
 }
 
 /// A statement as a script holds it.
-fn kept(read: Read) -> Statement<Span, Box<Noise>>
-    ensures { renamed (λ span. span) box_value result ≡ read }
+fn kept(alloc: Global, read: Read) -> Result<Statement<Span, Box<Noise>>, ReadFault>
+    ensures ok { IfOk result (λ kept. renamed (λ span. span) box_value kept ≡ read) }
+    ensures err { IfErr result (λ fault. fault ≡ ReadFault.Memory) }
 {
-    match read {
+    Ok(match read {
         Statement::Unit { unit, kind } => Statement::Unit { unit, kind },
         Statement::Read { request } => Statement::Read { request },
         Statement::Write { request, content } => Statement::Write { request, content },
@@ -114,7 +101,7 @@ fn kept(read: Read) -> Statement<Span, Box<Noise>>
             unit,
             block,
             span,
-            places: places.into_noise(),
+            places: Box::new(alloc, places)?,
         },
         Statement::Fault { unit, what, times } => Statement::Fault { unit, what, times },
         Statement::Offline { unit } => Statement::Offline { unit },
@@ -122,47 +109,12 @@ fn kept(read: Read) -> Statement<Span, Box<Noise>>
         Statement::Lock { unit } => Statement::Lock { unit },
         Statement::Unlock { unit } => Statement::Unlock { unit },
         Statement::Drain => Statement::Drain,
-    }
+    })
 }
 
-/// Adds line number `number` after the others.
-fn put_behind(
-    number: u32,
-    statement: Statement<Span, Box<Noise>>,
-    lines: &mut Vec<Stored>,
-) -> Result<(), ReadFault>
-    ensures put { OnOk result (lines.new.items ≡ lines.old.items ++ record { number = number; statement = statement } ∷ []) }
-    ensures err { IfErr result (λ fault. fault ≡ ReadFault.Memory) }
-{
-    match lines.push(Line { number, statement }) {
-        Ok(()) => Ok(()),
-        Err(_) => Err(ReadFault::Memory),
-    }
-}
-
-/// Stores what was read of line number `number`.
+/// Stores what was read of line number `number` after the others, if it says something.
 fn store(
-    number: u32,
-    read: Read,
-    known: &mut Known,
-    lines: &mut Vec<Stored>,
-) -> Result<(), ReadFault>
-    requires requests { (known_in known.old).requests < 1000000 }
-    requires noises { (known_in known.old).noises < 1000000 }
-    ensures learns { OnOk result (Learns (known_in known.old) (known_in known.new) read) }
-    ensures stores { OnOk result (StoresRead number read lines.old.items lines.new.items) }
-    ensures requests { OnOk result ((known_in known.new).requests ≤ (known_in known.old).requests + 1) }
-    ensures noises { OnOk result ((known_in known.new).noises ≤ (known_in known.old).noises + 1) }
-    ensures err { IfErr result (λ fault. fault ≡ ReadFault.Memory) }
-{
-    match known.learn(&read) {
-        Ok(()) => put_behind(number, kept(read), lines),
-        Err(_) => Err(ReadFault::Memory),
-    }
-}
-
-/// Stores what was read of line number `number`, if it says something.
-fn store_some(
+    alloc: Global,
     number: u32,
     read: Option<Read>,
     known: &mut Known,
@@ -176,17 +128,13 @@ fn store_some(
     ensures noises { OnOk result ((known_in known.new).noises ≤ (known_in known.old).noises + 1) }
     ensures err { IfErr result (λ fault. fault ≡ ReadFault.Memory) }
 {
-    match read {
-        None => Ok(()),
-        Some(read) => store(number, read, known, lines),
-    }
-}
-
-/// The lines that were read, and the number of the line after the last one.
-#[derive(Drop)]
-struct Lines {
-    lines: Vec<Stored>,
-    next: u32,
+    let Some(read) = read else {
+        return Ok(());
+    };
+    known.learn(&read)?;
+    let statement = kept(alloc, read)?;
+    lines.push(Line { number, statement })?;
+    Ok(())
 }
 
 /// Reads the lines of a text behind nothing, and gives the number of the line behind the last.
@@ -214,35 +162,19 @@ fn read_into(
             start: start as u32,
             end: (start + line.len()) as u32,
         };
-        match line_says(alloc, dialect, known, number, span, line) {
-            Ok(read) => store_some(number, read, known, lines)?,
-            Err(LineFault::Kind(kind)) => {
+        match line_says(dialect, known, number, span, line) {
+            Ok(read) => store(alloc, number, read, known, lines)?,
+            Err(kind) => {
                 return Err(ReadFault::Refused {
                     line: u64::from(number),
                     kind,
                 });
             }
-            Err(LineFault::Memory) => return Err(ReadFault::Memory),
         }
         number += 1;
         rest = after;
     }
     Ok(number)
-}
-
-/// Reads the lines of a text.
-fn read_lines(alloc: Global, dialect: Dialect, text: &[u8]) -> Result<Lines, ReadFault>
-    requires { length text.now ≤ 16777216 }
-    ensures ok { IfOk result (λ read. reading dialect [] 1 (lines_of text.now) ≡ Ok (record { lines = map (seen text.now) read.lines.items; next = read.next })) }
-    ensures some { IfOk result (λ read. 0 < read.next) }
-    ensures err { IfErr result (λ fault. Finds fault (reading dialect [] 1 (lines_of text.now))) }
-{
-    let mut lines = Vec::new(alloc);
-    let mut known = Known::new(alloc);
-    match read_into(alloc, dialect, text, &mut known, &mut lines) {
-        Ok(next) => Ok(Lines { lines, next }),
-        Err(fault) => Err(fault),
-    }
 }
 
 /// A script: its text, those of its lines that say something, and the number of all its lines.
@@ -273,14 +205,14 @@ pub(crate) fn read_in(alloc: Global, dialect: Dialect, bytes: Vec<u8>) -> Result
             kind: ScriptKind::ScriptLong,
         });
     }
-    match read_lines(alloc, dialect, bytes.as_slice()) {
-        Ok(read) => Ok(Script {
-            text: bytes,
-            lines: read.lines,
-            count: read.next - 1,
-        }),
-        Err(fault) => Err(fault),
-    }
+    let mut known = Known::new(alloc);
+    let mut lines = Vec::new(alloc);
+    let next = read_into(alloc, dialect, bytes.as_slice(), &mut known, &mut lines)?;
+    Ok(Script {
+        text: bytes,
+        lines,
+        count: next - 1,
+    })
 }
 
 /// Reads a script from its bytes. It is refused exactly if the bytes spell no script. The refusal names the first fault: `ScriptLong`

@@ -2,4 +2,3 @@ pub mod Counting
 pub mod AnswerText
 pub mod Blocks
 pub mod Classes
-pub mod Laws

@@ -25,8 +25,11 @@ fn digits_law()
 
 /// Puts a space and a number.
 #[tactic(auto, unfolding(crate::specs::Deeds::in_front))]
-fn put_spaced(line: &mut CleanLine, value: u64)
-    requires { length (decimal value) + length line.old < 64 }
+pub(crate) fn put_spaced<const ROOM: usize, const END: usize>(
+    line: &mut FrontLine<ROOM, END>,
+    value: u64,
+)
+    requires { length (decimal value) + length line.old < END }
     ensures room { length line.new ≡ length (decimal value) + length line.old + 1 }
     ensures text { line.new ≡ in_front (decimal value ∷ []) line.old }
 {

@@ -3,7 +3,6 @@ use Rattle.std.specs.Prelude.{◌≡◌, ℕ, List, map}
 use Rattle.partitions.specs.declared.Part.TheVariants.{C}
 use Rattle.script_lines.specs.declared.dialect.Dialect.TheVariants.{Cached}
 use Rattle.script_lines.specs.declared.kinds.ScriptKind.{ScriptKind}
-use Rattle.script_lines.specs.declared.statement.Content.{Content}
 use Rattle.script_lines.specs.declared.statement.Content.TheVariants as contents
 use Rattle.script_lines.specs.declared.statement.Line.{Line as AnyLine}
 use Rattle.script_lines.specs.declared.statement.Request.{Request}
@@ -40,14 +39,10 @@ IsOfCache statement = (narrow : Statement) × (statement ≡ as_said narrow)
 abbrev pub asked_of : Request → Asked
 asked_of r = record { id = r.id; unit = r.unit; block = r.block; count = r.count }
 
-abbrev pub fill_of : {D : Type 0} → Content D → ℕ
-fill_of (contents.Fill b) = b
-fill_of content = 0
-
 abbrev pub narrowed : {D N : Type 0} → AnyStatement D N → Statement
 narrowed (any.Unit unit kind) = says.Unit unit kind
 narrowed (any.Read r) = says.Read (asked_of r)
-narrowed (any.Write r content) = says.Write (asked_of r) (fill_of content)
+narrowed (any.Write r (contents.Fill b)) = says.Write (asked_of r) b
 narrowed statement = says.Sync
 
 abbrev pub narrowed_line : {D N : Type 0} → AnyLine D N → Line

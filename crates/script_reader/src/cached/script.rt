@@ -2,7 +2,7 @@ ghost use Rattle.std.specs.Prelude.{◌≡◌, ◌⊎◌, ℕ, List, IfOk, IfErr
 ghost use Rattle.script_lines.specs.declared.kinds.ScriptKind.{ScriptKind};
 ghost use Rattle.script_reader.specs.declared.cached.statement.Line.{Line};
 ghost use Rattle.script_reader.specs.cached.Formed.{IsScript};
-ghost use Rattle.script_reader.specs.cached.Scripts.{asked_of, fill_of, narrowed, narrowed_line, Spells, IsRefused, Refuses};
+ghost use Rattle.script_reader.specs.cached.Scripts.{asked_of, narrowed, narrowed_line, Spells, IsRefused, Refuses};
 
 use crate::ReadFault;
 use crate::cached::kind::{CachedKind, CachedRefusal};
@@ -25,16 +25,6 @@ fn asked(request: &Request) -> Asked
     }
 }
 
-/// The byte that a write fills its blocks with. No other content comes.
-fn fill(content: &Content<Span>) -> u8
-    ensures { result ≡ fill_of content.now }
-{
-    match content {
-        Content::Fill(byte) => *byte,
-        _ => 0,
-    }
-}
-
 /// What a line of the cache says. None of the lines that are left comes, except a drain.
 fn narrowed(statement: &script_lines::Statement<Span, Box<Noise>>) -> Statement
     ensures { result ≡ narrowed statement.now }
@@ -47,9 +37,12 @@ fn narrowed(statement: &script_lines::Statement<Span, Box<Noise>>) -> Statement
         script_lines::Statement::Read { request } => Statement::Read {
             asked: asked(request),
         },
-        script_lines::Statement::Write { request, content } => Statement::Write {
+        script_lines::Statement::Write {
+            request,
+            content: Content::Fill(fill),
+        } => Statement::Write {
             asked: asked(request),
-            fill: fill(content),
+            fill: *fill,
         },
         _ => Statement::Sync,
     }

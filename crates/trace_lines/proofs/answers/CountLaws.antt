@@ -1,12 +1,9 @@
 -- What is counted piece by piece is counted as a whole.
-use Rattle.std.proofs.Common.{◌≡◌, ℕ, ◌+◌, ◌-◌, ◌%◌, ◌^◌, List, [], ◌∷◌, ◌++◌, length, sum, count_by, refl, sym, subst, ap, ◌∙◌, arith, append-nil, append_assoc, length-append}
-use Rattle.std.specs.Prelude.{if◌then◌else◌, min}
-use Rattle.std.proofs.Math.Nat.{mod-add-mod}
-use Rattle.std.proofs.lemmas.List.Sums.{sum_by-append}
+use Rattle.std.proofs.Common.{◌≡◌, ℕ, List, [], ◌∷◌, ◌++◌, refl, sym, subst, ap, ◌∙◌, append-nil, append_assoc}
 use Rattle.std.proofs.lemmas.Grind.{flat_map-append}
 use Rattle.trace_replay.specs.Moments.{Moment, Answered, Told, End, answers_in}
 use Rattle.trace_lines.specs.answers.AnswerText.{said_text, out_text}
-use Rattle.trace_lines.specs.answers.Counting.{Counts, CountsAll, at_most, is_ok, tally_by}
+use Rattle.trace_lines.specs.answers.Counting.{Counts, CountsAll, tally_by}
 use Rattle.trace_lines.specs.declared.answers.tally.Tally.{Tally}
 
 -- nothing more is counted where the tally stays

@@ -29,7 +29,7 @@ fn put_word(text: &mut ShortLine, cause: &str, done: u32)
     text.put("error ");
     text.put(cause);
     text.put(" done ");
-    text.put_number(u64::from(done));
+    text.put_number(u64::from(done), Radix::Decimal);
 }
 
 /// Puts an error and how many blocks were done, `done` of them. A request that was refused has done none.

@@ -3,7 +3,7 @@ use Rattle.script_lines.specs.Fields.{and_then}
 use Rattle.script_lines.specs.Places.{ahead}
 use Rattle.script_lines.specs.Forms.{noise_or, places_form}
 use Rattle.script_lines.proofs.PlacesLaws.{ahead_start, start_fault}
-use Rattle.script_lines.proofs.WholeLaws.{parses_as}
+use Rattle.script_lines.proofs.FieldLaws.{parses_as}
 use Rattle.script_lines.proofs.places.places.Goals as goal
 
 pub returns-in-Ok : goal.returns-in-Ok

@@ -19,11 +19,11 @@ lines-preserved c =
     let span : Span = record { start = start; end = start + length line } in
     let so_far = c.lines.invariant in
     let split = c.first_piece.ensures in
-    let stored = c.in_ok-store_some-in-Ok.ensures in
+    let stored = c.in_ok-store-in-Ok.ensures in
     let front = c.without_cr-line.ensures.front in
     let goes =
-    gone c.args.dialect (known_in c.lines.known) (known_in c.store_some.new.known) text c.lines.lines.items c.store_some.new.lines.items c.lines.number span rest piece after line c.in-Ok.read
-    (reading c.args.dialect [] 1 (lines_of text)) so_far.same so_far.known split.line c.without_cr-line.ensures.value c.in-Ok.ensures.value
+    gone c.args.dialect (known_in c.lines.known) (known_in c.store.new.known) text c.lines.lines.items c.store.new.lines.items c.lines.number span rest piece after line c.in-Ok.read
+    (reading c.args.dialect [] 1 (lines_of text)) so_far.same so_far.known split.line c.without_cr-line.ensures.value (sym c.in-Ok.ensures.value)
     (there text rest piece line start so_far.place split.front front (front_short line piece front)) stored.learns stored.stores in
     let shorter : length after ≤ length rest = omega (arith, split.shorter) in record {
       same = goes.same;

@@ -1,4 +1,4 @@
-use Rattle.script_lines.proofs.cached.cached_line.Goals as goal
+use Rattle.script_lines.proofs.cached.cached_form.Goals as goal
 
 pub returns-in-Unit : goal.returns-in-Unit
 returns-in-Unit c = rw c.in-Unit.is (λ span. c.unit_line.ensures span)
