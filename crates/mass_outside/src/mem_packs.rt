@@ -26,18 +26,11 @@ pub struct FailCall {
     pub number: u64,
 }
 
-/// An operation's number.
-fn op_number(op: PackOp) -> u8
-    ensures { result ≡ op_number op }
-{
-    op as u8
-}
-
 /// Whether a call is the one that is to fail.
 fn is_call(call: &FailCall, op: PackOp, number: u64) -> bool
     ensures { result ≡ ((op_number call.now.op == op_number op) && (call.now.number == number)) }
 {
-    op_number(call.op) == op_number(op) && call.number == number
+    call.op as u8 == op as u8 && call.number == number
 }
 
 /// Whether a call is one that is to fail.
