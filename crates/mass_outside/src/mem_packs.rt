@@ -1,4 +1,4 @@
-ghost use Rattle.std.specs.Prelude.{◌≡◌, ◌<◌, ◌==◌, ◌&&◌, ◌||◌, IfOk, OnOk, OnErr, is_err, length, IsTrue};
+ghost use Rattle.std.specs.Prelude.{◌≡◌, ◌<◌, ◌==◌, ◌&&◌, ◌||◌, IfOk, OnOk, OnErr, is_err, length};
 ghost use Rattle.mass_outside.specs.Images.{op_number, is_listed, HoldsImages};
 ghost use Rattle.mass_outside.specs.Slots.{AllEmpty};
 ghost use Rattle.mass_outside.specs.Memory.{IsFresh};
@@ -26,24 +26,11 @@ pub struct FailCall {
     pub number: u64,
 }
 
-/// An operation's number.
-fn op_number(op: PackOp) -> u8
-    ensures { result ≡ op_number op }
-{
-    match op {
-        PackOp::Length => 0,
-        PackOp::Read => 1,
-        PackOp::Write => 2,
-        PackOp::Marked => 3,
-        PackOp::SetMark => 4,
-    }
-}
-
 /// Whether a call is the one that is to fail.
 fn is_call(call: &FailCall, op: PackOp, number: u64) -> bool
     ensures { result ≡ ((op_number call.now.op == op_number op) && (call.now.number == number)) }
 {
-    op_number(call.op) == op_number(op) && call.number == number
+    call.op as u8 == op as u8 && call.number == number
 }
 
 /// Whether a call is one that is to fail.
@@ -242,7 +229,6 @@ impl Packs for MemPacks {
 
     fn length(&mut self, unit: u8) -> Result<u64, StoreFailed>
         requires { unit < 32 }
-        ensures never_again { IsTrue true → IsTrue true }
         ensures length { IfOk result (λ n. n ≡ length (held_by self.old unit).image) }
         ensures same { held_by self.new ≡ held_by self.old }
         ensures cause { HasCause self.old.faults self.new.faults result }
@@ -260,7 +246,6 @@ impl Packs for MemPacks {
 
     fn read(&mut self, unit: u8, block: u32, into: &mut [u8; 512]) -> Result<(), StoreFailed>
         requires { unit < 32 }
-        ensures never_again { IsTrue true → IsTrue true }
         ensures block { OnOk result (into.new ≡ block_at (held_by self.old unit).image block) }
         ensures same { held_by self.new ≡ held_by self.old }
         ensures cause { HasCause self.old.faults self.new.faults result }
@@ -279,7 +264,6 @@ impl Packs for MemPacks {
 
     fn write(&mut self, unit: u8, block: u32, from: &[u8; 512]) -> Result<(), StoreFailed>
         requires { unit < 32 }
-        ensures never_again { IsTrue true → IsTrue true }
         ensures ok { OnOk result (held_by self.new ≡ with_written (held_by self.old) unit block from.now) }
         ensures err { OnErr result (held_by self.new ≡ held_by self.old) }
         ensures cause { HasCause self.old.faults self.new.faults result }
@@ -301,7 +285,6 @@ impl Packs for MemPacks {
 
     fn marked(&mut self, unit: u8, block: u32) -> Result<bool, StoreFailed>
         requires { unit < 32 }
-        ensures never_again { IsTrue true → IsTrue true }
         ensures mark { IfOk result (λ on. on ≡ is_marked (held_by self.old unit) block) }
         ensures same { held_by self.new ≡ held_by self.old }
         ensures cause { HasCause self.old.faults self.new.faults result }
@@ -319,7 +302,6 @@ impl Packs for MemPacks {
 
     fn set_mark(&mut self, unit: u8, block: u32, on: bool) -> Result<(), StoreFailed>
         requires { unit < 32 }
-        ensures never_again { IsTrue true → IsTrue true }
         ensures ok { OnOk result (held_by self.new ≡ with_mark (held_by self.old) unit block on) }
         ensures err { OnErr result (held_by self.new ≡ held_by self.old) }
         ensures cause { HasCause self.old.faults self.new.faults result }

@@ -45,7 +45,7 @@ impl MemSource {
 }
 
 impl Source for MemSource {
-    ghost use Rattle.std.specs.Prelude.{true, ◌<◌, ◌==◌, ◌++◌, IsTrue, OnErr, is_err};
+    ghost use Rattle.std.specs.Prelude.{true, ◌<◌, ◌==◌, ◌++◌, OnErr, is_err};
     ghost use Rattle.std.specs.List.{list_any};
     ghost use Rattle.outside_traits.specs.Causes.{HasCause, next};
     ghost use Rattle.mass_outside.specs.Streams.{left_of};
@@ -58,7 +58,6 @@ impl Source for MemSource {
 
     fn read(&mut self, into: &mut [u8]) -> Result<usize, SourceFailed>
         ensures bound { IfOk result (λ n. n ≤ length into.old) }
-        ensures never_again { IsTrue true → IsTrue true }
         ensures bytes { IfOk result (λ n. left_of self.old ≡ take n into.new ++ left_of self.new) }
         ensures end { IfOk result (λ n. n ≡ 0 → 0 < length into.old → left_of self.new ≡ []) }
         ensures err { OnErr result (left_of self.new ≡ left_of self.old) }
@@ -123,7 +122,7 @@ impl MemSink {
 }
 
 impl Sink for MemSink {
-    ghost use Rattle.std.specs.Prelude.{true, ◌<◌, ◌==◌, ◌||◌, ◌++◌, IsTrue, OnErr, is_err, nat_lt};
+    ghost use Rattle.std.specs.Prelude.{true, ◌<◌, ◌==◌, ◌||◌, ◌++◌, OnErr, is_err, nat_lt};
     ghost use Rattle.std.specs.List.{list_any};
     ghost use Rattle.outside_traits.specs.Causes.{HasCause, next};
     ghost use Rattle.mass_outside.specs.Streams.{taken_of};
@@ -137,7 +136,6 @@ impl Sink for MemSink {
     fn write(&mut self, from: &[u8]) -> Result<usize, SinkFailed>
         ensures bound { IfOk result (λ n. n ≤ length from.now) }
         ensures some { IfOk result (λ n. 0 < length from.now → 0 < n) }
-        ensures never_again { IsTrue true → IsTrue true }
         ensures bytes { IfOk result (λ n. taken_of self.new ≡ taken_of self.old ++ take n from.now) }
         ensures err { OnErr result (taken_of self.new ≡ taken_of self.old) }
         ensures cause { HasCause self.old.faults self.new.faults result }
@@ -179,7 +177,7 @@ impl SureSource {
 }
 
 impl Source for SureSource {
-    ghost use Rattle.std.specs.Prelude.{true, ◌<◌, ◌++◌, IsTrue, IsOk, OnErr};
+    ghost use Rattle.std.specs.Prelude.{true, ◌<◌, ◌++◌, IsOk, OnErr};
     ghost use Rattle.outside_traits.specs.Causes.{HasCause};
     ghost use Rattle.mass_outside.specs.Streams.{sure_left};
 
@@ -191,7 +189,6 @@ impl Source for SureSource {
 
     fn read(&mut self, into: &mut [u8]) -> Result<usize, SourceFailed>
         ensures bound { IfOk result (λ n. n ≤ length into.old) }
-        ensures never_again { IsTrue true → IsTrue true }
         ensures bytes { IfOk result (λ n. sure_left self.old ≡ take n into.new ++ sure_left self.new) }
         ensures end { IfOk result (λ n. n ≡ 0 → 0 < length into.old → sure_left self.new ≡ []) }
         ensures err { OnErr result (sure_left self.new ≡ sure_left self.old) }
@@ -221,7 +218,7 @@ impl SureSink {
 }
 
 impl Sink for SureSink {
-    ghost use Rattle.std.specs.Prelude.{true, false, ◌<◌, ◌++◌, IsTrue, IsOk, OnErr};
+    ghost use Rattle.std.specs.Prelude.{false, ◌<◌, ◌++◌, IsTrue, IsOk, OnErr};
     ghost use Rattle.outside_traits.specs.Causes.{HasCause};
     ghost use Rattle.mass_outside.specs.Streams.{none_kept};
 
@@ -234,7 +231,6 @@ impl Sink for SureSink {
     fn write(&mut self, from: &[u8]) -> Result<usize, SinkFailed>
         ensures bound { IfOk result (λ n. n ≤ length from.now) }
         ensures some { IfOk result (λ n. 0 < length from.now → 0 < n) }
-        ensures never_again { IsTrue false → IsTrue false }
         ensures bytes { IfOk result (λ n. IsTrue false → none_kept self.new ≡ none_kept self.old ++ take n from.now) }
         ensures err { OnErr result (IsTrue false → none_kept self.new ≡ none_kept self.old) }
         ensures cause { HasCause 0 0 result }

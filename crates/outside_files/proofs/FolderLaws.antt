@@ -12,9 +12,10 @@ use Rattle.std.proofs.Math.Seq.{take-add, take-append-add}
 use Rattle.outside_traits.proofs.TakenLaws.{rest_whole}
 use Rattle.pack_geometry.specs.Pack.{Pack, grown, window, with_window, with_pack, with_block, with_written}
 use Rattle.pack_geometry.proofs.PackLaws.{length-grown, get_or-window, get_or-with_window_here, get_or-with_window_before, get_or-with_window_after}
-use Rattle.outside_files.specs.Folder.{file_number, file_of, with_file, put_at, with_put, IsFilled, IsTorn}
-use Rattle.outside_files.specs.declared.folder.Part.{Part}
-use Rattle.outside_files.specs.declared.folder.Part.TheVariants.{Image, Marks}
+use Rattle.outside_traits.specs.Files.{file_of}
+use Rattle.outside_files.specs.Folder.{file_number, with_file, put_at, with_put, IsFilled, IsTorn}
+use Rattle.outside_traits.specs.declared.wide_packs.Part.{Part}
+use Rattle.outside_traits.specs.declared.wide_packs.Part.TheVariants.{Image, Marks}
 use borrow.Rule.Slice.PartMut.{put_mid, post_of}
 
 -- a part behind a front, written anew, and a front of the part

@@ -2,13 +2,9 @@
 use Rattle.std.specs.Prelude.{◌≡◌, ℕ, Bool, IsTrue, ◌+◌, ◌*◌, ◌&&◌, not, ◌<◌, ◌≤◌, take, drop, length, List, [], ◌∷◌, ◌++◌, codes}
 use Rattle.std.specs.Fmt.{decimal}
 use Rattle.pack_geometry.specs.Pack.{Pack, with_pack, with_window}
-use Rattle.outside_files.specs.declared.folder.Part.{Part}
-use Rattle.outside_files.specs.declared.folder.Part.TheVariants.{Image, Marks}
-
--- the bytes of one of the two files
-abbrev pub file_of : Pack → Part → List ℕ
-file_of pack Image = pack.image
-file_of pack Marks = pack.marks
+use Rattle.outside_traits.specs.declared.wide_packs.Part.{Part}
+use Rattle.outside_traits.specs.declared.wide_packs.Part.TheVariants.{Image, Marks}
+use Rattle.outside_traits.specs.Files.{file_of}
 
 -- a pack with other bytes in one of its files
 abbrev pub with_file : Pack → Part → List ℕ → Pack

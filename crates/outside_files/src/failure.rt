@@ -39,8 +39,7 @@ pub struct Failures<W> {
 impl<W: Copy> Failures<W> {
     /// No call has failed.
     pub fn new() -> Failures<W>
-        ensures count { result.count ≡ 0 }
-        ensures first { result.first ≡ None }
+        ensures { result ≡ record { count = 0; first = None } }
     {
         Failures {
             count: 0,
@@ -105,10 +104,7 @@ pub struct SinkNotes {
 impl PackNotes {
     /// The notes of packs on which nothing was written and nothing failed.
     pub fn new() -> PackNotes
-        ensures count { result.failures.count ≡ 0 }
-        ensures first { result.failures.first ≡ None }
-        ensures written { result.written ≡ 0 }
-        ensures last { result.last ≡ 0 }
+        ensures { result ≡ record { failures = record { count = 0; first = None }; written = 0; last = 0 } }
     {
         PackNotes {
             failures: Failures::new(),
@@ -133,10 +129,7 @@ impl PackNotes {
 
 impl SourceNotes {
     pub(crate) fn new() -> SourceNotes
-        ensures count { result.failures.count ≡ 0 }
-        ensures first { result.failures.first ≡ None }
-        ensures given { result.given ≡ 0 }
-        ensures kept { result.kept ≡ None }
+        ensures { result ≡ record { failures = record { count = 0; first = None }; given = 0; kept = None } }
     {
         SourceNotes {
             failures: Failures::new(),

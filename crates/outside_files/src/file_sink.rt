@@ -40,13 +40,6 @@ impl<'a, R: Files> FileSink<'a, R> {
         self.failures.first
     }
 
-    /// The name of the file.
-    pub fn name(&self) -> &str
-        ensures { result.now ≡ self.now.name.now }
-    {
-        self.name
-    }
-
     fn try_write(&mut self, from: &[u8]) -> io::Result<usize>
         ensures bound { IfOk result (λ n. n ≤ length from.now) }
         ensures name { self.new.name.now ≡ self.old.name.now }

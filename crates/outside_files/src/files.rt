@@ -3,31 +3,18 @@ ghost use Rattle.pack_geometry.specs.Pack.{window, block_at, is_marked, with_wri
 ghost use Rattle.outside_traits.specs.Causes.{HasCause, Counts};
 ghost use Rattle.outside_traits.specs.declared.traits.PackCall.TheVariants.{Length, Block};
 ghost use Rattle.outside_files.specs.Folder.{with_put, IsTorn, tells_whole};
-ghost use Rattle.outside_files.specs.declared.folder.Part.TheVariants.{Image};
+ghost use Rattle.outside_traits.specs.Files.{file_of};
+ghost use Rattle.outside_traits.specs.declared.wide_packs.Part.TheVariants.{Image};
 
 use crate::failure::{Deed, FileCall, PackNotes};
 use crate::folder::{PackFolder, Part};
 use crate::os_folder::OsFolder;
 use crate::transfers::{length_of, read_window, write_front};
 use outside_traits::traits::{PackCall, Packs, StoreFailed};
-use outside_traits::wide_packs::WidePacks;
+use outside_traits::wide_packs::{WidePacks, is_mark, place_in_image};
 use std::io;
 use std::os::unix::fs::FileExt;
 use std::rt::Files;
-
-/// The place of a block in an image, in bytes.
-fn place_in_image(block: u32) -> u64
-    ensures { result ≡ 512 * block }
-{
-    512 * u64::from(block)
-}
-
-/// Whether a mark byte marks its block: any byte but 0 does.
-fn is_mark(byte: u8) -> bool
-    ensures { result ≡ not (byte == 0) }
-{
-    byte != 0
-}
 
 /// The mark byte that is written: 1 for a marked block, 0 for a good one.
 fn mark_byte(on: bool) -> u8
@@ -233,33 +220,23 @@ impl<F: PackFolder> Packs for FilePacks<F> {
 }
 
 impl<F: PackFolder> WidePacks for FilePacks<F> {
-    fn read_blocks(&mut self, unit: u8, block: u32, into: &mut [u8]) -> Result<(), StoreFailed>
+    fn read_part(
+        &mut self,
+        unit: u8,
+        part: Part,
+        at: u64,
+        into: &mut [u8],
+    ) -> Result<(), StoreFailed>
         requires { unit < 32 }
         ensures never_again { IsTrue (tells_whole (F.tells self.new.folder) self.new.torn) → IsTrue (tells_whole (F.tells self.old.folder) self.old.torn) }
-        ensures bytes { OnOk result (IsTrue (tells_whole (F.tells self.new.folder) self.new.torn) → into.new ≡ window (length into.old) (512 * block) (F.held self.old.folder unit).image) }
+        ensures bytes { OnOk result (IsTrue (tells_whole (F.tells self.new.folder) self.new.torn) → into.new ≡ window (length into.old) at (file_of (F.held self.old.folder unit) part)) }
         ensures same { IsTrue (tells_whole (F.tells self.new.folder) self.new.torn) → F.held self.new.folder ≡ F.held self.old.folder }
         ensures cause { HasCause self.old.notes.failures.count self.new.notes.failures.count result }
         ensures counted { Counts result self.old.notes.failures.count self.new.notes.failures.count }
         ensures torn { self.new.torn ≡ self.old.torn }
     {
-        let place = place_in_image(block);
-        let read = read_window(&mut self.folder, unit, Part::Image, place, into);
-        let call = tried(&self.folder, Deed::Read, unit, Part::Image);
-        self.notes.failures.counted(read, call, StoreFailed)
-    }
-
-    fn read_marks(&mut self, unit: u8, block: u32, into: &mut [u8]) -> Result<(), StoreFailed>
-        requires { unit < 32 }
-        ensures never_again { IsTrue (tells_whole (F.tells self.new.folder) self.new.torn) → IsTrue (tells_whole (F.tells self.old.folder) self.old.torn) }
-        ensures bytes { OnOk result (IsTrue (tells_whole (F.tells self.new.folder) self.new.torn) → into.new ≡ window (length into.old) block (F.held self.old.folder unit).marks) }
-        ensures same { IsTrue (tells_whole (F.tells self.new.folder) self.new.torn) → F.held self.new.folder ≡ F.held self.old.folder }
-        ensures cause { HasCause self.old.notes.failures.count self.new.notes.failures.count result }
-        ensures counted { Counts result self.old.notes.failures.count self.new.notes.failures.count }
-        ensures torn { self.new.torn ≡ self.old.torn }
-    {
-        let place = u64::from(block);
-        let read = read_window(&mut self.folder, unit, Part::Marks, place, into);
-        let call = tried(&self.folder, Deed::Read, unit, Part::Marks);
+        let read = read_window(&mut self.folder, unit, part, at, into);
+        let call = tried(&self.folder, Deed::Read, unit, part);
         self.notes.failures.counted(read, call, StoreFailed)
     }
 }

@@ -1,38 +1,26 @@
 ghost use Rattle.std.specs.Prelude.{◌≡◌, ℕ, ◌<◌, ◌≤◌, Bool, IsTrue, take, drop, length, IfOk, OnErr, string_bytes};
 ghost use Rattle.pack_geometry.specs.Pack.{Pack};
-ghost use Rattle.outside_files.specs.Folder.{file_of, with_put, file_number, name_of};
+ghost use Rattle.outside_traits.specs.Files.{file_of};
+ghost use Rattle.outside_files.specs.Folder.{with_put, file_number, name_of};
 
+pub use outside_traits::wide_packs::Part;
 use std::alloc::{AllocError, Global};
 use std::io;
 
-/// The two files of a unit.
-#[derive(Clone, Copy)]
-pub enum Part {
-    /// The image: the bytes of the unit's blocks.
-    Image,
-    /// The marks: a byte for each block, which is not 0 if the block is marked.
-    Marks,
+/// The number of a unit's file among the files of all units, below 64 for the units 0 to 31.
+pub fn file_number(unit: u8, part: Part) -> usize
+    ensures { result ≡ file_number unit part }
+{
+    2 * usize::from(unit) + part as usize
 }
 
-impl Part {
-    /// The number of this file of a unit among the files of all units, below 64 for the units 0 to 31.
-    pub fn number(self, unit: u8) -> usize
-        ensures { result ≡ file_number unit self }
-    {
-        match self {
-            Part::Image => 2 * usize::from(unit),
-            Part::Marks => 2 * usize::from(unit) + 1,
-        }
-    }
-
-    /// The name of this file of a unit: `hpU.dsk` or `hpU.bad`, with the unit in decimal. An error if there is no memory for the name.
-    pub fn name(self, alloc: Global, unit: u8) -> Result<String, AllocError>
-        ensures { IfOk result (λ name. string_bytes name ≡ name_of unit self) }
-    {
-        match self {
-            Part::Image => format!(in alloc; "hp{unit}.dsk"),
-            Part::Marks => format!(in alloc; "hp{unit}.bad"),
-        }
+/// The name of a unit's file: `hpU.dsk` or `hpU.bad`, with the unit in decimal. An error if there is no memory for the name.
+pub fn file_name(alloc: Global, unit: u8, part: Part) -> Result<String, AllocError>
+    ensures { IfOk result (λ name. string_bytes name ≡ name_of unit part) }
+{
+    match part {
+        Part::Image => format!(in alloc; "hp{unit}.dsk"),
+        Part::Marks => format!(in alloc; "hp{unit}.bad"),
     }
 }
 

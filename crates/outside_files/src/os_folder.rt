@@ -1,13 +1,12 @@
 ghost use Rattle.std.specs.Prelude.{◌≡◌, ◌≢◌, ◌⊎◌, ◌↔◌, ◌<◌, ◌≤◌, true, false, Ok, Err, is_some, IfSome, IfOk, IfErr, OnOk, vec_len};
 ghost use Rattle.std.specs.IoError.{error_kind};
-ghost use Rattle.std.specs.Fs.{metadata_len};
 ghost use Rattle.std.specs.declared.io.ErrorKind.TheVariants.{NotFound, PermissionDenied, ReadOnlyFilesystem};
 ghost use Rattle.outside_files.specs.declared.os_folder.Opened.{Opened};
 ghost use Rattle.outside_files.specs.declared.os_folder.Known.TheVariants.{Nothing, Missing, Open};
 
-use crate::folder::{PackFolder, Part};
+use crate::folder::{PackFolder, Part, file_name, file_number};
 use crate::streams::some_taken;
-use std::fs::{Metadata, OpenFile, OpenOptions};
+use std::fs::{OpenFile, OpenOptions};
 use std::io;
 use std::io::ErrorKind;
 use std::os::unix::fs::FileExt;
@@ -100,19 +99,6 @@ fn is_forbidden(kind: ErrorKind) -> bool
     kind == ErrorKind::PermissionDenied || kind == ErrorKind::ReadOnlyFilesystem
 }
 
-/// The length of a file in bytes, as its metadata gives it.
-fn length_by(metadata: &Metadata) -> u64
-    ensures { result ≡ metadata_len metadata.now }
-{
-    metadata.len()
-}
-
-/// The length of an open file.
-fn length_in_bytes<F: OpenFile>(file: &F) -> io::Result<u64> {
-    let metadata = file.metadata()?;
-    Ok(length_by(&metadata))
-}
-
 impl<R: Files + AllocGlobal> OsFolder<R> {
     /// The working folder. This call opens nothing.
     pub fn new(rt: R) -> OsFolder<R>
@@ -124,7 +110,7 @@ impl<R: Files + AllocGlobal> OsFolder<R> {
 
     /// Opens a file, or finds that it is missing if it is not to be made.
     fn open(&self, unit: u8, part: Part, create: bool) -> io::Result<Known<R::File>> {
-        let name = part.name(self.rt.alloc(), unit)?;
+        let name = file_name(self.rt.alloc(), unit, part)?;
         Known::by_opening(open_file(&self.rt, name.as_str(), create), create)
     }
 
@@ -144,7 +130,7 @@ impl<R: Files + AllocGlobal> OsFolder<R> {
         ensures { IfOk result (λ number. number < vec_len self.new.files) }
     {
         self.make_room()?;
-        let number = part.number(unit);
+        let number = file_number(unit, part);
         if self.files[number].is_to_be_opened(create) {
             self.files[number] = self.open(unit, part, create)?;
         }
@@ -172,7 +158,7 @@ where
     ghost held = { λ _. λ _. empty_pack };
 
     fn is_open(&self, unit: u8, part: Part) -> bool {
-        match self.files.get(part.number(unit)) {
+        match self.files.get(file_number(unit, part)) {
             Some(known) => known.file().is_some(),
             None => false,
         }
@@ -181,7 +167,7 @@ where
     fn length(&mut self, unit: u8, part: Part) -> io::Result<u64> {
         match self.find(unit, part, false)? {
             None => Ok(0),
-            Some(opened) => length_in_bytes(&opened.file),
+            Some(opened) => Ok(opened.file.metadata()?.len()),
         }
     }
 

@@ -59,9 +59,7 @@ impl<R: Read> StdSource<R> {
             notes: SourceNotes::new(),
         }
     }
-}
 
-impl<R: Read> StdSource<R> {
     /// From now on, the source keeps the bytes that it gives, so that a message can say why a run refused them.
     pub fn keep(&mut self, alloc: Global)
         ensures inner { self.new.inner ≡ self.old.inner }
@@ -145,9 +143,7 @@ impl<W: Write> StdSink<W> {
             notes: SinkNotes::new(),
         }
     }
-}
 
-impl<W: Write> StdSink<W> {
     /// What the sink keeps so that a message can say why a run failed.
     pub fn notes(&self) -> &SinkNotes
         ensures { result.now ≡ self.now.notes }

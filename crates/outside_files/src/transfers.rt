@@ -1,7 +1,8 @@
 // Moves whole pieces of a file by calls of a folder. Each call may be short or interrupted.
 ghost use Rattle.std.specs.Prelude.{◌≡◌, ◌<◌, ◌≤◌, ◌+◌, ◌-◌, ◌++◌, IsTrue, length, take, replicate, IfOk, OnOk, OnErr};
 ghost use Rattle.pack_geometry.specs.Pack.{window};
-ghost use Rattle.outside_files.specs.Folder.{file_of, IsFilled, with_put};
+ghost use Rattle.outside_traits.specs.Files.{file_of};
+ghost use Rattle.outside_files.specs.Folder.{IsFilled, with_put};
 
 use crate::folder::{PackFolder, Part};
 use std::io;

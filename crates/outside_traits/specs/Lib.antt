@@ -1,3 +1,4 @@
 pub mod Causes
 pub mod Puts
 pub mod Gathers
+pub mod Files

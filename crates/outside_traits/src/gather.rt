@@ -1,4 +1,4 @@
-ghost use Rattle.std.specs.Prelude.{◌≡◌, ◌+◌, ◌≤◌, ◌==◌, true, false, IfOk, [], ◌++◌, length, take, vec_len};
+ghost use Rattle.std.specs.Prelude.{◌≡◌, ◌+◌, ◌≤◌, true, false, IfOk, [], ◌++◌, length, take, vec_len};
 ghost use Rattle.outside_traits.specs.Puts.{Puts};
 ghost use Rattle.outside_traits.specs.declared.traits.SinkFailed.{SinkFailed};
 ghost use Rattle.outside_traits.specs.Gathers.{Gathers, PutsNothing, Join, Stop, PutWhole};
@@ -71,20 +71,6 @@ impl Gather {
     {
         let room = room_of(alloc, room as usize + SHORT)?;
         Ok(Gather { room, filled: 0 })
-    }
-
-    /// How many bytes are kept.
-    pub fn len(&self) -> usize
-        ensures { result ≡ length self.now }
-    {
-        self.filled
-    }
-
-    /// Whether nothing is kept.
-    pub fn is_empty(&self) -> bool
-        ensures { result ≡ (length self.now == 0) }
-    {
-        self.filled == 0
     }
 
     /// Keeps a text if it fits behind what is kept, and says whether it does. If it does not fit, nothing changes.

@@ -1,4 +1,4 @@
-ghost use Rattle.std.specs.Prelude.{◌≡◌, ◌⊎◌, ◌+◌, ◌<◌, ◌≤◌, ◌^◌, IsTrue, [], ◌++◌, length, IfOk, OnOk, IsErrOf};
+ghost use Rattle.std.specs.Prelude.{◌≡◌, ◌⊎◌, ◌+◌, ◌<◌, ◌≤◌, ◌^◌, IsTrue, [], ◌++◌, length, IfOk, IsErrOf};
 ghost use Rattle.outside_traits.specs.Causes.{Rose};
 ghost use Rattle.outside_traits.specs.Puts.{Puts};
 
@@ -66,36 +66,14 @@ pub fn read_all<S: Source>(
     ensures failed { IsErrOf result ReadAllFault.Failed → Rose (S.faults source.old) (S.faults source.new) }
 {
     let mut bytes = Vec::new(alloc);
-    match read_into(source, limit, &mut bytes) {
-        Ok(()) => Ok(bytes),
-        Err(fault) => Err(fault),
-    }
-}
-
-/// Reads a source to its end into an empty list, or until it gave more bytes than a limit.
-fn read_into<S: Source>(
-    source: &mut S,
-    limit: usize,
-    bytes: &mut Vec<u8>,
-) -> Result<(), ReadAllFault>
-    requires limit { limit < 2 ^ 40 }
-    requires empty { bytes.old.items ≡ [] }
-    ensures never_again { IsTrue (S.tells source.new) → IsTrue (S.tells source.old) }
-    ensures bytes { OnOk result (IsTrue (S.tells source.new) → S.left source.old ≡ bytes.new.items ++ S.left source.new) }
-    ensures end { OnOk result (IsTrue (S.tells source.new) → (S.left source.new ≡ []) ⊎ (limit < length bytes.new.items)) }
-    ensures bound { OnOk result (length bytes.new.items ≤ limit + 1) }
-    ensures taken { IsTrue (S.tells source.new) → length (S.left source.old) ≤ length (S.left source.new) + limit + 1 }
-    ensures later { S.faults source.old ≤ S.faults source.new }
-    ensures failed { IsErrOf result ReadAllFault.Failed → Rose (S.faults source.old) (S.faults source.new) }
-{
     let mut piece = [0u8; 4096];
     while bytes.len() <= limit {
         let room = piece.len().min(limit + 1 - bytes.len());
         let count = source.read(&mut piece[..room])?;
         if count == 0 {
-            return Ok(());
+            return Ok(bytes);
         }
         bytes.extend_from_slice(&piece[..count])?;
     }
-    Ok(())
+    Ok(bytes)
 }

@@ -1,10 +1,11 @@
 ghost use Rattle.std.specs.Prelude.{◌≡◌, ℕ, ◌<◌, ◌≤◌, ◌+◌, ◌*◌, ◌⊎◌, if◌then◌else◌, List, [], ◌∷◌, ◌++◌, take, drop, IsTrue, IfSome, OnOk, length, slice_index};
 ghost use Rattle.pack_geometry.specs.Pack.{window, with_window, with_block, block_at};
 ghost use Rattle.outside_traits.specs.Causes.{HasCause};
+ghost use Rattle.outside_traits.specs.Files.{file_of};
 ghost use Rattle.pack_windows.specs.Parts.{IsPart};
 
 use outside_traits::traits::StoreFailed;
-use outside_traits::wide_packs::WidePacks;
+use outside_traits::wide_packs::{Part, WidePacks, place_in_image};
 use std::alloc::Global;
 use std::marker::Model;
 
@@ -14,9 +15,6 @@ const FIRST_SIZE: usize = 4096;
 /// How many bytes of an image are read ahead if reading goes on. One piece of the first size and three of this size hold
 /// the longest request, which has 127 blocks.
 const LAST_SIZE: usize = 20480;
-
-/// How many marks are read ahead.
-const MARKS: u32 = 4096;
 
 /// Some bytes of an image or of marks, and the place of the first of them in the image or the marks. The room of a window
 /// stays when the window has fewer bytes.
@@ -38,13 +36,6 @@ impl Model for Window {
     ghost invariant = { λ w. w.size ≤ length w.room.items };
 }
 
-/// The place of a block in an image, in bytes.
-fn place_in_image(block: u32) -> u64
-    ensures { result ≡ 512 * block }
-{
-    512 * u64::from(block)
-}
-
 /// Makes room for `size` bytes, and says whether there is so much room.
 fn make_room(room: &mut Vec<u8>, size: usize) -> bool
     ensures { IsTrue result → size ≤ length room.new.items }
@@ -52,42 +43,23 @@ fn make_room(room: &mut Vec<u8>, size: usize) -> bool
     room.len() >= size || room.resize(size, 0).is_ok()
 }
 
-/// Reads `size` bytes of a unit's image, from a block on, to the front of a room.
-fn read_blocks<W: WidePacks>(
+/// Reads `size` bytes of a unit's image or marks, from a place on, to the front of a room.
+fn read_front<W: WidePacks>(
     packs: &mut W,
     unit: u8,
-    block: u32,
+    part: Part,
+    at: u64,
     size: usize,
     room: &mut [u8],
 ) -> Result<(), StoreFailed>
     requires unit { unit < 32 }
     requires room { size ≤ length room.old }
     ensures never_again { IsTrue (W.tells packs.new) → IsTrue (W.tells packs.old) }
-    ensures bytes { OnOk result (IsTrue (W.tells packs.new)
-        → take size room.new ≡ window size (512 * block) (W.held packs.old unit).image) }
+    ensures bytes { OnOk result (IsTrue (W.tells packs.new) → take size room.new ≡ window size at (file_of (W.held packs.old unit) part)) }
     ensures same { IsTrue (W.tells packs.new) → W.held packs.new ≡ W.held packs.old }
     ensures cause { HasCause (W.faults packs.old) (W.faults packs.new) result }
 {
-    packs.read_blocks(unit, block, &mut room[..size])
-}
-
-/// Reads `size` marks of a unit, from a block on, to the front of a room.
-fn read_marks<W: WidePacks>(
-    packs: &mut W,
-    unit: u8,
-    block: u32,
-    size: usize,
-    room: &mut [u8],
-) -> Result<(), StoreFailed>
-    requires unit { unit < 32 }
-    requires room { size ≤ length room.old }
-    ensures never_again { IsTrue (W.tells packs.new) → IsTrue (W.tells packs.old) }
-    ensures bytes { OnOk result (IsTrue (W.tells packs.new)
-        → take size room.new ≡ window size block (W.held packs.old unit).marks) }
-    ensures same { IsTrue (W.tells packs.new) → W.held packs.new ≡ W.held packs.old }
-    ensures cause { HasCause (W.faults packs.old) (W.faults packs.new) result }
-{
-    packs.read_marks(unit, block, &mut room[..size])
+    packs.read_part(unit, part, at, &mut room[..size])
 }
 
 /// Writes bytes at a place inside.
@@ -198,7 +170,7 @@ impl Window {
     }
 
     /// How many bytes of an image are read ahead from a place on: few at first, and more if the place is directly behind the window.
-    fn next_size(&self, at: u64) -> usize {
+    pub(crate) fn next_size(&self, at: u64) -> usize {
         if self.size > 0 && self.at.checked_add(self.size as u64) == Some(at) {
             LAST_SIZE
         } else {
@@ -206,65 +178,29 @@ impl Window {
         }
     }
 
-    /// Reads `size` bytes of a unit's image into the window, from a block on. If that fails, or if there is no memory for
+    /// Reads `size` bytes of a unit's image or marks into the window, from a place on. If that fails, or if there is no memory for
     /// them, the window is empty.
-    fn fill_from_image<W: WidePacks>(&mut self, packs: &mut W, unit: u8, block: u32, size: usize)
+    pub(crate) fn fill<W: WidePacks>(
+        &mut self,
+        packs: &mut W,
+        unit: u8,
+        part: Part,
+        at: u64,
+        size: usize,
+    )
         requires { unit < 32 }
         ensures never_again { IsTrue (W.tells packs.new) → IsTrue (W.tells packs.old) }
-        ensures part { IsTrue (W.tells packs.new) → IsPart self.new (W.held packs.old unit).image }
+        ensures part { IsTrue (W.tells packs.new) → IsPart self.new (file_of (W.held packs.old unit) part) }
         ensures same { IsTrue (W.tells packs.new) → W.held packs.new ≡ W.held packs.old }
         ensures faults { W.faults packs.old ≤ W.faults packs.new }
     {
-        let at = place_in_image(block);
         self.size = 0;
         if !make_room(&mut self.room, size) {
             return;
         }
-        if read_blocks(packs, unit, block, size, self.room.as_mut_slice()).is_ok() {
+        if read_front(packs, unit, part, at, size, self.room.as_mut_slice()).is_ok() {
             self.at = at;
             self.size = size;
         }
-    }
-
-    /// Reads `size` marks of a unit into the window, from a block on. If that fails, or if there is no memory for them, the window is empty.
-    fn fill_from_marks<W: WidePacks>(&mut self, packs: &mut W, unit: u8, block: u32, size: usize)
-        requires { unit < 32 }
-        ensures never_again { IsTrue (W.tells packs.new) → IsTrue (W.tells packs.old) }
-        ensures part { IsTrue (W.tells packs.new) → IsPart self.new (W.held packs.old unit).marks }
-        ensures same { IsTrue (W.tells packs.new) → W.held packs.new ≡ W.held packs.old }
-        ensures faults { W.faults packs.old ≤ W.faults packs.new }
-    {
-        let at = u64::from(block);
-        self.size = 0;
-        if !make_room(&mut self.room, size) {
-            return;
-        }
-        if read_marks(packs, unit, block, size, self.room.as_mut_slice()).is_ok() {
-            self.at = at;
-            self.size = size;
-        }
-    }
-
-    /// Reads a unit's image ahead, from a block on.
-    pub(crate) fn read_image_ahead<W: WidePacks>(&mut self, packs: &mut W, unit: u8, block: u32)
-        requires { unit < 32 }
-        ensures never_again { IsTrue (W.tells packs.new) → IsTrue (W.tells packs.old) }
-        ensures part { IsTrue (W.tells packs.new) → IsPart self.new (W.held packs.old unit).image }
-        ensures same { IsTrue (W.tells packs.new) → W.held packs.new ≡ W.held packs.old }
-        ensures faults { W.faults packs.old ≤ W.faults packs.new }
-    {
-        let size = self.next_size(place_in_image(block));
-        self.fill_from_image(packs, unit, block, size);
-    }
-
-    /// Reads a unit's marks ahead, including that of a block.
-    pub(crate) fn read_marks_ahead<W: WidePacks>(&mut self, packs: &mut W, unit: u8, block: u32)
-        requires { unit < 32 }
-        ensures never_again { IsTrue (W.tells packs.new) → IsTrue (W.tells packs.old) }
-        ensures part { IsTrue (W.tells packs.new) → IsPart self.new (W.held packs.old unit).marks }
-        ensures same { IsTrue (W.tells packs.new) → W.held packs.new ≡ W.held packs.old }
-        ensures faults { W.faults packs.old ≤ W.faults packs.new }
-    {
-        self.fill_from_marks(packs, unit, block - block % MARKS, MARKS as usize);
     }
 }

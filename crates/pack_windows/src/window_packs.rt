@@ -3,9 +3,12 @@ ghost use Rattle.pack_windows.specs.Parts.{AreParts};
 
 use crate::window::Window;
 use outside_traits::traits::{NoMemory, Packs, StoreFailed};
-use outside_traits::wide_packs::WidePacks;
+use outside_traits::wide_packs::{Part, WidePacks, is_mark, place_in_image};
 use std::alloc::{AllocError, Global};
 use std::marker::Model;
+
+/// How many marks are read ahead.
+const MARKS: u32 = 4096;
 
 /// Packs with two windows in memory for each unit, one of its image and one of its marks. If a block or a mark is asked
 /// for that is not in its window, the window is read ahead. A write goes to the packs at once, and its window follows it.
@@ -41,13 +44,6 @@ fn empty_windows(alloc: Global) -> Result<Vec<Window>, AllocError>
         windows.push(Window::new(alloc))?;
     }
     Ok(windows)
-}
-
-/// Whether a mark byte marks its block: any byte but 0 does.
-fn is_mark(byte: u8) -> bool
-    ensures { result ≡ not (byte == 0) }
-{
-    byte != 0
 }
 
 impl<W: WidePacks + Drop> WindowPacks<W> {
@@ -89,7 +85,9 @@ impl<W: WidePacks> Packs for WindowPacks<W> {
         if self.images[unit as usize].read_block(block, into) {
             return Ok(());
         }
-        self.images[unit as usize].read_image_ahead(&mut self.packs, unit, block);
+        let at = place_in_image(block);
+        let size = self.images[unit as usize].next_size(at);
+        self.images[unit as usize].fill(&mut self.packs, unit, Part::Image, at, size);
         if self.images[unit as usize].read_block(block, into) {
             return Ok(());
         }
@@ -113,7 +111,8 @@ impl<W: WidePacks> Packs for WindowPacks<W> {
         if let Some(byte) = self.marks[unit as usize].byte(u64::from(block)) {
             return Ok(is_mark(byte));
         }
-        self.marks[unit as usize].read_marks_ahead(&mut self.packs, unit, block);
+        let first = u64::from(block - block % MARKS);
+        self.marks[unit as usize].fill(&mut self.packs, unit, Part::Marks, first, MARKS as usize);
         if let Some(byte) = self.marks[unit as usize].byte(u64::from(block)) {
             return Ok(is_mark(byte));
         }

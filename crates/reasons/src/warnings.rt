@@ -5,8 +5,7 @@ use crate::sentence::{Sentence, say};
 use crate::words::{check_command, target, word};
 use bad144_table::table_of;
 use outside_files::files::FilePacks;
-use outside_files::folder::Part;
-use outside_files::os_folder::OsFolder;
+use outside_files::folder::{Part, file_name};
 use pack_geometry::DriveKind;
 use std::io::Write;
 use std::os::unix::fs::FileExt;
@@ -15,7 +14,7 @@ use std::{fs, io};
 
 /// Whether a unit's image is missing.
 fn is_missing<R: Files + AllocGlobal>(rt: &R, unit: u8) -> bool {
-    match Part::Image.name(rt.alloc(), unit) {
+    match file_name(rt.alloc(), unit, Part::Image) {
         Ok(name) => matches!(fs::exists(rt, name.as_str()), Ok(false)),
         Err(_) => false,
     }
@@ -29,7 +28,7 @@ where
     if unit > 31 {
         return None;
     }
-    let mut packs = FilePacks::over(OsFolder::new(rt));
+    let mut packs = FilePacks::new(rt);
     for other in [DriveKind::Rp06, DriveKind::Rm03, DriveKind::Rm05] {
         if other != kind {
             if let Ok(Some(_)) = table_of(&mut packs, unit, other) {

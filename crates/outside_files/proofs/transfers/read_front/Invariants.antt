@@ -1,5 +1,5 @@
 use Rattle.std.proofs.Common.{◌≡◌, ◌≤◌, IsTrue, length, take, drop}
-use Rattle.outside_files.specs.Folder.{file_of}
+use Rattle.outside_traits.specs.Files.{file_of}
 use Rattle.outside_files.proofs.transfers.read_front.Given as goal
 
 -- the bytes so far are what the file has from the place on

@@ -1,5 +1,5 @@
 use Rattle.std.proofs.Common.{length}
-use Rattle.outside_files.specs.Folder.{file_of}
+use Rattle.outside_traits.specs.Files.{file_of}
 use Rattle.outside_files.proofs.FolderLaws.{filled_window}
 use Rattle.outside_files.proofs.transfers.read_window.Goals as goal
 

@@ -1,5 +1,5 @@
 use Rattle.std.proofs.Common.{length, ◌≡◌, ◌≤◌, ◌+◌, ◌-◌, ◌++◌, IsTrue, vec_len}
-use Rattle.outside_traits.proofs.whole.read_into.Given as goal
+use Rattle.outside_traits.proofs.whole.read_all.Given as goal
 
 -- what was read and what is left are all of it
 abbrev pub invariant-loop-piece : goal.invariant-loop-piece

@@ -1,7 +1,8 @@
 use Rattle.std.proofs.Common.{ℕ, ◌≤◌, length, subst, sym, ap, ◌∙◌, refl}
+use Rattle.outside_traits.specs.Files.{file_of}
 use Rattle.pack_windows.proofs.PartLaws.{empty_part, filled_part}
 use Rattle.pack_windows.proofs.AheadLaws.{told_ok}
-use Rattle.pack_windows.proofs.window.Window.fill_from_marks.Goals as goal
+use Rattle.pack_windows.proofs.window.Window.fill.Goals as goal
 
 pub returns-then-not-make_room-clause-part : goal.returns-then-not-make_room-clause-part
 returns-then-not-make_room-clause-part g c = λ t. empty_part _ _ refl
@@ -12,6 +13,7 @@ returns-else-is_ok-clause-part g c = λ t. empty_part _ _ refl
 pub returns-then-is_ok-clause-part : goal.returns-then-is_ok-clause-part
 returns-then-is_ok-clause-part g c = λ t.
     let inside : c.args.size ≤ length c.make_room.new.room.items = c.if-not-make_room.ensures refl in
-    filled_part c.from-at.result c.args.size c.make_room.new.room.len c.args.block c.read_marks.new.room _ (g.W.Packs.held c.args.packs.now c.args.unit).marks (subst (λ (n : ℕ). c.args.size ≤ n) (sym c.make_room.new.room.ok.0) inside)
-    (subst (λ (n : ℕ). c.args.size ≤ n) (sym (c.read_marks.auto.room ∙ ap length c.as_mut_slice.ensures.value)) inside) c.from-at.ensures
-    (told_ok c.read_marks.result c.if-is_ok.ensures.value c.read_marks.ensures.bytes t)
+    filled_part c.args.at c.args.size c.make_room.new.room.len c.args.at c.read_front.new.room _ (file_of (g.W.Packs.held c.args.packs.now c.args.unit) c.args.part)
+    (subst (λ (n : ℕ). c.args.size ≤ n) (sym c.make_room.new.room.ok.0) inside)
+    (subst (λ (n : ℕ). c.args.size ≤ n) (sym (c.read_front.auto.room ∙ ap length c.as_mut_slice.ensures.value)) inside) refl
+    (told_ok c.read_front.result c.if-is_ok.ensures.value c.read_front.ensures.bytes t)
