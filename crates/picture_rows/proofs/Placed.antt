@@ -1,10 +1,14 @@
 -- The words of places, holders and letters refuse these outcomes.
-use Rattle.std.proofs.Common.{◌≡◌, ℕ, ◌+◌, ◌-◌, ◌*◌, ◌/◌, ◌^◌, ◌<◌, ◌≤◌, ◌==◌, min, max, if◌then◌else◌, Bool, true, false, sym, ap, ◌∙◌, arith}
+use Rattle.std.proofs.Common.{◌≡◌, ℕ, ◌+◌, ◌-◌, ◌*◌, ◌/◌, ◌^◌, ◌<◌, ◌≤◌, ◌==◌, min, max, if◌then◌else◌, Bool, true, false, List, [], ◌∷◌, fold, drop, sym, ap, ◌∙◌, arith}
 use Rattle.std.proofs.Math.Nat.{mul-le-mul_left, mul-le-mul_right, div-mul-le_self, mul-div_cancel, zero-div}
 use Rattle.std.proofs.lemmas.Bool.{ne_eqb}
 use Rattle.std.proofs.lemmas.Nat.{le-div}
 use Rattle.drive_pictures.specs.Counts.{plus}
-use Rattle.run_plan.specs.Letters.{waiting, holding}
+use Rattle.drive_pictures.specs.declared.cells.Tally.{Tally}
+use Rattle.drive_pictures.specs.declared.letters.Letter.{Letter}
+use Rattle.drive_pictures.specs.declared.letters.Letter.TheVariants as letter
+use Rattle.drive_pictures.specs.Letters.{all_letters}
+use Rattle.run_plan.specs.Letters.{at, busy}
 use Rattle.picture_svg.specs.Holders.{held_by}
 use Rattle.picture_svg.specs.Scales.{part_of}
 use Rattle.picture_rows.specs.Placed.{ScaleTurnedRound, ColumnsTurnedRound, CylindersTurnedRound, BottomOffItsBound, TopOffItsBound, EventsLeftOut, HeldAtAnotherAdapter}
@@ -68,20 +72,19 @@ top_off_its_bound chart scale y some fits less = omega (arith, less, whole_of ch
 plus_le : (a b : ℕ) → plus a b ≤ a + b
 plus_le a b = omega arith
 
+-- a sum that stops is at most the sum
+at_most : (t : Tally) (n m : ℕ) (ls : List Letter) → n ≤ m → fold (λ n l. plus n (at t l)) n ls ≤ fold (λ n l. n + at t l) m ls
+at_most t n m [] le = le
+at_most t n m (l ∷ ls) le = at_most t (plus n (at t l)) (m + at t l) ls (omega (arith, plus_le n (at t l), le))
+
+none_left : (events b n1 n2 n3 n4 n5 n6 n7 n8 n9 n10 : ℕ) → b ≤ 0 + n1 + n2 + n3 + n4 + n5 + n6 + n7 + n8 + n9 + n10
+    → ¬ (0 + (events - b) + n1 + n2 + n3 + n4 + n5 + n6 + n7 + n8 + n9 + n10 < events)
+none_left events b n1 n2 n3 n4 n5 n6 n7 n8 n9 n10 most less = omega (arith, most, less)
+
 pub events_left_out : EventsLeftOut
 events_left_out t events less =
-    omega (
-      arith,
-      less,
-      plus_le (plus (plus (plus (plus t.seeks t.turns) t.recalibrates) t.offsets) t.arrived) t.ready,
-      plus_le (plus (plus (plus t.seeks t.turns) t.recalibrates) t.offsets) t.arrived,
-      plus_le (plus (plus t.seeks t.turns) t.recalibrates) t.offsets,
-      plus_le (plus t.seeks t.turns) t.recalibrates,
-      plus_le t.seeks t.turns,
-      plus_le (plus (plus t.moves t.retries) t.replaces) t.moved,
-      plus_le (plus t.moves t.retries) t.replaces,
-      plus_le t.moves t.retries,
-    )
+    none_left events (busy t) (at t letter.Seeks) (at t letter.Turns) (at t letter.Recalibrates) (at t letter.Offsets) (at t letter.Arrived) (at t letter.Ready)
+    (at t letter.Moves) (at t letter.Retries) (at t letter.Replaces) (at t letter.Moved) (at_most t 0 0 (drop 1 all_letters) (omega arith)) less
 
 pub held_at_another_adapter : HeldAtAnotherAdapter
 held_at_another_adapter column lane adapter differs holds is = none (lane.unit / 8 == adapter) (held_by column lane) (ne_eqb (lane.unit / 8) adapter differs) holds is

@@ -1,5 +1,5 @@
 -- THE LINES THAT SPEAK OF A DRIVE, as they came.
-use Rattle.std.specs.Prelude.{ℕ, ◌==◌, Bool, if◌then◌else◌, List, [], ◌∷◌, filter}
+use Rattle.std.specs.Prelude.{ℕ, ◌==◌, Bool, if◌then◌else◌, List, [], ◌∷◌}
 use Rattle.std.specs.List.{flat_map, list_any}
 use Rattle.run_picture.specs.declared.columns.Note.{Note}
 use Rattle.run_plan.specs.declared.sheet.Sheet.{Sheet}

@@ -1,5 +1,5 @@
 -- THE DRIVES THAT A PICTURE SHOWS: those that have requests, by their number, where an event is shown.
-use Rattle.std.specs.Prelude.{ℕ, zero, suc, ◌==◌, nat_lt, Bool, not, ◌&&◌, if◌then◌else◌, List, [], ◌∷◌, ◌++◌, length}
+use Rattle.std.specs.Prelude.{ℕ, zero, suc, ◌==◌, Bool, not, ◌&&◌, if◌then◌else◌, List, [], ◌∷◌, ◌++◌, length}
 use Rattle.std.specs.List.{list_any}
 use Rattle.drive_pictures.specs.declared.requests.Request.{Request}
 use Rattle.run_plan.specs.declared.sheet.Sheet.{Sheet}

@@ -1,7 +1,7 @@
 //! The trace events of a plan, in the JSON that Chrome's and Perfetto's viewers read.
 
-ghost use Rattle.std.specs.Prelude.{◌≡◌, ◌++◌, fold, get_or, IfOk, OnOk};
-ghost use Rattle.run_plan.specs.Events.{front, back, with_head, with_name, with_slice, is_idle, with_bar, with_counter, no_point, with_point, with_points, with_lane, with_span, with_arguments, with_request, events_of};
+ghost use Rattle.std.specs.Prelude.{◌≡◌, fold, get_or, IfOk, OnOk};
+ghost use Rattle.run_plan.specs.Events.{with_head, with_name, is_idle, with_bar, with_counter, no_point, with_points, with_lane, with_span, with_arguments, with_request, events_of};
 
 use crate::bars::Bar;
 use crate::fields::{put, put_number};
@@ -49,25 +49,6 @@ fn put_name(
     put(out, "\"}}")
 }
 
-/// Puts a slice: what a drive does, as a word, from one event up to another.
-#[tactic(auto, unfolding(crate::specs::Events::with_slice))]
-fn put_slice(
-    out: &mut Vec<u8>,
-    unit: u8,
-    from: u64,
-    to: u64,
-    word: &'static str,
-) -> Result<(), AllocError>
-    ensures { OnOk result (out.new.items ≡ with_slice unit from to word.now out.old.items) }
-{
-    put_head(out, "X", unit, from)?;
-    put(out, ",\"dur\":")?;
-    put_number(out, to.saturating_sub(from))?;
-    put(out, ",\"name\":\"")?;
-    put(out, word)?;
-    put(out, "\"}")
-}
-
 /// Whether a drive does nothing.
 fn is_idle(letter: Letter) -> bool
     ensures { result ≡ is_idle letter }
@@ -78,21 +59,22 @@ fn is_idle(letter: Letter) -> bool
     }
 }
 
-/// Puts the slice of a bar, unless the drive is idle.
+/// Puts the slice of a bar, unless the drive is idle: what the drive does, from one event up to another.
+#[tactic(auto, unfolding(crate::specs::Events::with_slice))]
 fn put_bar(out: &mut Vec<u8>, plan: &Plan, unit: u8, bar: &Bar) -> Result<(), AllocError>
     ensures { OnOk result (out.new.items ≡ with_bar plan.now.window unit out.old.items bar.now) }
 {
     if is_idle(bar.letter) {
-        Ok(())
-    } else {
-        put_slice(
-            out,
-            unit,
-            plan.window.edge(bar.from),
-            plan.window.edge(bar.to),
-            letter_word(bar.letter),
-        )
+        return Ok(());
     }
+    let from = plan.window.edge(bar.from);
+    let to = plan.window.edge(bar.to);
+    put_head(out, "X", unit, from)?;
+    put(out, ",\"dur\":")?;
+    put_number(out, to.saturating_sub(from))?;
+    put(out, ",\"name\":\"")?;
+    put(out, letter_word(bar.letter))?;
+    put(out, "\"}")
 }
 
 /// Puts the slices of bars.
@@ -128,14 +110,6 @@ fn put_counter(
     put(out, "}}")
 }
 
-/// Puts the counters of a point.
-fn put_point(out: &mut Vec<u8>, unit: u8, time: u64, point: &Point) -> Result<(), AllocError>
-    ensures { OnOk result (out.new.items ≡ with_point unit time point.now out.old.items) }
-{
-    put_counter(out, unit, time, "cylinder", u64::from(point.cylinder))?;
-    put_counter(out, unit, time, "queue", point.waiting)
-}
-
 /// The point of a column.
 fn point_in(points: &[Point], column: usize) -> Point
     ensures { result ≡ get_or points.now column no_point }
@@ -154,12 +128,10 @@ fn put_points(out: &mut Vec<u8>, plan: &Plan, unit: u8, points: &[Point]) -> Res
     ensures { OnOk result (out.new.items ≡ with_points plan.now.window unit points.now out.old.items) }
 {
     for column in 0..points.len() {
-        put_point(
-            out,
-            unit,
-            plan.window.edge(column),
-            &point_in(points, column),
-        )?;
+        let time = plan.window.edge(column);
+        let point = point_in(points, column);
+        put_counter(out, unit, time, "cylinder", u64::from(point.cylinder))?;
+        put_counter(out, unit, time, "queue", point.waiting)?;
     }
     Ok(())
 }
@@ -240,39 +212,24 @@ fn put_request(out: &mut Vec<u8>, request: &Request) -> Result<(), AllocError>
     put(out, "}")
 }
 
-/// Puts the start of the list, with an event that says what wrote it.
-#[tactic(auto, unfolding(crate::specs::Events::front))]
-fn put_front(out: &mut Vec<u8>) -> Result<(), AllocError>
-    ensures { OnOk result (out.new.items ≡ out.old.items ++ front) }
-{
-    put(
-        out,
-        "{\"traceEvents\":[\n{\"ph\":\"M\",\"pid\":0,\"tid\":0,\"ts\":0,\"name\":\"process_name\",\"args\":{\"name\":\"hpview\"}}",
-    )
-}
-
-/// Puts the end of the list.
-#[tactic(auto, unfolding(crate::specs::Events::back))]
-fn put_back(out: &mut Vec<u8>) -> Result<(), AllocError>
-    ensures { OnOk result (out.new.items ≡ out.old.items ++ back) }
-{
-    put(out, "\n]}\n")
-}
-
 /// The trace events of a plan, as JSON: a process for each adapter, a thread for each drive, a slice for each bar that is not idle, for
 /// each column a counter of the arm's cylinder and one of the requests that wait, and a span for each request. An event of the run
 /// takes a microsecond.
+#[tactic(auto, unfolding(crate::specs::Events::front, crate::specs::Events::back))]
 pub fn events_text(alloc: Global, plan: &Plan) -> Result<Vec<u8>, AllocError>
     ensures { IfOk result (λ text. text.items ≡ events_of plan.now) }
 {
     let mut out = Vec::new(alloc);
-    put_front(&mut out)?;
+    put(
+        &mut out,
+        "{\"traceEvents\":[\n{\"ph\":\"M\",\"pid\":0,\"tid\":0,\"ts\":0,\"name\":\"process_name\",\"args\":{\"name\":\"hpview\"}}",
+    )?;
     for lane in plan.lanes.iter() {
         put_lane(&mut out, plan, lane)?;
     }
     for request in plan.rows.iter() {
         put_request(&mut out, request)?;
     }
-    put_back(&mut out)?;
+    put(&mut out, "\n]}\n")?;
     Ok(out)
 }

@@ -1,7 +1,7 @@
 //! Lines of fields.
 
 ghost use Rattle.std.specs.Prelude.{◌≡◌, ◌++◌, ◌∷◌, [], fold, decimal, OnOk};
-ghost use Rattle.run_plan.specs.Fields.{field_text, hundredths, with_field};
+ghost use Rattle.run_plan.specs.Fields.{field_text, with_field};
 
 use itoa::Buffer;
 use std::alloc::AllocError;
@@ -30,16 +30,6 @@ pub(crate) fn put_number(out: &mut Vec<u8>, number: u64) -> Result<(), AllocErro
     put(out, buffer.format(number))
 }
 
-/// Puts a number and hundredths.
-fn put_hundredths(out: &mut Vec<u8>, whole: u64, rest: u64) -> Result<(), AllocError>
-    ensures { OnOk result (out.new.items ≡ out.old.items ++ hundredths whole rest) }
-{
-    put_number(out, whole)?;
-    put(out, ".")?;
-    put_number(out, rest / 10 % 10)?;
-    put_number(out, rest % 10)
-}
-
 /// Puts a field.
 fn put_field(out: &mut Vec<u8>, field: Field) -> Result<(), AllocError>
     ensures { OnOk result (out.new.items ≡ out.old.items ++ field_text field) }
@@ -47,16 +37,13 @@ fn put_field(out: &mut Vec<u8>, field: Field) -> Result<(), AllocError>
     match field {
         Field::Number(number) => put_number(out, number),
         Field::Word(word) => put(out, word),
-        Field::Hundredths { whole, rest } => put_hundredths(out, whole, rest),
+        Field::Hundredths { whole, rest } => {
+            put_number(out, whole)?;
+            put(out, ".")?;
+            put_number(out, rest / 10 % 10)?;
+            put_number(out, rest % 10)
+        }
     }
-}
-
-/// Puts a tab and a field.
-fn put_next(out: &mut Vec<u8>, field: Field) -> Result<(), AllocError>
-    ensures { OnOk result (out.new.items ≡ with_field out.old.items (field_text field)) }
-{
-    put(out, "\t")?;
-    put_field(out, field)
 }
 
 /// Puts fields, each after a tab.
@@ -64,7 +51,8 @@ fn put_others(out: &mut Vec<u8>, others: &[Field]) -> Result<(), AllocError>
     ensures { OnOk result (out.new.items ≡ fold (λ text f. with_field text (field_text f)) out.old.items others.now) }
 {
     for field in others.iter() {
-        put_next(out, *field)?;
+        put(out, "\t")?;
+        put_field(out, *field)?;
     }
     Ok(())
 }

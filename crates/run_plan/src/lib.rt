@@ -1,13 +1,8 @@
 //! The plan of a run: what a picture or a table shows of the run, as data, and the tables and trace events that are written from it.
 //!
-//! What is proved: `Sheet`: its title, its columns, in which column an event is, and the drives that are shown, which are those that
-//! have requests, by their number; `Shown`: which requests are listed; `top_of`: the highest cylinder of a unit; `scale_of`: the
-//! highest cylinder of some units; after how many of a column's events a letter stands, and which letter leads; `sentences`: which
-//! words and numbers they say. `plan_of`: a request is a row exactly if it meets the events that are shown, with the answer that the
-//! run gave to that request. A drive is a lane exactly if it has requests. The bars of a lane are, column for column, what the drive
-//! did, none twice and none left out; its points are where its arm was and how many requests waited. `requests_text` and
-//! `summary_text`: which fields stand on each line. `events_text`: which event is written for each bar, point and request. A call
-//! fails only if there is no memory.
+//! What is proved: a request is a row of a plan exactly if it meets the events that are shown, with the answer that the run gave to it. A
+//! drive is a lane exactly if it has requests. The bars of a lane are, column for column, what the drive did, none twice and none left
+//! out. Tables, sentences and trace events have the words and numbers that the definitions name. A call fails only if there is no memory.
 #![tactic(auto)]
 
 mod bars;

@@ -1,8 +1,8 @@
 //! A run as a picture shows it.
 
-ghost use Rattle.std.specs.Prelude.{◌≡◌, ◌==◌, ◌++◌, IfOk, OnOk};
+ghost use Rattle.std.specs.Prelude.{◌≡◌, ◌==◌, IfOk};
 ghost use Rattle.run_plan.specs.Window.{no_caption, title_of, column_of, arm_before, kind_of};
-ghost use Rattle.run_plan.specs.Units.{has_request, is_drawn, unit_drawn, units_shown};
+ghost use Rattle.run_plan.specs.Units.{has_request, is_drawn, units_shown};
 
 use drive_pictures::{Request, kind_word};
 use run_picture::{Column, Note, Run, Window};
@@ -35,16 +35,6 @@ pub(crate) fn is_drawn(sheet: &Sheet<'_>, unit: u8) -> bool
     ensures { result ≡ is_drawn sheet.now unit }
 {
     !sheet.run.columns().is_empty() && has_request(sheet.run.requests(), unit)
-}
-
-/// Puts a drive after others, if it is drawn.
-fn push_drawn(sheet: &Sheet<'_>, units: &mut Vec<u8>, unit: u8) -> Result<(), AllocError>
-    ensures { OnOk result (units.new.items ≡ units.old.items ++ unit_drawn sheet.now unit) }
-{
-    if is_drawn(sheet, unit) {
-        units.push(unit)?;
-    }
-    Ok(())
 }
 
 impl<'a> Sheet<'a> {
@@ -89,7 +79,9 @@ impl<'a> Sheet<'a> {
     {
         let mut units = Vec::new(alloc);
         for unit in 0..32u8 {
-            push_drawn(self, &mut units, unit)?;
+            if is_drawn(self, unit) {
+                units.push(unit)?;
+            }
         }
         Ok(units)
     }

@@ -1,7 +1,7 @@
 //! The requests that are shown.
 
 ghost use Rattle.std.specs.Prelude.{◌≡◌, ◌-◌, length, IfOk, OnOk};
-ghost use Rattle.run_plan.specs.Requests.{is_shown, shown_count, is_few, listed_with, listed_all, listed, with_column, with_request, top_of, scale_of};
+ghost use Rattle.run_plan.specs.Requests.{is_shown, shown_count, is_few, listed_all, listed, with_column, with_request, top_of, scale_of};
 
 use crate::cells::cell_at;
 use crate::sheet::Sheet;
@@ -43,26 +43,9 @@ fn count_shown(sheet: &Sheet<'_>) -> usize
         .count()
 }
 
-/// Puts a request after those that are listed, if it is shown, there is room, and it is one of the first ones, which are those with
-/// trouble or, if few are shown, all; or one of the others.
+/// Puts the requests that are shown, as far as there is room: the first ones, which are those with trouble or, if few are shown, all; or
+/// the others.
 #[tactic(auto, unfolding(crate::specs::Requests::is_listed, crate::specs::Requests::listed_with))]
-fn list_request(
-    listed: &mut Vec<Request>,
-    sheet: &Sheet<'_>,
-    few: bool,
-    first: bool,
-    request: &Request,
-) -> Result<(), AllocError>
-    ensures { OnOk result (listed.new.items ≡ listed_with sheet.now few first listed.old.items request.now) }
-{
-    let wanted = few || request.trouble;
-    if is_shown(sheet, request) && (if first { wanted } else { !wanted }) && listed.len() < MOST {
-        listed.push(*request)?;
-    }
-    Ok(())
-}
-
-/// Puts the requests that are wanted, as far as there is room.
 fn list_all(
     listed: &mut Vec<Request>,
     sheet: &Sheet<'_>,
@@ -72,7 +55,13 @@ fn list_all(
     ensures { OnOk result (listed.new.items ≡ listed_all sheet.now few first listed.old.items) }
 {
     for request in sheet.run.requests().iter() {
-        list_request(listed, sheet, few, first, request)?;
+        let wanted = few || request.trouble;
+        if is_shown(sheet, request)
+            && (if first { wanted } else { !wanted })
+            && listed.len() < MOST
+        {
+            listed.push(*request)?;
+        }
     }
     Ok(())
 }
