@@ -47,7 +47,7 @@ def pictures():
         "    pub(crate) name: &'static str,",
         "    pub(crate) script: &'static [u8],",
         "    pub(crate) trace: &'static [u8],",
-        '    pub(crate) picture: [u8; 32],',
+        "    pub(crate) picture: &'static [u8; 32],",
         '}',
         '',
         '/// Each script of the folder that `play` plays.',
@@ -57,16 +57,8 @@ def pictures():
         lines += ['    Example {', f'        name: "{name}",']
         for field, suffix in (('script', 'hps'), ('trace', 'trace')):
             lines.append(f'        {field}: {literal(read(f"{name}.{suffix}"))},')
-        digest = list(hashlib.sha256(read(f'{name}.svg').encode()).digest())
-        lines.append('        picture: [')
-        row = '           '
-        for byte in digest:
-            word = f' {byte},'
-            if len(row) + len(word) > 99:
-                lines.append(row)
-                row = '           '
-            row += word
-        lines += [row, '        ],', '    },']
+        digest = hashlib.sha256(read(f'{name}.svg').encode()).digest()
+        lines += ['        picture: b"' + ''.join(f'\\x{byte:02x}' for byte in digest) + '",', '    },']
     return '\n'.join([*lines, '];', ''])
 
 

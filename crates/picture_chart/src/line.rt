@@ -8,6 +8,9 @@ use itoa::Buffer;
 use std::alloc::{AllocError, Global};
 use std::marker::Model;
 
+/// What putting something comes to. It fails only if there is no memory.
+pub(crate) type Done = Result<(), AllocError>;
+
 /// How many characters a line has at most.
 pub const WIDEST: usize = 100;
 
@@ -173,7 +176,7 @@ pub(crate) fn line_with(text: &[u8], number: u64) -> ChartLine
 }
 
 /// Puts a line, and its end.
-fn put_ended(text: &mut Vec<u8>, line: &ChartLine) -> Result<(), AllocError>
+fn put_ended(text: &mut Vec<u8>, line: &ChartLine) -> Done
     ensures text { OnOk result (text.new.items ≡ text.old.items ++ ended line.now) }
     ensures line { IsChartLine line.now }
 {

@@ -5,11 +5,12 @@ ghost use Rattle.picture_chart.specs.Charts.{line_of};
 ghost use Rattle.run_plan.specs.Units.{units_shown};
 ghost use Rattle.picture_chart.specs.Pages.{with_phrase, with_third, with_sentence, head_of, panel_columns, panels_of, title_line, legend_line, legend, legend_second, legend_third, Grows, Panels, IsChartOf};
 
-use crate::line::{WIDEST, line_of};
+use crate::line::{Done, WIDEST, line_of};
 use crate::panel::{Drives, put_panel};
 use crate::rows::put_line;
 use crate::table::{put_left_out, put_names, put_requests};
 use crate::{ChartLine, text_of};
+use drive_pictures::Letter::*;
 use drive_pictures::{Letter, letter_sign, letter_word};
 use run_picture::Column;
 use run_plan::{Phrase, Sentence, Sheet, Shown, scale_of, sentences};
@@ -36,7 +37,7 @@ fn put_third(line: &mut ChartLine, third: Option<Phrase>)
 }
 
 /// Puts a sentence.
-fn put_sentence(page: &mut Vec<ChartLine>, sentence: &Sentence) -> Result<(), AllocError>
+fn put_sentence(page: &mut Vec<ChartLine>, sentence: &Sentence) -> Done
     ensures { OnOk result (page.new.items ≡ with_sentence page.old.items sentence.now) }
 {
     let mut line = ChartLine::new();
@@ -97,11 +98,7 @@ fn panel_columns(columns: &[Column], from: usize, to: usize) -> &[Column]
 }
 
 /// Puts the panels.
-fn put_panels(
-    page: &mut Vec<ChartLine>,
-    sheet: &Sheet<'_>,
-    drives: Drives<'_>,
-) -> Result<(), AllocError>
+fn put_panels(page: &mut Vec<ChartLine>, sheet: &Sheet<'_>, drives: Drives<'_>) -> Done
     requires { drives.units.now ≡ units_shown sheet.now }
     ensures { OnOk result (Panels sheet.now (panels_of sheet.now.run.now.columns) page.old.items page.new.items) }
 {
@@ -131,39 +128,29 @@ fn legend_line(label: &[u8], letters: &[Letter]) -> ChartLine
 
 /// Puts an empty line, and what the first letters say.
 #[tactic(auto, unfolding(crate::specs::Pages::legend))]
-fn put_letters(page: &mut Vec<ChartLine>) -> Result<(), AllocError>
+fn put_letters(page: &mut Vec<ChartLine>) -> Done
     ensures { OnOk result (page.new.items ≡ page.old.items ++ legend) }
 {
-    let first = [
-        Letter::Idle,
-        Letter::Seeks,
-        Letter::Turns,
-        Letter::Recalibrates,
-    ];
+    let first = [Idle, Seeks, Turns, Recalibrates];
     put_line(page, ChartLine::new())?;
     put_line(page, legend_line(b"drive", &first))
 }
 
 /// Puts what the next letters say.
 #[tactic(auto, unfolding(crate::specs::Pages::legend_second))]
-fn put_second(page: &mut Vec<ChartLine>) -> Result<(), AllocError>
+fn put_second(page: &mut Vec<ChartLine>) -> Done
     ensures { OnOk result (page.new.items ≡ page.old.items ++ legend_second) }
 {
-    let second = [
-        Letter::Offsets,
-        Letter::Arrived,
-        Letter::Ready,
-        Letter::Moves,
-    ];
+    let second = [Offsets, Arrived, Ready, Moves];
     put_line(page, legend_line(b"     ", &second))
 }
 
 /// Puts what the last letters say.
 #[tactic(auto, unfolding(crate::specs::Pages::legend_third))]
-fn put_third_line(page: &mut Vec<ChartLine>) -> Result<(), AllocError>
+fn put_third_line(page: &mut Vec<ChartLine>) -> Done
     ensures { OnOk result (page.new.items ≡ page.old.items ++ legend_third) }
 {
-    let third = [Letter::Retries, Letter::Replaces, Letter::Moved];
+    let third = [Retries, Replaces, Moved];
     put_line(page, legend_line(b"     ", &third))
 }
 
@@ -176,7 +163,7 @@ static MARKS: [&[u8]; 4] = [
 ];
 
 /// Puts some lines.
-fn put_texts(page: &mut Vec<ChartLine>, texts: &[&[u8]]) -> Result<(), AllocError>
+fn put_texts(page: &mut Vec<ChartLine>, texts: &[&[u8]]) -> Done
     ensures { OnOk result (Grows page.old.items page.new.items) }
 {
     for text in texts.iter() {

@@ -6,13 +6,13 @@ ghost use Rattle.run_plan.specs.Lanes.{letter_at};
 ghost use Rattle.picture_chart.specs.Pages.{lane_line, unit_label, Grows, HasLane, HasPanel, Lanes};
 
 use crate::ChartLine;
+use crate::line::Done;
 use crate::rows::{LABEL, put_line, put_rows};
 use crate::strip::{adapter_rows, line_rows, unit_rows};
 use drive_pictures::{letter_sign, plus};
 use itoa::Buffer;
 use run_picture::Column;
 use run_plan::{Sheet, letter_at};
-use std::alloc::AllocError;
 
 /// How many columns the number of an event has.
 const STEP: usize = 12;
@@ -57,7 +57,7 @@ fn put_adapter(
     units: &[u8],
     before: Option<u8>,
     unit: u8,
-) -> Result<(), AllocError>
+) -> Done
     ensures { OnOk result (Grows page.old.items page.new.items) }
 {
     let adapter = unit / 8;
@@ -76,7 +76,7 @@ fn put_unit(
     drives: Drives<'_>,
     before: Option<u8>,
     unit: u8,
-) -> Result<(), AllocError>
+) -> Done
     ensures { OnOk result (HasLane sheet.now columns.now unit page.old.items page.new.items) }
 {
     put_adapter(page, columns, drives.units, before, unit)?;
@@ -90,7 +90,7 @@ fn put_units(
     sheet: &Sheet<'_>,
     columns: &[Column],
     drives: Drives<'_>,
-) -> Result<(), AllocError>
+) -> Done
     ensures { OnOk result (Lanes sheet.now columns.now drives.entry.units.now (length drives.entry.units.now) page.old.items page.new.items) }
 {
     let mut before = None;
@@ -116,12 +116,7 @@ fn event_line(sheet: &Sheet<'_>, from: usize, count: usize) -> ChartLine {
 }
 
 /// Puts the numbers of the events, and an empty line.
-fn put_foot(
-    page: &mut Vec<ChartLine>,
-    sheet: &Sheet<'_>,
-    from: usize,
-    count: usize,
-) -> Result<(), AllocError>
+fn put_foot(page: &mut Vec<ChartLine>, sheet: &Sheet<'_>, from: usize, count: usize) -> Done
     ensures { OnOk result (Grows page.old.items page.new.items) }
 {
     put_line(page, event_line(sheet, from, count))?;
@@ -135,7 +130,7 @@ pub(crate) fn put_panel(
     drives: Drives<'_>,
     columns: &[Column],
     from: usize,
-) -> Result<(), AllocError>
+) -> Done
     requires { drives.units.now ≡ units_shown sheet.now }
     ensures { OnOk result (HasPanel sheet.now columns.now page.old.items page.new.items) }
 {

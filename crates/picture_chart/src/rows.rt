@@ -3,8 +3,7 @@
 ghost use Rattle.std.specs.Prelude.{◌≡◌, ◌∷◌, [], ◌++◌, OnOk};
 ghost use Rattle.picture_chart.specs.Pages.{Grows};
 
-use crate::line::ChartLine;
-use std::alloc::AllocError;
+use crate::line::{ChartLine, Done};
 
 /// The characters of a row's label.
 pub(crate) const LABEL: usize = 18;
@@ -25,7 +24,7 @@ fn line_of_row(row: &Row) -> ChartLine {
 }
 
 /// Puts a line.
-pub(crate) fn put_line(page: &mut Vec<ChartLine>, line: ChartLine) -> Result<(), AllocError>
+pub(crate) fn put_line(page: &mut Vec<ChartLine>, line: ChartLine) -> Done
     ensures { OnOk result (page.new.items ≡ page.old.items ++ line ∷ []) }
 {
     page.push(line)?;
@@ -33,7 +32,7 @@ pub(crate) fn put_line(page: &mut Vec<ChartLine>, line: ChartLine) -> Result<(),
 }
 
 /// Puts a row. A row with nothing on its strip is left out.
-fn put_row(page: &mut Vec<ChartLine>, row: &Row) -> Result<(), AllocError>
+fn put_row(page: &mut Vec<ChartLine>, row: &Row) -> Done
     ensures { OnOk result (Grows page.old.items page.new.items) }
 {
     if row.strip.is_blank() {
@@ -43,7 +42,7 @@ fn put_row(page: &mut Vec<ChartLine>, row: &Row) -> Result<(), AllocError>
 }
 
 /// Puts rows.
-pub(crate) fn put_rows(page: &mut Vec<ChartLine>, rows: &[Row]) -> Result<(), AllocError>
+pub(crate) fn put_rows(page: &mut Vec<ChartLine>, rows: &[Row]) -> Done
     ensures { OnOk result (Grows page.old.items page.new.items) }
 {
     for row in rows.iter() {

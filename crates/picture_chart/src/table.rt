@@ -4,11 +4,10 @@ ghost use Rattle.std.specs.Prelude.{◌≡◌, ◌++◌, OnOk};
 ghost use Rattle.picture_chart.specs.Pages.{left_out, Grows, HasRows, IsRow};
 
 use crate::ChartLine;
-use crate::line::{line_of, line_with};
+use crate::line::{Done, line_of, line_with};
 use crate::rows::put_line;
 use drive_pictures::{Request, outcome_word};
 use itoa::Buffer;
-use std::alloc::AllocError;
 
 /// What was asked: whether to write, the unit, the cylinder if the request joined, and the lines of the script that asked and were answered.
 fn asked_of(request: &Request) -> ChartLine {
@@ -33,11 +32,8 @@ fn went_of(request: &Request) -> ChartLine {
     line.put_count(request.times.ready, 6);
     line.put_count(request.times.trans, 6);
     line.put_count(request.turn, 4);
-    line.put(if request.is_out_of_order() {
-        b"*"
-    } else {
-        b" "
-    });
+    let is_early = request.is_out_of_order();
+    line.put(if is_early { b"*" } else { b" " });
     line
 }
 
@@ -57,7 +53,7 @@ fn request_line(request: &Request) -> ChartLine
 }
 
 /// Puts the names of the columns.
-pub(crate) fn put_names(page: &mut Vec<ChartLine>) -> Result<(), AllocError>
+pub(crate) fn put_names(page: &mut Vec<ChartLine>) -> Done
     ensures { OnOk result (Grows page.old.items page.new.items) }
 {
     let names = line_of(
@@ -67,10 +63,7 @@ pub(crate) fn put_names(page: &mut Vec<ChartLine>) -> Result<(), AllocError>
 }
 
 /// Puts a line for each request.
-pub(crate) fn put_requests(
-    page: &mut Vec<ChartLine>,
-    requests: &[Request],
-) -> Result<(), AllocError>
+pub(crate) fn put_requests(page: &mut Vec<ChartLine>, requests: &[Request]) -> Done
     ensures { OnOk result (HasRows requests.now page.old.items page.new.items) }
 {
     for request in requests.iter() {
@@ -81,7 +74,7 @@ pub(crate) fn put_requests(
 }
 
 /// Puts how many requests are not listed, if there are some.
-pub(crate) fn put_left_out(page: &mut Vec<ChartLine>, count: u64) -> Result<(), AllocError>
+pub(crate) fn put_left_out(page: &mut Vec<ChartLine>, count: u64) -> Done
     ensures { OnOk result (page.new.items ≡ page.old.items ++ left_out count) }
 {
     if count == 0 {

@@ -7,7 +7,7 @@ use std::alloc::Global;
 /// Whether the picture of an example is its own.
 fn has_picture(alloc: Global, example: &Example) -> bool {
     let ended = view_of(alloc, "svg", example.script, example.trace);
-    ended.status == 0 && Sha256::digest(ended.out.as_slice()) == example.picture
+    ended.status == 0 && Sha256::digest(ended.out.as_slice()) == *example.picture
 }
 
 #[test]

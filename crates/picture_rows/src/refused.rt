@@ -12,9 +12,43 @@ const ONE: &[u8] =
 const THREE: &[u8] =
     b"# Two drives seek at the same time, while a third transfers.\nunit 0 rp06\nunit 1 rp06\nunit 2 rm03\nread 1 2 c 5 3\nread 2 0 c 4180 2\nwrite 3 1 c 8360 1 fill 33\nmove 0\narrive 1\nmove 0\narrive 0\nmove 0\nattend 0\n";
 
-/// A script, its trace, and what is told of the first faulty line: each kind of refusal, and each two neighbours in the order of
-/// the checks.
-static REFUSED: [(&[u8], &[u8], &[u8]); 46] = [
+/// Traces of which the first line is none, beside a script that has no line.
+static NO_LINE: [&[u8]; 30] = [
+    b"\n",
+    b"idle\n",
+    b"idle 0\n",
+    b"idle 01\n",
+    b"idle 1000002\n",
+    b"idle 5 \n",
+    b" idle 5\n",
+    b"idle  5\n",
+    b"idle 5\r\n",
+    b"arrive 1 32 0\n",
+    b"arrive 1 31 4294967296\n",
+    b"arrive 1 31\n",
+    b"end 1 0 0 0\n",
+    b"cmd 1 0 0\n",
+    b"cmd 1 0 0 search 823 0\n",
+    b"cmd 1 0 0 search 822 32\n",
+    b"cmd 1 0 0 seek 823\n",
+    b"cmd 1 0 0 recal 0\n",
+    b"cmd 1 0 0 offset 400\n",
+    b"cmd 1 0 0 rcom 500384 1\n",
+    b"cmd 1 0 0 wcom 0 0\n",
+    b"cmd 1 0 0 rcom 0 128\n",
+    b"try 1 0 0 7 0\n",
+    b"try 1 0 0 7 29\n",
+    b"sector 1 0 0 7 burst 0 1\n",
+    b"sector 1 0 0 7 burst 4129 1\n",
+    b"sector 1 0 0 7 burst 1 4000\n",
+    b"sector 1 0 0 7 burst 1 8\n",
+    b"sector 1 0 0 7 burst 1\n",
+    b"sector 1 0 0 7 bad\n",
+];
+
+/// A script, its trace, and what is told of the first faulty line: each further kind of refusal, and each two neighbours in the order
+/// of the checks.
+static REFUSED: [(&[u8], &[u8], &[u8]); 16] = [
     (
         b"",
         b"idle 1\nidle 1000001\nidle 1000002\n",
@@ -35,86 +69,12 @@ static REFUSED: [(&[u8], &[u8], &[u8]); 46] = [
         b"cmd 5 2 1 rcom 5 3\ncmd 6 0 2 search 10 19\ncmd 7 1 3 search 20 19\nsector 8 2 1 05 clean\narrive 9 1 3\n",
         b"refused trace line 4 word\n",
     ),
-    (b"", b"\n", b"refused trace line 1 word\n"),
-    (b"", b"idle\n", b"refused trace line 1 word\n"),
-    (b"", b"idle 0\n", b"refused trace line 1 word\n"),
-    (b"", b"idle 01\n", b"refused trace line 1 word\n"),
-    (b"", b"idle 1000002\n", b"refused trace line 1 word\n"),
-    (b"", b"idle 5 \n", b"refused trace line 1 word\n"),
-    (b"", b" idle 5\n", b"refused trace line 1 word\n"),
-    (b"", b"idle  5\n", b"refused trace line 1 word\n"),
-    (b"", b"idle 5\r\n", b"refused trace line 1 word\n"),
     (b"", b"idle 5\n\nidle 4\n", b"refused trace line 2 word\n"),
     (
         b"",
         b"idle 5\nidle 4\nidle\n",
         b"refused trace line 2 order\n",
     ),
-    (b"", b"arrive 1 32 0\n", b"refused trace line 1 word\n"),
-    (
-        b"",
-        b"arrive 1 31 4294967296\n",
-        b"refused trace line 1 word\n",
-    ),
-    (b"", b"arrive 1 31\n", b"refused trace line 1 word\n"),
-    (b"", b"end 1 0 0 0\n", b"refused trace line 1 word\n"),
-    (b"", b"cmd 1 0 0\n", b"refused trace line 1 word\n"),
-    (
-        b"",
-        b"cmd 1 0 0 search 823 0\n",
-        b"refused trace line 1 word\n",
-    ),
-    (
-        b"",
-        b"cmd 1 0 0 search 822 32\n",
-        b"refused trace line 1 word\n",
-    ),
-    (b"", b"cmd 1 0 0 seek 823\n", b"refused trace line 1 word\n"),
-    (b"", b"cmd 1 0 0 recal 0\n", b"refused trace line 1 word\n"),
-    (
-        b"",
-        b"cmd 1 0 0 offset 400\n",
-        b"refused trace line 1 word\n",
-    ),
-    (
-        b"",
-        b"cmd 1 0 0 rcom 500384 1\n",
-        b"refused trace line 1 word\n",
-    ),
-    (b"", b"cmd 1 0 0 wcom 0 0\n", b"refused trace line 1 word\n"),
-    (
-        b"",
-        b"cmd 1 0 0 rcom 0 128\n",
-        b"refused trace line 1 word\n",
-    ),
-    (b"", b"try 1 0 0 7 0\n", b"refused trace line 1 word\n"),
-    (b"", b"try 1 0 0 7 29\n", b"refused trace line 1 word\n"),
-    (
-        b"",
-        b"sector 1 0 0 7 burst 0 1\n",
-        b"refused trace line 1 word\n",
-    ),
-    (
-        b"",
-        b"sector 1 0 0 7 burst 4129 1\n",
-        b"refused trace line 1 word\n",
-    ),
-    (
-        b"",
-        b"sector 1 0 0 7 burst 1 4000\n",
-        b"refused trace line 1 word\n",
-    ),
-    (
-        b"",
-        b"sector 1 0 0 7 burst 1 8\n",
-        b"refused trace line 1 word\n",
-    ),
-    (
-        b"",
-        b"sector 1 0 0 7 burst 1\n",
-        b"refused trace line 1 word\n",
-    ),
-    (b"", b"sector 1 0 0 7 bad\n", b"refused trace line 1 word\n"),
     (ONE, b"idle 9\n", b"refused trace line 1 script\n"),
     (
         ONE,
@@ -163,6 +123,9 @@ fn is_refused(alloc: Global, script: &[u8], trace: &[u8], told: &[u8]) -> bool {
 
 #[test]
 fn first_faults(rt: HostRuntime) {
+    for trace in &NO_LINE {
+        assert!(rt; is_refused(rt.alloc(), b"", trace, b"refused trace line 1 word\n"));
+    }
     for (script, trace, told) in &REFUSED {
         assert!(rt; is_refused(rt.alloc(), script, trace, told));
     }

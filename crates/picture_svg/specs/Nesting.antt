@@ -4,11 +4,11 @@ use Rattle.drive_pictures.specs.declared.letters.Letter.{Letter}
 use Rattle.drive_pictures.specs.declared.requests.Request.{Request}
 use Rattle.picture_svg.specs.declared.pieces.Element.{Element}
 use Rattle.picture_svg.specs.declared.pieces.Element.TheVariants as element
-use Rattle.picture_svg.specs.declared.pieces.Start.{Start}
-use Rattle.picture_svg.specs.declared.pieces.Start.TheVariants as start
+use Rattle.picture_svg.specs.declared.pieces.Opening.{Opening}
+use Rattle.picture_svg.specs.declared.pieces.Opening.TheVariants as opening
 use Rattle.picture_svg.specs.declared.pieces.Piece.{Piece}
 use Rattle.picture_svg.specs.declared.pieces.Piece.TheVariants as piece
-use Rattle.picture_svg.specs.Places.{is_low, is_small, start_is_low, route_is_low}
+use Rattle.picture_svg.specs.Places.{is_low}
 
 -- the elements that are open, the innermost first; whether an element ended that was not the innermost, something was told
 -- where it does not belong, or a coordinate was too high; the lines that were told in tooltips, the captions, the requests of the table's rows, and the letters
@@ -25,15 +25,15 @@ abbrev pub blank : Drawn
 blank = record { within = []; broken = false; told = []; captions = []; rows = []; legend = [] }
 
 -- the element that a start opens
-abbrev pub element_of : Start → Element
-element_of (start.Svg size) = element.Svg
-element_of start.Group = element.Group
-element_of start.Title = element.Title
-element_of start.Caption = element.Title
-element_of start.Desc = element.Desc
-element_of (start.Text class at) = element.Text
-element_of (start.Upwards at) = element.Text
-element_of (start.Line class at) = element.Line
+abbrev pub element_of : Opening → Element
+element_of opening.Svg = element.Svg
+element_of opening.Group = element.Group
+element_of opening.Title = element.Title
+element_of opening.Caption = element.Title
+element_of opening.Desc = element.Desc
+element_of opening.Text = element.Text
+element_of opening.Upwards = element.Text
+element_of opening.Line = element.Line
 
 abbrev pub is_same : Element → Element → Bool
 is_same element.Svg element.Svg = true
@@ -83,16 +83,15 @@ with_letter d l = record d { legend = d.legend ++ l ∷ [] }
 
 -- A PIECE MORE
 abbrev pub drawn_with : Drawn → Piece → Drawn
-drawn_with d (piece.Start s) = started (element_of s) (placed (start_is_low s) d)
+drawn_with d (piece.Start o class at) = started (element_of o) (placed (is_low at) d)
 drawn_with d (piece.End e) = ended e d
 drawn_with d (piece.Caption caption) = captioned caption.now d
 drawn_with d (piece.Told line) = told (line.now ∷ []) (inside element.Title d)
 drawn_with d (piece.Row r) = with_row (inside element.Title d) r
 drawn_with d (piece.Meaning l) = with_letter (inside element.Text d) l
 drawn_with d (piece.Corner p) = inside element.Line (placed (is_low p) d)
-drawn_with d (piece.Rect class corner size fill) = placed (is_low corner && is_small size) d
-drawn_with d (piece.Dot class middle) = placed (is_low middle) d
-drawn_with d (piece.Path class way) = placed (route_is_low way) d
+drawn_with d (piece.Shape s class from to) = placed (is_low from && is_low to) d
+drawn_with d (piece.Filled l corner size) = placed (is_low corner && is_low size) d
 drawn_with d p = d
 
 abbrev pub drawn : List Piece → Drawn

@@ -1,5 +1,5 @@
 -- A PICTURE OF A RUN: what it has to show.
-use Rattle.std.specs.Prelude.{◌≡◌, ℕ, ◌==◌, nat_lt, Bool, false, ◌&&◌, if◌then◌else◌, List, [], ◌∷◌, ◌++◌, map, filter, fold, count_by, take}
+use Rattle.std.specs.Prelude.{◌≡◌, ℕ, ◌==◌, nat_lt, Bool, false, ◌&&◌, if◌then◌else◌, List, [], ◌∷◌, ◌++◌, map, filter, count_by, take}
 use Rattle.std.specs.List.{flat_map}
 use Rattle.drive_pictures.specs.declared.requests.Request.{Request}
 use Rattle.run_picture.specs.declared.columns.Note.{Note}
@@ -8,10 +8,9 @@ use Rattle.run_plan.specs.Notes.{lines_shown}
 use Rattle.run_plan.specs.Requests.{is_few, listed, shown_count}
 use Rattle.run_plan.specs.Units.{is_drawn, units_shown}
 use Rattle.run_plan.specs.Window.{title_of}
-use Rattle.picture_svg.specs.declared.scene.Drawing.{Drawing}
 use Rattle.picture_svg.specs.declared.scene.Lane.{Lane}
 use Rattle.picture_svg.specs.Legend.{explained}
-use Rattle.picture_svg.specs.Nesting.{Drawn, told, with_row}
+use Rattle.picture_svg.specs.Nesting.{Drawn}
 use Rattle.picture_svg.specs.Texts.{IsWritten}
 
 -- the front of the caption that is drawn
@@ -30,13 +29,6 @@ lines_of_lane sheet lane = lines_shown sheet lane.unit
 
 abbrev pub lines_of_lanes : Sheet → List Lane → List (List ℕ)
 lines_of_lanes sheet lanes = flat_map (lines_of_lane sheet) lanes
-
--- such lines are told, and requests are listed, in a drawing under way
-abbrev pub telling : List (List ℕ) → Drawing → Drawing
-telling lines d = record d { out = told lines d.out }
-
-abbrev pub listing : List Request → Drawing → Drawing
-listing rows d = record d { out = fold with_row d.out rows }
 
 -- the lines that name a drive which is drawn, as they came, where a column is one event
 abbrev pub names_drawn : Sheet → Note → Bool

@@ -1,7 +1,6 @@
 -- PLACES: where columns, events and cylinders stand. They rise, and 0 and the top meet their bounds.
-use Rattle.std.specs.Prelude.{ℕ, ◌+◌, ◌-◌, ◌*◌, ◌/◌, ◌^◌, ◌==◌, min, max, Bool, true, not, if◌then◌else◌, List, get_or, [], fold, Option, Some, None, unwrap_or}
+use Rattle.std.specs.Prelude.{ℕ, ◌+◌, ◌-◌, ◌*◌, ◌/◌, ◌^◌, ◌==◌, min, max, Bool, true, not, if◌then◌else◌, List, get_or, [], fold, Option, Some, None}
 use Rattle.drive_pictures.specs.declared.cells.Cell.{Cell}
-use Rattle.drive_pictures.specs.declared.requests.Request.{Request}
 use Rattle.run_picture.specs.declared.columns.Column.{Column}
 use Rattle.run_picture.specs.Columns.{new_head}
 use Rattle.run_picture.specs.Fold.{drive_at}
@@ -27,25 +26,15 @@ right_of frame = place_of frame frame.count
 unfoldable pub beside_of : Frame → ℕ
 beside_of frame = max (right_of frame) 690 + 16
 
--- where an event stands; where a stretch begins, how wide it is, and its middle
+-- where an event stands; how wide a stretch is, and its middle
 unfoldable pub event_at : Scene → ℕ → ℕ
 event_at scene event = place_of scene.frame (column_of scene.sheet.now event)
-
-unfoldable pub start_of : Scene → Stretch → ℕ
-start_of scene stretch = place_of scene.frame stretch.from
 
 unfoldable pub width_of : Scene → Stretch → ℕ
 width_of scene stretch = place_of scene.frame stretch.to - place_of scene.frame stretch.from
 
 unfoldable pub middle_of : Scene → Stretch → ℕ
-middle_of scene stretch = start_of scene stretch + width_of scene stretch / 2
-
--- where a request comes to hand, and where it ends
-unfoldable pub hand_of : Scene → Request → ℕ
-hand_of scene request = event_at scene (unwrap_or request.in_hand 0)
-
-unfoldable pub end_of : Scene → Request → ℕ
-end_of scene request = event_at scene (unwrap_or request.ended 0)
+middle_of scene stretch = place_of scene.frame stretch.from + width_of scene stretch / 2
 
 -- the part of a height that some events, or cylinders, are of all
 abbrev pub part_of : ℕ → ℕ → ℕ → ℕ

@@ -1,25 +1,18 @@
 -- THE TEXT OF A DRAWING: what stands behind a text with each piece more.
-use Rattle.std.specs.Prelude.{◌≡◌, ℕ, ◌==◌, nat_le, Bool, ◌&&◌, if◌then◌else◌, List, [], ◌∷◌, ◌++◌, Option, Some, None, fold, codes, decimal}
-use denote.Ref.{Bor}
+use Rattle.std.specs.Prelude.{◌≡◌, ℕ, ◌==◌, nat_le, Bool, ◌&&◌, if◌then◌else◌, List, [], ◌∷◌, ◌++◌, fold, codes, decimal}
 use Rattle.drive_pictures.specs.declared.letters.Letter.{Letter}
 use Rattle.drive_pictures.specs.declared.requests.Request.{Request}
-use Rattle.drive_pictures.specs.Words.{outcome_word}
+use Rattle.drive_pictures.specs.Words.{letter_word, outcome_word}
 use Rattle.picture_svg.specs.declared.pieces.Element.{Element}
 use Rattle.picture_svg.specs.declared.pieces.Element.TheVariants as element
-use Rattle.picture_svg.specs.declared.pieces.Start.{Start}
-use Rattle.picture_svg.specs.declared.pieces.Start.TheVariants as start
+use Rattle.picture_svg.specs.declared.pieces.Opening.{Opening}
+use Rattle.picture_svg.specs.declared.pieces.Opening.TheVariants as opening
 use Rattle.picture_svg.specs.declared.pieces.Point.{Point}
-use Rattle.picture_svg.specs.declared.pieces.Size.{Size}
-use Rattle.picture_svg.specs.declared.pieces.Route.{Route}
-use Rattle.picture_svg.specs.declared.pieces.Route.TheVariants as route
-use Rattle.picture_svg.specs.declared.pieces.Sign.{Sign}
-use Rattle.picture_svg.specs.declared.pieces.Sign.TheVariants as sign
+use Rattle.picture_svg.specs.declared.pieces.Shape.{Shape}
+use Rattle.picture_svg.specs.declared.pieces.Shape.TheVariants as shape
 use Rattle.picture_svg.specs.declared.pieces.Piece.{Piece}
 use Rattle.picture_svg.specs.declared.pieces.Piece.TheVariants as piece
-use Rattle.picture_svg.specs.declared.render.Part.{Part}
-use Rattle.picture_svg.specs.declared.render.Part.TheVariants as part
 use Rattle.picture_svg.specs.declared.style.TheConstants.{STYLE}
-use Rattle.drive_pictures.specs.Words.{letter_word}
 use Rattle.picture_svg.specs.Legend.{pattern_of}
 use Rattle.picture_svg.specs.Nesting.{Drawn, drawn}
 
@@ -41,37 +34,34 @@ with_byte text b = text ++ escaped b
 unfoldable pub with_words : List ℕ → List ℕ → List ℕ
 with_words bytes text = fold with_byte text bytes
 
--- WORDS with a number, and with a point
-abbrev pub with_leg : List ℕ → ℕ → List ℕ → List ℕ
-with_leg letter n text = text ++ letter ++ decimal n
+-- A TEMPLATE: in it C stands for a class or for words, X and Y for the numbers of a point, and R and D for those of another, or of a size
+abbrev pub slot_of : List ℕ → Point → Point → ℕ → List ℕ
+slot_of class from to b =
+    if b == 67
+    then class
+    else if b == 88
+    then decimal from.x
+    else if b == 89
+    then decimal from.y
+    else if b == 82 then decimal to.x else if b == 68 then decimal to.y else b ∷ []
 
-abbrev pub with_point : List ℕ → Point → List ℕ → List ℕ
-with_point letter p text = with_leg (codes " ") p.y (with_leg letter p.x text)
+abbrev pub with_slot : List ℕ → Point → Point → List ℕ → ℕ → List ℕ
+with_slot class from to text b = text ++ slot_of class from to b
 
-abbrev pub with_part : List ℕ → Part → List ℕ
-with_part text (part.Words words) = text ++ words.now
-with_part text (part.Leg letter n) = with_leg letter.now n text
-with_part text (part.Point letter p) = with_point letter.now p text
+unfoldable pub with_template : List ℕ → List ℕ → Point → Point → List ℕ → List ℕ
+with_template template class from to text = fold (with_slot class from to) text template
 
 -- THE START OF AN ELEMENT, AND ITS END
-abbrev pub with_svg : Size → List ℕ → List ℕ
-with_svg size text =
-    with_leg (codes " ") size.height (with_leg (codes "\" viewBox=\"0 0 ") size.width
-    (with_leg (codes "\" height=\"") size.height (with_leg (codes "\" width=\"") size.width (text ++ codes "<svg xmlns=\"http://www.w3.org/2000/svg"))))
-    ++ codes "\" role=\"graphics-document document\" aria-labelledby=\"t d\">\n"
-
-unfoldable pub with_start : Start → List ℕ → List ℕ
-with_start (start.Svg size) text = with_svg size text
-with_start start.Group text = text ++ codes "<g>"
-with_start start.Title text = text ++ codes "<title>"
-with_start start.Caption text = text ++ codes "<title id=\"t\">"
-with_start start.Desc text = text ++ codes "<desc id=\"d\">"
-with_start (start.Text class at) text =
-    with_leg (codes "\" y=\"") at.y (with_leg (codes "\" x=\"") at.x (text ++ codes "<text class=\"" ++ class.now)) ++ codes "\">"
-with_start (start.Upwards at) text =
-    with_point (codes "<text class=\"m\" transform=\"translate(") at text ++ codes ")rotate(-90)\">"
-with_start (start.Line class at) text =
-    with_leg (codes ",") at.y (with_leg (codes "\" points=\"") at.x (text ++ codes "<polyline class=\"" ++ class.now))
+unfoldable pub opening_text : Opening → List ℕ
+opening_text opening.Svg =
+    codes "<svg xmlns=\"http://www.w3.org/2000/svg\" width=\"X\" height=\"Y\" viewBox=\"0 0 X Y\" role=\"graphics-document document\" aria-labelledby=\"t d\">\n"
+opening_text opening.Group = codes "<g>"
+opening_text opening.Title = codes "<title>"
+opening_text opening.Caption = codes "<title id=\"t\">"
+opening_text opening.Desc = codes "<desc id=\"d\">"
+opening_text opening.Text = codes "<text class=\"C\" x=\"X\" y=\"Y\">"
+opening_text opening.Upwards = codes "<text class=\"C\" transform=\"translate(X Y)rotate(-90)\">"
+opening_text opening.Line = codes "<polyline class=\"C\" points=\"X,Y"
 
 unfoldable pub with_end : Element → List ℕ → List ℕ
 with_end element.Svg text = text ++ codes "</svg>\n"
@@ -82,57 +72,36 @@ with_end element.Text text = text ++ codes "</text>\n"
 with_end element.Line text = text ++ codes "\"/>\n"
 
 -- ELEMENTS WITH NOTHING IN THEM
-abbrev pub with_fill : Option Letter → List ℕ → List ℕ
-with_fill None text = text
-with_fill (Some l) text = text ++ codes " fill=\"url(#" ++ pattern_of l ++ codes ")\""
+unfoldable pub shape_text : Shape → List ℕ
+shape_text shape.Rect = codes "<rect class=\"C\" x=\"X\" y=\"Y\" width=\"R\" height=\"D\"/>\n"
+shape_text shape.Dot = codes "<circle class=\"C\" cx=\"X\" cy=\"Y\" r=\"2\"/>\n"
+shape_text shape.Across = codes "<path class=\"C\" d=\"MX YHR\"/>\n"
+shape_text shape.TwoAcross = codes "<path class=\"C\" d=\"MX YHRMX DHR\"/>\n"
+shape_text shape.Down = codes "<path class=\"C\" d=\"MX YVD\"/>\n"
+shape_text shape.Slope = codes "<path class=\"C\" d=\"MX YLR D\"/>\n"
+shape_text shape.Bracket = codes "<path class=\"C\" d=\"MX Yv-4hR\"/>\n"
+shape_text shape.Bar = codes "<path class=\"C\" d=\"MX Yv12\"/>\n"
+shape_text shape.Tick = codes "<path class=\"C\" d=\"MX Yl2 3l4 -6\"/>\n"
+shape_text shape.Diamond = codes "<path class=\"C\" d=\"MX Yl-3 4l3 4l3 -4z\"/>\n"
+shape_text shape.Triangle = codes "<path class=\"C\" d=\"MX Yl-3 6h6z\"/>\n"
 
-unfoldable pub with_rect : List ℕ → Point → Size → Option Letter → List ℕ → List ℕ
-with_rect class corner size fill text =
-    with_fill fill (with_leg (codes "\" height=\"") size.height (with_leg (codes "\" width=\"") size.width
-    (with_leg (codes "\" y=\"") corner.y (with_leg (codes "\" x=\"") corner.x (text ++ codes "<rect class=\"" ++ class)))) ++ codes "\"")
-    ++ codes "/>\n"
-
-unfoldable pub with_dot : List ℕ → Point → List ℕ → List ℕ
-with_dot class p text =
-    with_leg (codes "\" cy=\"") p.y (with_leg (codes "\" cx=\"") p.x (text ++ codes "<circle class=\"" ++ class)) ++ codes "\" r=\"2\"/>\n"
-
-abbrev pub way_of : Sign → List ℕ
-way_of sign.Tick = codes "l2 3l4 -6"
-way_of sign.Diamond = codes "l-3 4l3 4l3 -4z"
-way_of sign.Triangle = codes "l-3 6h6z"
-
-unfoldable pub with_route : Route → List ℕ → List ℕ
-with_route (route.Across from to) text = with_leg (codes "H") to.x (with_point (codes "M") from text)
-with_route (route.TwoAcross from to) text =
-    with_leg (codes "H") to.x (with_leg (codes " ") to.y (with_leg (codes "M") from.x
-    (with_leg (codes "H") to.x (with_point (codes "M") from text))))
-with_route (route.Down from to) text = with_leg (codes "V") to.y (with_point (codes "M") from text)
-with_route (route.Line from to) text = with_point (codes "L") to (with_point (codes "M") from text)
-with_route (route.Bracket from size) text = with_leg (codes "v-4h") size.width (with_point (codes "M") from text)
-with_route (route.Tick from) text = with_point (codes "M") from text ++ codes "v12"
-with_route (route.Sign from s) text = with_point (codes "M") from text ++ way_of s
-
-unfoldable pub with_path : List ℕ → Route → List ℕ → List ℕ
-with_path class way text =
-    with_route way (text ++ codes "<path class=\"" ++ class ++ codes "\" d=\"") ++ codes "\"/>\n"
+abbrev pub with_filled : Letter → Point → Point → List ℕ → List ℕ
+with_filled l corner size text =
+    with_template (codes "<rect class=\"r\" x=\"X\" y=\"Y\" width=\"R\" height=\"D\" fill=\"url(#C)\"/>\n") (pattern_of l) corner size text
 
 -- WHAT IS TOLD OF A REQUEST
-unfoldable pub with_request : Request → List ℕ → List ℕ
+abbrev pub with_request : Request → List ℕ → List ℕ
 with_request r text =
-    with_leg (codes ", answered at line ") r.ended_line (with_leg (codes ": asked at line ") r.line (with_leg (codes "request ") r.id text))
-    ++ codes ": " ++ outcome_word r.outcome
-
--- the classes and the patterns
-abbrev pub with_line : List ℕ → Bor (List ℕ) → List ℕ
-with_line text line = text ++ line.now ++ codes "\n"
-
-unfoldable pub with_style : List ℕ → List ℕ
-with_style text = fold (λ text line. text ++ line.now ++ codes "\n") text STYLE
+    with_template (codes "request X: asked at line Y, answered at line R: C") (outcome_word r.outcome)
+    (record { x = r.id; y = r.line }) (record { x = r.ended_line; y = 0 }) text
 
 -- A PIECE MORE
 abbrev pub with_piece : List ℕ → Piece → List ℕ
-with_piece text (piece.Start s) = with_start s text
+with_piece text (piece.Start o class at) = with_template (opening_text o) class.now at at text
 with_piece text (piece.End e) = with_end e text
+with_piece text (piece.Shape s class from to) = with_template (shape_text s) class.now from to text
+with_piece text (piece.Filled l corner size) = with_filled l corner size text
+with_piece text (piece.Corner p) = with_template (codes " X,Y") [] p p text
 with_piece text (piece.Word word) = with_words word.now text
 with_piece text (piece.Number n) = text ++ decimal n
 with_piece text (piece.Said bytes) = with_words bytes.now text
@@ -141,13 +110,9 @@ with_piece text (piece.Told line) = with_words line.now text
 with_piece text (piece.Row r) = with_request r text
 with_piece text (piece.Meaning l) = text ++ letter_word l
 with_piece text piece.Feed = text ++ codes "\n"
-with_piece text (piece.Corner p) = with_leg (codes ",") p.y (with_leg (codes " ") p.x text)
-with_piece text (piece.Rect class corner size fill) = with_rect class.now corner size fill text
-with_piece text (piece.Dot class p) = with_dot class.now p text
-with_piece text (piece.Path class way) = with_path class.now way text
-with_piece text piece.Style = with_style text
+with_piece text piece.Style = text ++ STYLE.now
 
--- A DRAWING IS WRITTEN AS A TEXT. Each coordinate in its pieces is below 20,000, as their points and sizes are.
+-- A DRAWING IS WRITTEN AS A TEXT. Each coordinate in its pieces is below 20,000, as their points are.
 pub record IsWritten (d : Drawn) (text : List ℕ) : Type 0 where
   pub pieces : List Piece
   pub text_is : text ≡ fold with_piece [] pieces

@@ -2,27 +2,17 @@
 
 ghost use Rattle.std.specs.Prelude.{◌≡◌, ◌≤◌, OnOk};
 ghost use Rattle.run_plan.specs.Notes.{lines_shown};
-ghost use Rattle.picture_svg.specs.Nesting.{started};
-ghost use Rattle.picture_svg.specs.Pictures.{telling};
+ghost use Rattle.picture_svg.specs.Nesting.{started, told};
 ghost use Rattle.picture_svg.specs.declared.pieces.Element.TheVariants.{Group};
 
 use crate::holders::all_held;
-use crate::markup::Markup;
-use crate::pieces::{Element, Piece, Route, at, extent};
-use crate::scene::{Drawing, LABEL, LEFT, Lane, Scene, width_of};
+use crate::markup::{Done, Markup};
+use crate::pieces::Piece::{End, Number, Word};
+use crate::pieces::{Element, Shape, at};
+use crate::scene::{LABEL, LEFT, Lane, Scene, width_of};
 use crate::stretches::Track;
-use drive_pictures::{Drive, Outcome, Request, plus};
+use drive_pictures::{Outcome, Request, plus};
 use run_plan::is_shown;
-use std::alloc::AllocError;
-
-/// How many requests of a unit wait in a column, at most.
-fn most_waiting(scene: &Scene<'_, '_>, unit: u8) -> u64 {
-    let mut most: u64 = 0;
-    for column in 0..scene.columns().len() {
-        most = most.max(scene.cell(unit, column).waiting);
-    }
-    most
-}
 
 /// How many requests of a unit were answered ok, of how many, and how long one of them waited at most.
 fn count_answers(requests: &[Request], unit: u8) -> (u64, u64, u64) {
@@ -40,145 +30,120 @@ fn count_answers(requests: &[Request], unit: u8) -> (u64, u64, u64) {
 }
 
 /// The group of a drive begins, with its tooltip and its name.
-fn begin_lane(out: &mut Markup<'_>, lane: &Lane, y: u32) -> Result<(), AllocError>
+fn begin_lane(out: &mut Markup<'_>, lane: &Lane, y: u32) -> Done
     requires { y ≤ 18500 }
     ensures { OnOk result (out.new ≡ started Group out.old) }
 {
     let unit = u64::from(lane.unit);
     out.begin_tip()?;
-    out.put_all(&[
-        Piece::Word("unit "),
-        Piece::Number(unit),
-        Piece::Word(" "),
-        Piece::Word(lane.kind),
-        Piece::End(Element::Title),
-    ])?;
+    out.put_all(&[Word("unit "), Number(unit), Word(" "), Word(lane.kind)])?;
+    out.put(End(Element::Title))?;
     out.text_with("b", at(16, y + 25), "unit ", unit)?;
     out.text("q", at(66, y + 25), lane.kind)
 }
 
-impl<'s, 'a> Drawing<'s, 'a> {
+impl<'s, 'a> Scene<'s, 'a> {
+    /// How many requests of a unit wait in a column, at most.
+    fn most_waiting(&self, unit: u8) -> u64 {
+        let mut most: u64 = 0;
+        for column in 0..self.sheet.columns().len() {
+            most = most.max(self.cell(unit, column).waiting);
+        }
+        most
+    }
+
     /// A number and what it counts, beside a drive.
-    fn draw_total(&mut self, y: u32, number: u64, word: &'static str) -> Result<(), AllocError>
+    fn draw_total(&self, out: &mut Markup<'_>, y: u32, number: u64, word: &'static str) -> Done
         requires { y ≤ 19500 }
-        ensures { OnOk result (self.new ≡ self.old) }
+        ensures { OnOk result (out.new ≡ out.old) }
     {
-        let beside = self.scene.frame.beside();
-        self.out.text_with("m e", at(beside + 36, y), "", number)?;
-        self.out.text("q", at(beside + 44, y), word)
+        let beside = self.frame.beside();
+        out.text_with("m e", at(beside + 36, y), "", number)?;
+        out.text("q", at(beside + 44, y), word)
     }
 
     /// An adapter, above its drives.
-    pub fn draw_adapter(&mut self, adapter: u8, y: u32) -> Result<(), AllocError>
+    pub fn draw_adapter(&self, out: &mut Markup<'_>, adapter: u8, y: u32) -> Done
         requires { y ≤ 18500 }
-        ensures { OnOk result (self.new ≡ self.old) }
+        ensures { OnOk result (out.new ≡ out.old) }
     {
-        let from = at(LEFT, y + 17);
-        let to = at(self.scene.frame.right(), y + 40);
-        let held = all_held(self.scene.columns(), self.scene.lanes, adapter);
-        self.out
-            .text_with("b", at(16, y + 13), "adapter ", u64::from(adapter))?;
-        self.out.text("q e", at(LABEL, y + 13), "held by unit")?;
-        self.out.text("q e", at(LABEL, y + 36), "positioning")?;
-        self.out.path("g", Route::TwoAcross { from, to })?;
-        self.draw_total(y + 13, held, "events held")?;
-        self.draw_all_bars(Track::Held(adapter), y)?;
-        self.draw_all_bars(Track::Positioning(adapter), y)
+        let (from, to) = (at(LEFT, y + 17), at(self.frame.right(), y + 40));
+        let held = all_held(self.sheet.columns(), self.lanes, adapter);
+        out.text_with("b", at(16, y + 13), "adapter ", u64::from(adapter))?;
+        out.text("q e", at(LABEL, y + 13), "held by unit")?;
+        out.text("q e", at(LABEL, y + 36), "positioning")?;
+        out.shape(Shape::TwoAcross, "g", from, to)?;
+        self.draw_total(out, y + 13, held, "events held")?;
+        self.draw_all_bars(out, Track::Held(adapter), y)?;
+        self.draw_all_bars(out, Track::Positioning(adapter), y)
     }
 
-    /// The requests in hand, if a column is one event: the time of each as a bracket, and its id if there is room.
-    fn draw_in_hand(&mut self, unit: u8, y: u32) -> Result<(), AllocError>
+    /// The requests of a drive: how many wait, or, if a column is one event, the time in hand of each as a bracket, and its id if there
+    /// is room.
+    fn draw_requests(&self, out: &mut Markup<'_>, unit: u8, y: u32) -> Done
         requires { y ≤ 19000 }
-        ensures { OnOk result (self.new ≡ self.old) }
+        ensures { OnOk result (out.new ≡ out.old) }
     {
-        self.out.text("q e", at(LABEL, y + 8), "in hand")?;
-        for request in self.scene.sheet.run.requests().iter() {
-            if request.unit == unit && is_shown(self.scene.sheet, request) {
-                let x = self.scene.hand(request);
-                let width = self.scene.end(request).saturating_sub(x);
-                let id = u64::from(request.id);
+        if !self.sheet.is_by_event() {
+            let most = self.most_waiting(unit);
+            out.text_with("q e", at(LABEL, y + 8), "asked for, most ", most)?;
+            return self.draw_all_bars(out, Track::Waiting(unit, most), y);
+        }
+        out.text("q e", at(LABEL, y + 8), "in hand")?;
+        for request in self.sheet.run.requests().iter() {
+            if request.unit == unit && is_shown(self.sheet, request) {
+                let x = self.at(request.in_hand.unwrap_or(0));
+                let end = self.at(request.ended.unwrap_or(0));
+                let (width, id) = (end.saturating_sub(x), u64::from(request.id));
                 if width > 0 {
-                    let from = at(x, y + 11);
-                    let size = extent(width.saturating_sub(2), 0);
-                    self.out.path("k", Route::Bracket { from, size })?;
+                    let size = at(width.saturating_sub(2), 0);
+                    out.shape(Shape::Bracket, "k", at(x, y + 11), size)?;
                 }
                 if width >= width_of(id).saturating_add(4) {
-                    self.out.text_with("m", at(x + 2, y + 5), "", id)?;
+                    out.text_with("m", at(x + 2, y + 5), "", id)?;
                 }
             }
         }
         Ok(())
     }
 
-    /// The requests of a drive: those in hand, or how many wait if a column is several events.
-    fn draw_requests(&mut self, unit: u8, y: u32) -> Result<(), AllocError>
-        requires { y ≤ 19000 }
-        ensures { OnOk result (self.new ≡ self.old) }
-    {
-        if self.scene.sheet.is_by_event() {
-            return self.draw_in_hand(unit, y);
-        }
-        let most = most_waiting(&self.scene, unit);
-        self.out
-            .text_with("q e", at(LABEL, y + 8), "asked for, most ", most)?;
-        self.draw_all_bars(Track::Waiting(unit, most), y)
-    }
-
-    /// What a drive did in the whole run.
-    fn draw_times(&mut self, drive: &Drive, y: u32) -> Result<(), AllocError>
-        requires { y ≤ 19000 }
-        ensures { OnOk result (self.new ≡ self.old) }
-    {
-        self.draw_total(y, drive.all.way, "events on its way")?;
-        self.draw_total(y + 13, drive.all.ready, "ready, adapter busy")?;
-        self.draw_total(y + 26, drive.all.trans, "transferring")?;
-        self.draw_total(y + 39, drive.arm.travel, "cylinders moved over")?;
-        self.draw_total(y + 52, drive.queue.as_asked, "in the order asked")
-    }
-
-    /// The totals of a drive, beside it.
-    fn draw_totals(&mut self, unit: u8, y: u32) -> Result<(), AllocError>
+    /// What a drive did in the whole run, beside it.
+    fn draw_totals(&self, out: &mut Markup<'_>, unit: u8, y: u32) -> Done
         requires { y ≤ 18900 }
-        ensures { OnOk result (self.new ≡ self.old) }
+        ensures { OnOk result (out.new ≡ out.old) }
     {
-        let requests = self.scene.sheet.run.requests();
-        let (ok, all, longest) = count_answers(requests, unit);
-        let beside = self.scene.frame.beside();
-        self.out.text_with("m e", at(beside + 36, y), "", ok)?;
-        self.out.text_with("q", at(beside + 44, y), "ok, of ", all)?;
-        self.draw_total(y + 13, longest, "events queued at most")?;
-        match self.scene.sheet.run.drives().get(usize::from(unit)) {
-            Some(drive) => self.draw_times(drive, y + 26),
-            None => Ok(()),
-        }
-    }
-
-    /// The requests of a drive, what it does, and its condition.
-    fn draw_deeds(&mut self, unit: u8, y: u32) -> Result<(), AllocError>
-        requires { y ≤ 18500 }
-        ensures { OnOk result (self.new ≡ self.old) }
-    {
-        let from = at(LEFT, y + 30);
-        let to = at(self.scene.frame.right(), y + 30);
-        self.draw_requests(unit, y)?;
-        self.out.path("g", Route::Across { from, to })?;
-        self.draw_all_bars(Track::Letters(unit), y + 12)?;
-        self.draw_all_bars(Track::Offline(unit), y + 33)?;
-        self.draw_all_bars(Track::Locked(unit), y + 33)
+        let (ok, all, longest) = count_answers(self.sheet.run.requests(), unit);
+        let beside = self.frame.beside();
+        out.text_with("m e", at(beside + 36, y), "", ok)?;
+        out.text_with("q", at(beside + 44, y), "ok, of ", all)?;
+        self.draw_total(out, y + 13, longest, "events queued at most")?;
+        let Some(drive) = self.sheet.run.drives().get(usize::from(unit)) else {
+            return Ok(());
+        };
+        self.draw_total(out, y + 26, drive.all.way, "events on its way")?;
+        self.draw_total(out, y + 39, drive.all.ready, "ready, adapter busy")?;
+        self.draw_total(out, y + 52, drive.all.trans, "transferring")?;
+        self.draw_total(out, y + 65, drive.arm.travel, "cylinders moved over")?;
+        self.draw_total(out, y + 78, drive.queue.as_asked, "in the order asked")
     }
 
     /// A drive over the columns.
-    pub fn draw_lane(&mut self, lane: &Lane, y: u32) -> Result<(), AllocError>
+    pub fn draw_lane(&self, out: &mut Markup<'a>, lane: &Lane, y: u32) -> Done
         requires { y ≤ 18500 }
-        ensures { OnOk result (self.new ≡ telling (lines_shown self.old.scene.sheet.now lane.now.unit) self.old) }
+        ensures { OnOk result (out.new ≡ told (lines_shown self.now.sheet.now lane.now.unit) out.old) }
     {
-        begin_lane(&mut self.out, lane, y)?;
-        self.draw_deeds(lane.unit, y)?;
-        self.draw_marks(lane.unit, y + 35)?;
-        self.draw_totals(lane.unit, y + 9)?;
+        let (from, to) = (at(LEFT, y + 30), at(self.frame.right(), y + 30));
+        begin_lane(out, lane, y)?;
+        self.draw_requests(out, lane.unit, y)?;
+        out.shape(Shape::Across, "g", from, to)?;
+        self.draw_all_bars(out, Track::Letters(lane.unit), y + 12)?;
+        self.draw_all_bars(out, Track::Offline(lane.unit), y + 33)?;
+        self.draw_all_bars(out, Track::Locked(lane.unit), y + 33)?;
+        self.draw_marks(out, lane.unit, y + 35)?;
+        self.draw_totals(out, lane.unit, y + 9)?;
         if lane.top > 0 {
-            self.draw_arm(lane, y + 71)?;
+            self.draw_arm(out, lane, y + 71)?;
         }
-        self.out.end(Element::Group)
+        out.put(End(Element::Group))
     }
 }

@@ -4,43 +4,42 @@ ghost use Rattle.std.specs.Prelude.{◌≡◌, ◌≤◌, ◌<◌, fold, OnOk};
 ghost use Rattle.picture_svg.specs.Legend.{explained};
 ghost use Rattle.picture_svg.specs.Nesting.{with_letter};
 
-use crate::markup::Markup;
-use crate::pieces::Sign::{Diamond, Tick, Triangle};
-use crate::pieces::{Route, Sign, at, extent};
-use Shape::{Bar, Dot, Line, Path, Plain, Trouble};
+use crate::markup::{Done, Markup};
+use crate::pieces::Shape::{Across, Diamond, Dot, Rect, Tick, Triangle};
+use crate::pieces::{Shape, at};
+use Sample::{Bar, Line, Plain, Sign, Trouble};
 use drive_pictures::Letter::{
     Arrived, Moved, Moves, Offsets, Ready, Recalibrates, Replaces, Retries, Seeks, Turns,
 };
 use drive_pictures::{Letter, letter_sign};
-use std::alloc::AllocError;
 
 /// The letters, in two rows.
 const UPPER: [Letter; 5] = [Seeks, Turns, Recalibrates, Offsets, Arrived];
 
 const LOWER: [Letter; 5] = [Ready, Moves, Retries, Replaces, Moved];
 
-/// What stands beside words of the legend: a sign of trouble or another sign, a path, a dot, a line or a bar.
+/// What stands beside words of the legend: a sign of trouble or another sign, a shape so far above the line of the words, a line or
+/// a bar.
 #[derive(Clone, Copy)]
-enum Shape {
+enum Sample {
     Trouble(&'static str),
     Plain(&'static str),
-    Path(&'static str, Sign),
-    Dot(&'static str),
+    Sign(&'static str, Shape, u8),
     Line(&'static str),
     Bar(&'static str),
 }
 
-/// Words of the legend: their shape, where it stands on their line, how far to the right of there the words begin, and the words.
+/// Words of the legend: their sample, where it stands, how far to the right of there the words begin, and the words.
 #[derive(Clone, Copy)]
-struct Known(Shape, u16, u16, u8, &'static str);
+struct Known(Sample, u16, u8, u8, &'static str);
 
 /// The signs, the lines of the arms and of the conditions, and the bars of the requests and of the adapters.
 static KNOWN: [Known; 34] = [
-    Known(Path("u", Triangle), 19, 122, 9, "attention up"),
-    Known(Path("d", Triangle), 113, 122, 9, "taken"),
-    Known(Path("d", Diamond), 165, 122, 9, "interrupt taken"),
-    Known(Dot("d"), 277, 122, 7, "sector"),
-    Known(Path("k", Tick), 334, 122, 10, "ok"),
+    Known(Sign("u", Triangle, 7), 19, 122, 9, "attention up"),
+    Known(Sign("d", Triangle, 7), 113, 122, 9, "taken"),
+    Known(Sign("d", Diamond, 8), 165, 122, 9, "interrupt taken"),
+    Known(Sign("d", Dot, 4), 277, 122, 7, "sector"),
+    Known(Sign("k", Tick, 4), 334, 122, 10, "ok"),
     Known(Trouble("B"), 370, 122, 10, "burst, repaired"),
     Known(Trouble("E"), 484, 122, 10, "not repairable"),
     Known(Trouble("F"), 592, 122, 10, "fault"),
@@ -59,7 +58,7 @@ static KNOWN: [Known; 34] = [
     Known(Plain("-4"), 682, 139, 16, "offset -400"),
     Known(Trouble("t"), 650, 156, 10, "a try failed (little room)"),
     Known(Plain("3"), 814, 156, 10, "turn: out of the order asked"),
-    Known(Dot("u"), 782, 139, 8, "asked for, at its cylinder"),
+    Known(Sign("u", Dot, 4), 782, 139, 8, "asked for, at its cylinder"),
     Known(Line("p"), 16, 156, 29, "the arm"),
     Known(Line("z"), 104, 156, 29, "the order of asking"),
     Known(Line("w"), 264, 156, 29, "a request waits"),
@@ -73,14 +72,14 @@ static KNOWN: [Known; 34] = [
 ];
 
 /// Letters, side by side, each with its pattern, its sign and its words.
-fn draw_letters(out: &mut Markup<'_>, letters: &[Letter], y: u32) -> Result<(), AllocError>
+fn draw_letters(out: &mut Markup<'_>, letters: &[Letter], y: u32) -> Done
     requires { y ≤ 2000 }
     ensures { OnOk result (out.new ≡ fold with_letter out.old letters.now) }
 {
     let mut x: u32 = 16;
     for letter in letters.iter() {
         let left = x.min(2_000);
-        out.rect("r", at(left, y), extent(24, 12), Some(*letter))?;
+        out.filled(*letter, at(left, y), at(24, 12))?;
         out.text("m b", at(left + 29, y + 10), letter_sign(*letter))?;
         out.meaning(at(left + 40, y + 10), *letter)?;
         x = left + 170;
@@ -88,58 +87,46 @@ fn draw_letters(out: &mut Markup<'_>, letters: &[Letter], y: u32) -> Result<(), 
     Ok(())
 }
 
-/// How far above the line of its words a path begins.
-fn rise_of(sign: Sign) -> u32 {
-    match sign {
-        Tick => 4,
-        Diamond => 8,
-        Triangle => 7,
-    }
-}
-
-/// A shape of the legend, on the line of its words.
-fn draw_shape(out: &mut Markup<'_>, shape: Shape, x: u32, y: u32) -> Result<(), AllocError>
-    requires across { x ≤ 2000 }
-    requires down { y ≤ 2000 }
+/// Words of the legend, beside their sample.
+fn draw_known(out: &mut Markup<'_>, known: &Known) -> Done
     ensures { OnOk result (out.new ≡ out.old) }
 {
-    match shape {
+    let Known(sample, x, y, across, words) = *known;
+    let (x, y) = (u32::from(x).min(2_000), u32::from(y));
+    draw_sample(out, sample, x, y)?;
+    out.text("", at(x + u32::from(across), y), words)
+}
+
+/// A sample of the legend, on the line of its words.
+fn draw_sample(out: &mut Markup<'_>, sample: Sample, x: u32, y: u32) -> Done
+    requires across { x ≤ 2000 }
+    requires down { y ≤ 255 }
+    ensures { OnOk result (out.new ≡ out.old) }
+{
+    match sample {
         Trouble(sign) => out.text("m x", at(x, y), sign),
         Plain(sign) => out.text("m b", at(x, y), sign),
-        Path(class, sign) => {
-            let from = at(x, y.saturating_sub(rise_of(sign)));
-            out.path(class, Route::Sign { from, sign })
+        Sign(class, shape, rise) => {
+            let from = at(x, y.saturating_sub(u32::from(rise)));
+            out.shape(shape, class, from, from)
         }
-        Dot(class) => out.dot(class, at(x, y.saturating_sub(4))),
         Line(class) => {
             let y = y.saturating_sub(4);
-            let (from, to) = (at(x, y), at(x + 24, y));
-            out.path(class, Route::Across { from, to })
+            out.shape(Across, class, at(x, y), at(x + 24, y))
         }
-        Bar(class) => out.rect(class, at(x, y.saturating_sub(10)), extent(24, 10), None),
+        Bar(class) => out.shape(Rect, class, at(x, y.saturating_sub(10)), at(24, 10)),
     }
-}
-
-/// Words of the legend, each beside its shape.
-fn draw_known(out: &mut Markup<'_>, all: &[Known]) -> Result<(), AllocError>
-    ensures { OnOk result (out.new ≡ out.old) }
-{
-    for known in all.iter() {
-        let Known(shape, x, y, across, words) = *known;
-        let (x, y) = (u32::from(x).min(2_000), u32::from(y).min(2_000));
-        draw_shape(out, shape, x, y)?;
-        out.text("", at(x + u32::from(across), y), words)?;
-    }
-    Ok(())
 }
 
 /// The legend.
-pub fn draw_legend(out: &mut Markup<'_>) -> Result<(), AllocError>
+pub fn draw_legend(out: &mut Markup<'_>) -> Done
     ensures { OnOk result (out.new ≡ fold with_letter out.old explained) }
 {
     let unit = "numbers of the table are events; done are sectors";
     draw_letters(out, &UPPER, 78)?;
     draw_letters(out, &LOWER, 95)?;
-    draw_known(out, &KNOWN)?;
+    for known in KNOWN.iter() {
+        draw_known(out, known)?;
+    }
     out.text("q", at(470, 173), unit)
 }

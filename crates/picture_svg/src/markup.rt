@@ -1,16 +1,21 @@
 //! A drawing that is put together piece by piece.
 
 ghost use Rattle.std.specs.Prelude.{◌≡◌, [], ◌∷◌, true, fold, IfOk, OnOk};
-ghost use Rattle.picture_svg.specs.Nesting.{blank, drawn_with, is_innermost, started, ended, told, with_letter, with_row};
-ghost use Rattle.picture_svg.specs.Places.{is_low, is_small, route_is_low};
+ghost use Rattle.picture_svg.specs.Nesting.{blank, drawn_with, is_innermost, started, told, with_letter};
+ghost use Rattle.picture_svg.specs.Places.{is_low};
 ghost use Rattle.picture_svg.specs.Texts.{IsWritten};
 ghost use Rattle.picture_svg.specs.declared.pieces.Element.TheVariants.{Group, Line, Title};
 
-use crate::pieces::{Element, Piece, Point, Route, Size, Start};
+use crate::pieces::Opening::Text;
+use crate::pieces::Piece::{Corner, End, Filled, Meaning, Number, Start, Told, Word};
+use crate::pieces::{Element, Opening, Piece, Point, Shape, at};
 use crate::render::render;
-use drive_pictures::{Letter, Request};
+use drive_pictures::Letter;
 use std::alloc::{AllocError, Global};
 use std::marker::Model;
+
+/// What drawing something comes to. It fails only if there is no memory.
+pub type Done = Result<(), AllocError>;
 
 /// A drawing that is put together piece by piece.
 #[derive(Drop)]
@@ -31,13 +36,12 @@ impl<'a> Markup<'a> {
     pub fn new(alloc: Global) -> Markup<'a>
         ensures { result ≡ blank }
     {
-        Markup {
-            pieces: Vec::new(alloc),
-        }
+        let pieces = Vec::new(alloc);
+        Markup { pieces }
     }
 
     /// Puts a piece.
-    pub fn put(&mut self, piece: Piece<'a>) -> Result<(), AllocError>
+    pub fn put(&mut self, piece: Piece<'a>) -> Done
         ensures { OnOk result (self.new ≡ drawn_with self.old piece.entry) }
     {
         self.pieces.push(piece)?;
@@ -45,7 +49,7 @@ impl<'a> Markup<'a> {
     }
 
     /// Puts some pieces.
-    pub fn put_all(&mut self, pieces: &[Piece<'a>]) -> Result<(), AllocError>
+    pub fn put_all(&mut self, pieces: &[Piece<'a>]) -> Done
         ensures { OnOk result (self.new ≡ fold drawn_with self.old pieces.now) }
     {
         self.pieces.extend_from_slice(pieces)?;
@@ -53,108 +57,65 @@ impl<'a> Markup<'a> {
     }
 
     /// A group and its tooltip begin.
-    pub fn begin_tip(&mut self) -> Result<(), AllocError>
+    pub fn begin_tip(&mut self) -> Done
         ensures { OnOk result (self.new ≡ started Title (started Group self.old)) }
     {
-        self.put_all(&[Piece::Start(Start::Group), Piece::Start(Start::Title)])
-    }
-
-    /// Puts a line of the run, in a tooltip.
-    pub fn told(&mut self, line: &'a [u8]) -> Result<(), AllocError>
-        requires { is_innermost Title self.old.within ≡ true }
-        ensures { OnOk result (self.new ≡ told (line.now ∷ []) self.old) }
-    {
-        self.put(Piece::Told(line))
-    }
-
-    /// Puts what is told of a request, in a tooltip.
-    pub fn row(&mut self, request: &Request) -> Result<(), AllocError>
-        requires { is_innermost Title self.old.within ≡ true }
-        ensures { OnOk result (self.new ≡ with_row self.old request.now) }
-    {
-        self.put(Piece::Row(*request))
-    }
-
-    /// Puts the words of a letter, in the legend.
-    pub fn meaning(&mut self, at: Point, letter: Letter) -> Result<(), AllocError>
-        requires { is_low at ≡ true }
-        ensures { OnOk result (self.new ≡ with_letter self.old letter) }
-    {
-        let class = "";
+        let none = at(0, 0);
         self.put_all(&[
-            Piece::Start(Start::Text { class, at }),
-            Piece::Meaning(letter),
-            Piece::End(Element::Text),
+            Start(Opening::Group, "", none),
+            Start(Opening::Title, "", none),
         ])
     }
 
+    /// Puts a line of the run, in a tooltip.
+    pub fn told(&mut self, line: &'a [u8]) -> Done
+        requires { is_innermost Title self.old.within ≡ true }
+        ensures { OnOk result (self.new ≡ told (line.now ∷ []) self.old) }
+    {
+        self.put(Told(line))
+    }
+
+    /// Puts the words of a letter, in the legend.
+    pub fn meaning(&mut self, at: Point, letter: Letter) -> Done
+        requires { is_low at ≡ true }
+        ensures { OnOk result (self.new ≡ with_letter self.old letter) }
+    {
+        self.put_all(&[Start(Text, "", at), Meaning(letter), End(Element::Text)])
+    }
+
     /// Puts a point of a line.
-    pub fn corner(&mut self, point: Point) -> Result<(), AllocError>
+    pub fn corner(&mut self, point: Point) -> Done
         requires line { is_innermost Line self.old.within ≡ true }
         requires low { is_low point ≡ true }
         ensures { OnOk result (self.new ≡ self.old) }
     {
-        self.put(Piece::Corner(point))
+        self.put(Corner(point))
     }
 
-    /// The element that started last ends.
-    pub fn end(&mut self, element: Element) -> Result<(), AllocError>
-        ensures { OnOk result (self.new ≡ ended element self.old) }
+    /// Puts an element that holds nothing.
+    pub fn shape(&mut self, shape: Shape, class: &'static str, from: Point, to: Point) -> Done
+        requires from { is_low from ≡ true }
+        requires to { is_low to ≡ true }
+        ensures { OnOk result (self.new ≡ self.old) }
     {
-        self.put(Piece::End(element))
+        self.put(Piece::Shape(shape, class, from, to))
     }
 
-    /// Puts a rectangle, filled with the pattern of a letter if one is given.
-    pub fn rect(
-        &mut self,
-        class: &'static str,
-        corner: Point,
-        size: Size,
-        fill: Option<Letter>,
-    ) -> Result<(), AllocError>
+    /// Puts a rectangle that is filled with the pattern of a letter.
+    pub fn filled(&mut self, letter: Letter, corner: Point, size: Point) -> Done
         requires corner { is_low corner ≡ true }
-        requires size { is_small size ≡ true }
+        requires size { is_low size ≡ true }
         ensures { OnOk result (self.new ≡ self.old) }
     {
-        self.put(Piece::Rect {
-            class,
-            corner,
-            size,
-            fill,
-        })
-    }
-
-    /// Puts a small circle.
-    pub fn dot(&mut self, class: &'static str, middle: Point) -> Result<(), AllocError>
-        requires { is_low middle ≡ true }
-        ensures { OnOk result (self.new ≡ self.old) }
-    {
-        self.put(Piece::Dot { class, middle })
-    }
-
-    /// Puts a path.
-    pub fn path(&mut self, class: &'static str, route: Route) -> Result<(), AllocError>
-        requires { route_is_low route ≡ true }
-        ensures { OnOk result (self.new ≡ self.old) }
-    {
-        self.put(Piece::Path { class, route })
+        self.put(Filled(letter, corner, size))
     }
 
     /// Puts words at a place.
-    pub fn text(
-        &mut self,
-        class: &'static str,
-        at: Point,
-        word: &'static str,
-    ) -> Result<(), AllocError>
+    pub fn text(&mut self, class: &'static str, at: Point, word: &'static str) -> Done
         requires { is_low at ≡ true }
         ensures { OnOk result (self.new ≡ self.old) }
     {
-        self.put_all(&[
-            Piece::Start(Start::Text { class, at }),
-            Piece::Word(word),
-            Piece::End(Element::Text),
-        ])
+        self.put_all(&[Start(Text, class, at), Word(word), End(Element::Text)])
     }
 
     /// Puts words, which may be none, and a number after them, at a place.
@@ -164,15 +125,15 @@ impl<'a> Markup<'a> {
         at: Point,
         word: &'static str,
         number: u64,
-    ) -> Result<(), AllocError>
+    ) -> Done
         requires { is_low at ≡ true }
         ensures { OnOk result (self.new ≡ self.old) }
     {
         self.put_all(&[
-            Piece::Start(Start::Text { class, at }),
-            Piece::Word(word),
-            Piece::Number(number),
-            Piece::End(Element::Text),
+            Start(Text, class, at),
+            Word(word),
+            Number(number),
+            End(Element::Text),
         ])
     }
 

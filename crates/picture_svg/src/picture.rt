@@ -1,15 +1,16 @@
 //! The whole picture.
 
 ghost use Rattle.std.specs.Prelude.{◌≡◌, ◌≤◌, ◌+◌, ◌/◌, length, IfOk, OnOk};
-ghost use Rattle.picture_svg.specs.Nesting.{captioned};
+ghost use Rattle.picture_svg.specs.Nesting.{captioned, told};
 ghost use Rattle.picture_svg.specs.Scales.{is_other, top_of, below_of, bottom_of};
-ghost use Rattle.picture_svg.specs.Pictures.{caption_of, lines_of_lane, lines_of_lanes, telling, with_all, IsPicture};
+ghost use Rattle.picture_svg.specs.Pictures.{caption_of, lines_of_lane, lines_of_lanes, with_all, IsPicture};
 
 use crate::legend::draw_legend;
-use crate::markup::Markup;
-use crate::pieces::{Element, Piece, Start, at, extent};
-use crate::scene::{Drawing, Frame, Lane, Scene, lanes_of};
-use crate::tips::{front, put_sentences, text_sentences};
+use crate::markup::{Done, Markup};
+use crate::pieces::Piece::{Caption, End, Start, Style};
+use crate::pieces::{Element, Opening, at};
+use crate::scene::{Frame, Lane, Scene, lanes_of};
+use crate::tips::{front, put_sentences};
 use run_plan::{Sentence, Sheet, Shown, scale_of, sentences};
 use std::alloc::{AllocError, Global};
 
@@ -21,13 +22,6 @@ const ADAPTER: u32 = 50;
 
 /// How many bytes of the caption are drawn.
 const CAPTION: usize = 120;
-
-/// The front of the caption that is drawn.
-fn caption_of<'a>(sheet: &Sheet<'a>) -> &'a [u8]
-    ensures { result.now ≡ caption_of sheet.now }
-{
-    front(sheet.title(), CAPTION)
-}
 
 /// Where the next drive stands, and the adapter of the drive before it, if there is one.
 #[derive(Clone, Copy)]
@@ -97,95 +91,83 @@ fn bottom_of(lanes: &[Lane]) -> u32
 }
 
 /// The title and the sentences of the drawing, which are not visible.
-fn draw_title<'a>(
-    out: &mut Markup<'a>,
-    sheet: &Sheet<'a>,
-    sentences: &[Sentence; 4],
-) -> Result<(), AllocError>
-    ensures { OnOk result (out.new ≡ captioned (caption_of sheet.now) out.old) }
+fn draw_title<'a>(out: &mut Markup<'a>, caption: &'a [u8], sentences: &[Sentence; 4]) -> Done
+    ensures { OnOk result (out.new ≡ captioned caption.now out.old) }
 {
-    let [first, second, third, fourth] = *sentences;
-    let caption = caption_of(sheet);
-    out.put_all(&[
-        Piece::Start(Start::Caption),
-        Piece::Caption(caption),
-        Piece::End(Element::Title),
-        Piece::Start(Start::Desc),
-    ])?;
-    put_sentences(out, first, second)?;
-    out.put(Piece::Word(" "))?;
-    put_sentences(out, third, fourth)?;
-    out.end(Element::Desc)
+    let none = at(0, 0);
+    out.put_all(&[Start(Opening::Caption, "", none), Caption(caption)])?;
+    out.put_all(&[End(Element::Title), Start(Opening::Desc, "", none)])?;
+    put_sentences(out, sentences)?;
+    out.put(End(Element::Desc))
 }
 
 /// What stands above the columns.
-fn draw_head<'a>(
-    out: &mut Markup<'a>,
-    sheet: &Sheet<'a>,
-    sentences: &[Sentence; 4],
-) -> Result<(), AllocError>
-    ensures { OnOk result (out.new ≡ captioned (caption_of sheet.now) out.old) }
+fn draw_head<'a>(out: &mut Markup<'a>, caption: &'a [u8], sentences: &[Sentence; 4]) -> Done
+    ensures { OnOk result (out.new ≡ captioned caption.now out.old) }
 {
     let [first, second, third, fourth] = *sentences;
-    let (class, at) = ("h", at(16, 28));
-    let caption = caption_of(sheet);
-    out.put_all(&[
-        Piece::Start(Start::Text { class, at }),
-        Piece::Caption(caption),
-        Piece::End(Element::Text),
-    ])?;
-    text_sentences(out, 48, first, second)?;
-    text_sentences(out, 64, third, fourth)
+    out.put_all(&[Start(Opening::Text, "h", at(16, 28)), Caption(caption)])?;
+    out.put(End(Element::Text))?;
+    out.put(Start(Opening::Text, "", at(16, 48)))?;
+    put_sentences(out, &[first, second])?;
+    out.put_all(&[End(Element::Text), Start(Opening::Text, "", at(16, 64))])?;
+    put_sentences(out, &[third, fourth])?;
+    out.put(End(Element::Text))
 }
 
-impl<'s, 'a> Drawing<'s, 'a> {
+impl<'s, 'a> Scene<'s, 'a> {
     /// A drive, below its adapter if it is the first one of that adapter. The result is where the next drive stands.
-    fn draw_drive(&mut self, place: Place, lane: &Lane) -> Result<Place, AllocError>
+    fn draw_drive(
+        &self,
+        out: &mut Markup<'a>,
+        place: Place,
+        lane: &Lane,
+    ) -> Result<Place, AllocError>
         requires { place.y ≤ 18000 }
-        ensures told { OnOk result (self.new ≡ telling (lines_of_lane self.old.scene.sheet.now lane.now) self.old) }
+        ensures told { OnOk result (out.new ≡ told (lines_of_lane self.now.sheet.now lane.now) out.old) }
         ensures below { IfOk result (λ next. next ≡ below_of place lane.now) }
         ensures inside { IfOk result (λ next. next.y ≤ place.y + 401) }
     {
         if place.is_first(lane) {
-            self.draw_adapter(lane.unit / 8, place.y)?;
+            self.draw_adapter(out, lane.unit / 8, place.y)?;
         }
-        self.draw_lane(lane, place.top(lane))?;
+        self.draw_lane(out, lane, place.top(lane))?;
         Ok(place.below(lane))
     }
 
     /// The drives.
-    fn draw_drives(&mut self) -> Result<(), AllocError>
-        requires { length self.old.scene.lanes.now ≤ 32 }
-        ensures { OnOk result (self.new ≡ telling (lines_of_lanes self.old.scene.sheet.now self.old.scene.lanes.now) self.old) }
+    fn draw_drives(&self, out: &mut Markup<'a>) -> Done
+        requires { length self.now.lanes.now ≤ 32 }
+        ensures { OnOk result (out.new ≡ told (lines_of_lanes self.now.sheet.now self.now.lanes.now) out.old) }
     {
         let mut place = FIRST;
-        for lane in self.scene.lanes.iter() {
-            place = self.draw_drive(place, lane)?;
+        for lane in self.lanes.iter() {
+            place = self.draw_drive(out, place, lane)?;
         }
         Ok(())
     }
 
     /// The drawing.
-    fn draw(&mut self) -> Result<(), AllocError>
-        requires lanes { length self.old.scene.lanes.now ≤ 32 }
-        requires few { length self.old.scene.shown.now.listed.items ≤ 256 }
-        ensures { OnOk result (self.new.out ≡ with_all self.old.scene.sheet.now (lines_of_lanes self.old.scene.sheet.now self.old.scene.lanes.now) self.old.scene.shown.now.listed.items self.old.out) }
+    fn draw(&self, out: &mut Markup<'a>) -> Done
+        requires lanes { length self.now.lanes.now ≤ 32 }
+        requires few { length self.now.shown.now.listed.items ≤ 256 }
+        ensures { OnOk result (out.new ≡ with_all self.now.sheet.now (lines_of_lanes self.now.sheet.now self.now.lanes.now) self.now.shown.now.listed.items out.old) }
     {
-        let sentences = sentences(self.scene.sheet);
-        let bottom = bottom_of(self.scene.lanes);
-        let listed = self.scene.shown.listed.len() as u32;
-        let height = bottom + 74 + 13 * listed;
-        let size = extent(self.scene.frame.width(), height);
-        self.out.put(Piece::Start(Start::Svg { size }))?;
-        draw_title(&mut self.out, self.scene.sheet, &sentences)?;
-        self.out.put(Piece::Style)?;
-        draw_legend(&mut self.out)?;
-        draw_head(&mut self.out, self.scene.sheet, &sentences)?;
-        self.draw_script(height)?;
-        self.draw_drives()?;
-        self.draw_events(bottom + 8)?;
-        self.draw_table(bottom + 36)?;
-        self.out.end(Element::Svg)
+        let sentences = sentences(self.sheet);
+        let caption = front(self.sheet.title(), CAPTION);
+        let bottom = bottom_of(self.lanes);
+        let height = bottom + 74 + 13 * (self.shown.listed.len() as u32);
+        let size = at(self.frame.beside() + 274, height);
+        out.put(Start(Opening::Svg, "", size))?;
+        draw_title(out, caption, &sentences)?;
+        out.put(Style)?;
+        draw_legend(out)?;
+        draw_head(out, caption, &sentences)?;
+        self.draw_script(out, height)?;
+        self.draw_drives(out)?;
+        self.draw_events(out, bottom + 8)?;
+        self.draw_table(out, bottom + 36)?;
+        out.put(End(Element::Svg))
     }
 }
 
@@ -202,9 +184,9 @@ pub fn svg(alloc: Global, sheet: &Sheet<'_>) -> Result<Vec<u8>, AllocError>
         lanes: lanes.as_slice(),
         scale: scale_of(sheet, units.as_slice()),
         shown: &shown,
+        alloc,
     };
-    let out = Markup::new(alloc);
-    let mut drawing = Drawing { out, scene, alloc };
-    drawing.draw()?;
-    drawing.out.finish(alloc)
+    let mut out = Markup::new(alloc);
+    scene.draw(&mut out)?;
+    out.finish(alloc)
 }

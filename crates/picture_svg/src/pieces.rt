@@ -1,7 +1,7 @@
 //! The pieces of a drawing.
 
 ghost use Rattle.std.specs.Prelude.{◌≡◌, ◌<◌, true};
-ghost use Rattle.picture_svg.specs.Places.{is_low, is_small};
+ghost use Rattle.picture_svg.specs.Places.{is_low};
 
 use drive_pictures::{Letter, Request};
 
@@ -22,21 +22,14 @@ pub enum Element {
     Line,
 }
 
-/// A point of the drawing.
+/// A point of the drawing, or a width and a height.
 #[derive(Clone, Copy)]
 pub struct Point {
     pub x: u32,
     pub y: u32,
 }
 
-/// A width and a height.
-#[derive(Clone, Copy)]
-pub struct Size {
-    pub width: u32,
-    pub height: u32,
-}
-
-/// A point. Both of its coordinates are below 20,000.
+/// A point, or a width and a height. Both of its numbers are below 20,000.
 #[tactic(auto, unfolding(crate::specs::Places::is_low))]
 pub fn at(x: u32, y: u32) -> Point
     requires across { x < 20000 }
@@ -46,69 +39,58 @@ pub fn at(x: u32, y: u32) -> Point
     Point { x, y }
 }
 
-/// A width and a height. Both are below 20,000.
-#[tactic(auto, unfolding(crate::specs::Places::is_small))]
-pub fn extent(width: u32, height: u32) -> Size
-    requires across { width < 20000 }
-    requires down { height < 20000 }
-    ensures { is_small result ≡ true }
-{
-    Size { width, height }
-}
-
 /// The start of an element.
 #[derive(Clone, Copy)]
-pub enum Start {
-    /// The drawing.
-    Svg { size: Size },
-    /// A group.
+pub enum Opening {
+    /// The drawing, with its width and height.
+    Svg,
+    /// A group, and its title.
     Group,
-    /// A group's title.
     Title,
     /// The drawing's title, and its sentences.
     Caption,
     Desc,
-    /// Words of a class, from a place on; and words that are written upwards.
-    Text { class: &'static str, at: Point },
-    Upwards { at: Point },
+    /// Words of a class, from a point on; and words that are written upwards.
+    Text,
+    Upwards,
     /// A line through points, from the first one on.
-    Line { class: &'static str, at: Point },
+    Line,
 }
 
-/// A sign that is drawn as a path.
+/// An element that holds nothing.
 #[derive(Clone, Copy)]
-pub enum Sign {
+pub enum Shape {
+    /// A rectangle by its upper left corner, and its width and height.
+    Rect,
+    /// A small circle around a point.
+    Dot,
+    /// A path from a point to the column of another; so in the row of each of the two points; to the row of the other; and to it.
+    Across,
+    TwoAcross,
+    Down,
+    Slope,
+    /// A path from a point four up, and then a width to the right; and from a point twelve down.
+    Bracket,
+    Bar,
+    /// Signs at a point.
     Tick,
     Diamond,
     Triangle,
 }
 
-/// The way of a path.
-#[derive(Clone, Copy)]
-pub enum Route {
-    /// From a point to the column of another.
-    Across { from: Point, to: Point },
-    /// So in the row of each of the two points.
-    TwoAcross { from: Point, to: Point },
-    /// From a point to the row of another.
-    Down { from: Point, to: Point },
-    /// From a point to another.
-    Line { from: Point, to: Point },
-    /// From a point four up, and then a width to the right.
-    Bracket { from: Point, size: Size },
-    /// From a point twelve down.
-    Tick { from: Point },
-    /// A sign at a point.
-    Sign { from: Point, sign: Sign },
-}
-
-/// A piece of a drawing. An element that holds no other is one piece.
+/// A piece of a drawing. An element has a class, and stands at a point, or at two.
 #[derive(Clone, Copy)]
 pub enum Piece<'a> {
     /// An element starts.
-    Start(Start),
+    Start(Opening, &'static str, Point),
     /// An element ends.
     End(Element),
+    /// An element that holds nothing.
+    Shape(Shape, &'static str, Point, Point),
+    /// A rectangle that is filled with the pattern of a letter.
+    Filled(Letter, Point, Point),
+    /// A point of a line, after its first one.
+    Corner(Point),
     /// Words, a number, and bytes of the run's own.
     Word(&'static str),
     Number(u64),
@@ -123,25 +105,6 @@ pub enum Piece<'a> {
     Meaning(Letter),
     /// Another line begins.
     Feed,
-    /// A point of a line, after its first one.
-    Corner(Point),
-    /// A rectangle by its upper left corner, filled with the pattern of a letter if one is given.
-    Rect {
-        class: &'static str,
-        corner: Point,
-        size: Size,
-        fill: Option<Letter>,
-    },
-    /// A small circle.
-    Dot {
-        class: &'static str,
-        middle: Point,
-    },
-    /// A path.
-    Path {
-        class: &'static str,
-        route: Route,
-    },
     /// The classes, and the patterns of the letters.
     Style,
 }

@@ -2,11 +2,11 @@
 
 ghost use Rattle.std.specs.Prelude.{◌≡◌, ◌++◌, [], fold, codes, decimal, IfOk, OnOk};
 ghost use Rattle.picture_svg.specs.Legend.{pattern_of};
-ghost use Rattle.picture_svg.specs.Texts.{with_byte, with_words, with_leg, with_part, with_start, with_end, with_fill, with_rect, with_dot, way_of, with_route, with_path, with_request, with_line, with_style, with_piece};
+ghost use Rattle.picture_svg.specs.Texts.{with_byte, with_words, with_slot, with_template, opening_text, shape_text, with_end, with_piece};
 
-use crate::pieces::{Element, Piece, Point, Route, Sign, Size, Start};
+use crate::pieces::{Element, Opening, Piece, Point, Shape};
 use crate::style::STYLE;
-use drive_pictures::{Letter, Request, letter_word, outcome_word};
+use drive_pictures::{Letter, letter_word, outcome_word};
 use itoa::Buffer;
 use std::alloc::{AllocError, Global};
 
@@ -72,94 +72,83 @@ fn put_words(out: &mut Vec<u8>, bytes: &[u8]) -> Result<(), AllocError>
     Ok(())
 }
 
-/// Puts words, and a number.
-fn put_leg(out: &mut Vec<u8>, words: &str, number: u32) -> Result<(), AllocError>
-    ensures { OnOk result (out.new.items ≡ with_leg words.now number out.old.items) }
+/// How an element starts, as a template: `C` stands for its class, and `X` and `Y` for its point.
+#[tactic(auto, unfolding(crate::specs::Texts::opening_text))]
+fn opening_text(opening: Opening) -> &'static str
+    ensures { result.now ≡ opening_text opening }
 {
-    put(out, words)?;
-    put_number(out, u64::from(number))
+    match opening {
+        Opening::Svg => {
+            "<svg xmlns=\"http://www.w3.org/2000/svg\" width=\"X\" height=\"Y\" viewBox=\"0 0 X Y\" role=\"graphics-document document\" aria-labelledby=\"t d\">\n"
+        }
+        Opening::Group => "<g>",
+        Opening::Title => "<title>",
+        Opening::Caption => "<title id=\"t\">",
+        Opening::Desc => "<desc id=\"d\">",
+        Opening::Text => "<text class=\"C\" x=\"X\" y=\"Y\">",
+        Opening::Upwards => "<text class=\"C\" transform=\"translate(X Y)rotate(-90)\">",
+        Opening::Line => "<polyline class=\"C\" points=\"X,Y",
+    }
 }
 
-/// A part of an element: words as they are, with a number, or with a point.
-#[derive(Clone, Copy)]
-enum Part<'a> {
-    Words(&'a str),
-    Leg(&'a str, u32),
-    Point(&'a str, Point),
+/// An element that holds nothing, as a template: besides, `R` and `D` stand for its other point, or its width and height.
+#[tactic(auto, unfolding(crate::specs::Texts::shape_text))]
+fn shape_text(shape: Shape) -> &'static str
+    ensures { result.now ≡ shape_text shape }
+{
+    match shape {
+        Shape::Rect => "<rect class=\"C\" x=\"X\" y=\"Y\" width=\"R\" height=\"D\"/>\n",
+        Shape::Dot => "<circle class=\"C\" cx=\"X\" cy=\"Y\" r=\"2\"/>\n",
+        Shape::Across => "<path class=\"C\" d=\"MX YHR\"/>\n",
+        Shape::TwoAcross => "<path class=\"C\" d=\"MX YHRMX DHR\"/>\n",
+        Shape::Down => "<path class=\"C\" d=\"MX YVD\"/>\n",
+        Shape::Slope => "<path class=\"C\" d=\"MX YLR D\"/>\n",
+        Shape::Bracket => "<path class=\"C\" d=\"MX Yv-4hR\"/>\n",
+        Shape::Bar => "<path class=\"C\" d=\"MX Yv12\"/>\n",
+        Shape::Tick => "<path class=\"C\" d=\"MX Yl2 3l4 -6\"/>\n",
+        Shape::Diamond => "<path class=\"C\" d=\"MX Yl-3 4l3 4l3 -4z\"/>\n",
+        Shape::Triangle => "<path class=\"C\" d=\"MX Yl-3 6h6z\"/>\n",
+    }
 }
 
-/// Puts a part.
-fn put_part(out: &mut Vec<u8>, part: Part<'_>) -> Result<(), AllocError>
-    ensures { OnOk result (out.new.items ≡ with_part out.old.items part.entry) }
+/// Puts a byte of a template, or what it stands for.
+fn put_slot(
+    out: &mut Vec<u8>,
+    byte: u8,
+    class: &str,
+    from: Point,
+    to: Point,
+) -> Result<(), AllocError>
+    ensures { OnOk result (out.new.items ≡ with_slot class.now from to out.old.items byte) }
 {
-    match part {
-        Part::Words(words) => put(out, words),
-        Part::Leg(words, number) => put_leg(out, words, number),
-        Part::Point(words, point) => {
-            put_leg(out, words, point.x)?;
-            put_leg(out, " ", point.y)
+    match byte {
+        b'C' => put(out, class),
+        b'X' => put_number(out, u64::from(from.x)),
+        b'Y' => put_number(out, u64::from(from.y)),
+        b'R' => put_number(out, u64::from(to.x)),
+        b'D' => put_number(out, u64::from(to.y)),
+        _ => {
+            out.push(byte)?;
+            Ok(())
         }
     }
 }
 
-/// Puts parts, one after another.
-fn put_parts(out: &mut Vec<u8>, parts: &[Part<'_>]) -> Result<(), AllocError>
-    ensures { OnOk result (out.new.items ≡ fold with_part out.old.items parts.now) }
+/// Puts what a template stands for.
+#[tactic(auto, unfolding(crate::specs::Texts::with_template))]
+fn put_template(
+    out: &mut Vec<u8>,
+    template: &str,
+    class: &str,
+    from: Point,
+    to: Point,
+) -> Result<(), AllocError>
+    ensures { OnOk result (out.new.items ≡ with_template template.now class.now from to out.old.items) }
 {
-    for part in parts.iter() {
-        put_part(out, *part)?;
+    for byte in template.as_bytes().iter() {
+        put_slot(out, *byte, class, from, to)?;
     }
     Ok(())
-}
-
-/// Puts the start of an element.
-#[tactic(auto, unfolding(crate::specs::Texts::with_start))]
-fn put_start(out: &mut Vec<u8>, start: Start) -> Result<(), AllocError>
-    ensures { OnOk result (out.new.items ≡ with_start start out.old.items) }
-{
-    match start {
-        Start::Svg { size } => put_parts(
-            out,
-            &[
-                Part::Words("<svg xmlns=\"http://www.w3.org/2000/svg"),
-                Part::Leg("\" width=\"", size.width),
-                Part::Leg("\" height=\"", size.height),
-                Part::Leg("\" viewBox=\"0 0 ", size.width),
-                Part::Leg(" ", size.height),
-                Part::Words("\" role=\"graphics-document document\" aria-labelledby=\"t d\">\n"),
-            ],
-        ),
-        Start::Group => put(out, "<g>"),
-        Start::Title => put(out, "<title>"),
-        Start::Caption => put(out, "<title id=\"t\">"),
-        Start::Desc => put(out, "<desc id=\"d\">"),
-        Start::Text { class, at } => put_parts(
-            out,
-            &[
-                Part::Words("<text class=\""),
-                Part::Words(class),
-                Part::Leg("\" x=\"", at.x),
-                Part::Leg("\" y=\"", at.y),
-                Part::Words("\">"),
-            ],
-        ),
-        Start::Upwards { at } => put_parts(
-            out,
-            &[
-                Part::Point("<text class=\"m\" transform=\"translate(", at),
-                Part::Words(")rotate(-90)\">"),
-            ],
-        ),
-        Start::Line { class, at } => put_parts(
-            out,
-            &[
-                Part::Words("<polyline class=\""),
-                Part::Words(class),
-                Part::Leg("\" points=\"", at.x),
-                Part::Leg(",", at.y),
-            ],
-        ),
-    }
 }
 
 /// Puts the end of an element.
@@ -177,189 +166,44 @@ fn put_end(out: &mut Vec<u8>, element: Element) -> Result<(), AllocError>
     }
 }
 
-/// Puts what fills a rectangle.
-fn put_fill(out: &mut Vec<u8>, fill: Option<Letter>) -> Result<(), AllocError>
-    ensures { OnOk result (out.new.items ≡ with_fill fill out.old.items) }
-{
-    match fill {
-        Some(letter) => put_parts(
-            out,
-            &[
-                Part::Words(" fill=\"url(#"),
-                Part::Words(pattern_of(letter)),
-                Part::Words(")\""),
-            ],
-        ),
-        None => Ok(()),
-    }
-}
-
-/// Puts a rectangle.
-#[tactic(auto, unfolding(crate::specs::Texts::with_rect))]
-fn put_rect(
-    out: &mut Vec<u8>,
-    class: &str,
-    corner: Point,
-    size: Size,
-    fill: Option<Letter>,
-) -> Result<(), AllocError>
-    ensures { OnOk result (out.new.items ≡ with_rect class.now corner size fill out.old.items) }
-{
-    put_parts(
-        out,
-        &[
-            Part::Words("<rect class=\""),
-            Part::Words(class),
-            Part::Leg("\" x=\"", corner.x),
-            Part::Leg("\" y=\"", corner.y),
-            Part::Leg("\" width=\"", size.width),
-            Part::Leg("\" height=\"", size.height),
-            Part::Words("\""),
-        ],
-    )?;
-    put_fill(out, fill)?;
-    put(out, "/>\n")
-}
-
-/// Puts a small circle.
-#[tactic(auto, unfolding(crate::specs::Texts::with_dot))]
-fn put_dot(out: &mut Vec<u8>, class: &str, middle: Point) -> Result<(), AllocError>
-    ensures { OnOk result (out.new.items ≡ with_dot class.now middle out.old.items) }
-{
-    put_parts(
-        out,
-        &[
-            Part::Words("<circle class=\""),
-            Part::Words(class),
-            Part::Leg("\" cx=\"", middle.x),
-            Part::Leg("\" cy=\"", middle.y),
-            Part::Words("\" r=\"2\"/>\n"),
-        ],
-    )
-}
-
-/// The way of a sign from its point on.
-fn way_of(sign: Sign) -> &'static str
-    ensures { result.now ≡ way_of sign }
-{
-    match sign {
-        Sign::Tick => "l2 3l4 -6",
-        Sign::Diamond => "l-3 4l3 4l3 -4z",
-        Sign::Triangle => "l-3 6h6z",
-    }
-}
-
-/// Puts the way of a path.
-#[tactic(auto, unfolding(crate::specs::Texts::with_route))]
-fn put_route(out: &mut Vec<u8>, route: Route) -> Result<(), AllocError>
-    ensures { OnOk result (out.new.items ≡ with_route route out.old.items) }
-{
-    match route {
-        Route::Across { from, to } => {
-            put_parts(out, &[Part::Point("M", from), Part::Leg("H", to.x)])
-        }
-        Route::TwoAcross { from, to } => put_parts(
-            out,
-            &[
-                Part::Point("M", from),
-                Part::Leg("H", to.x),
-                Part::Leg("M", from.x),
-                Part::Leg(" ", to.y),
-                Part::Leg("H", to.x),
-            ],
-        ),
-        Route::Down { from, to } => put_parts(out, &[Part::Point("M", from), Part::Leg("V", to.y)]),
-        Route::Line { from, to } => put_parts(out, &[Part::Point("M", from), Part::Point("L", to)]),
-        Route::Bracket { from, size } => {
-            put_parts(
-                out,
-                &[Part::Point("M", from), Part::Leg("v-4h", size.width)],
-            )
-        }
-        Route::Tick { from } => put_parts(out, &[Part::Point("M", from), Part::Words("v12")]),
-        Route::Sign { from, sign } => {
-            put_parts(out, &[Part::Point("M", from), Part::Words(way_of(sign))])
-        }
-    }
-}
-
-/// Puts a path.
-#[tactic(auto, unfolding(crate::specs::Texts::with_path))]
-fn put_path(out: &mut Vec<u8>, class: &str, route: Route) -> Result<(), AllocError>
-    ensures { OnOk result (out.new.items ≡ with_path class.now route out.old.items) }
-{
-    put_parts(
-        out,
-        &[
-            Part::Words("<path class=\""),
-            Part::Words(class),
-            Part::Words("\" d=\""),
-        ],
-    )?;
-    put_route(out, route)?;
-    put(out, "\"/>\n")
-}
-
-/// Puts what is told of a request.
-#[tactic(auto, unfolding(crate::specs::Texts::with_request))]
-fn put_request(out: &mut Vec<u8>, request: &Request) -> Result<(), AllocError>
-    ensures { OnOk result (out.new.items ≡ with_request request.now out.old.items) }
-{
-    put_parts(
-        out,
-        &[
-            Part::Leg("request ", request.id),
-            Part::Leg(": asked at line ", request.line),
-            Part::Leg(", answered at line ", request.ended_line),
-            Part::Words(": "),
-            Part::Words(outcome_word(request.outcome)),
-        ],
-    )
-}
-
-/// Puts lines.
-fn put_lines(out: &mut Vec<u8>, lines: &[&'static str]) -> Result<(), AllocError>
-    ensures { OnOk result (out.new.items ≡ fold with_line out.old.items lines.now) }
-{
-    for line in lines.iter() {
-        put_parts(out, &[Part::Words(line), Part::Words("\n")])?;
-    }
-    Ok(())
-}
-
-/// Puts the classes and the patterns.
-#[tactic(auto, unfolding(crate::specs::Texts::with_style))]
-fn put_style(out: &mut Vec<u8>) -> Result<(), AllocError>
-    ensures { OnOk result (out.new.items ≡ with_style out.old.items) }
-{
-    put_lines(out, &STYLE)
-}
-
 /// Puts a piece.
 fn put_piece(out: &mut Vec<u8>, piece: &Piece<'_>) -> Result<(), AllocError>
     ensures { OnOk result (out.new.items ≡ with_piece out.old.items piece.now) }
 {
     match *piece {
-        Piece::Start(start) => put_start(out, start),
+        Piece::Start(opening, class, at) => put_template(out, opening_text(opening), class, at, at),
         Piece::End(element) => put_end(out, element),
+        Piece::Shape(shape, class, from, to) => {
+            put_template(out, shape_text(shape), class, from, to)
+        }
+        Piece::Filled(letter, corner, size) => {
+            let template =
+                "<rect class=\"r\" x=\"X\" y=\"Y\" width=\"R\" height=\"D\" fill=\"url(#C)\"/>\n";
+            put_template(out, template, pattern_of(letter), corner, size)
+        }
+        Piece::Corner(at) => put_template(out, " X,Y", "", at, at),
         Piece::Word(word) => put_words(out, word.as_bytes()),
         Piece::Number(number) => put_number(out, number),
         Piece::Said(bytes) => put_words(out, bytes),
         Piece::Caption(caption) => put_words(out, caption),
         Piece::Told(line) => put_words(out, line),
-        Piece::Row(request) => put_request(out, &request),
+        Piece::Row(row) => {
+            let template = "request X: asked at line Y, answered at line R: C";
+            let (from, to) = (
+                Point {
+                    x: row.id,
+                    y: row.line,
+                },
+                Point {
+                    x: row.ended_line,
+                    y: 0,
+                },
+            );
+            put_template(out, template, outcome_word(row.outcome), from, to)
+        }
         Piece::Meaning(letter) => put(out, letter_word(letter)),
         Piece::Feed => put(out, "\n"),
-        Piece::Corner(point) => put_parts(out, &[Part::Leg(" ", point.x), Part::Leg(",", point.y)]),
-        Piece::Rect {
-            class,
-            corner,
-            size,
-            fill,
-        } => put_rect(out, class, corner, size, fill),
-        Piece::Dot { class, middle } => put_dot(out, class, middle),
-        Piece::Path { class, route } => put_path(out, class, route),
-        Piece::Style => put_style(out),
+        Piece::Style => put(out, STYLE),
     }
 }
 

@@ -3,9 +3,8 @@
 ghost use Rattle.std.specs.Prelude.{◌≡◌, ◌≤◌, ◌+◌, ◌*◌, length, decimal, map, IfOk};
 ghost use Rattle.run_plan.specs.Units.{units_shown};
 ghost use Rattle.picture_svg.specs.Pictures.{unit_of};
-ghost use Rattle.picture_svg.specs.Scales.{frame_of, place_of, right_of, beside_of, event_at, start_of, width_of, middle_of, hand_of, end_of, part_of, column_at, cell_of};
+ghost use Rattle.picture_svg.specs.Scales.{frame_of, place_of, right_of, beside_of, event_at, width_of, middle_of, part_of, column_at, cell_of};
 
-use crate::markup::Markup;
 use drive_pictures::{Cell, Request};
 use itoa::Buffer;
 use run_picture::{Column, Head};
@@ -49,13 +48,6 @@ pub struct Scene<'s, 'a> {
     pub lanes: &'s [Lane],
     pub scale: u32,
     pub shown: &'s Shown,
-}
-
-/// A drawing under way: its pieces so far, and what is drawn.
-#[derive(Drop)]
-pub struct Drawing<'s, 'a> {
-    pub out: Markup<'a>,
-    pub scene: Scene<'s, 'a>,
     pub alloc: Global,
 }
 
@@ -104,14 +96,6 @@ impl Frame {
     {
         self.right().max(690) + 16
     }
-
-    /// The width of the picture.
-    pub fn width(&self) -> u32
-        ensures place { result ≡ beside_of self.now + 274 }
-        ensures inside { result ≤ 1314 }
-    {
-        self.beside() + 274
-    }
 }
 
 /// The part of a height that some events are of all events.
@@ -133,17 +117,9 @@ pub fn width_of(number: u64) -> u32
     digits * 6
 }
 
-/// How many requests of a unit are shown, up to 40.
-fn count_asked(sheet: &Sheet<'_>, unit: u8) -> u8
-    ensures { result ≤ 40 }
-{
-    let mut count: u8 = 0;
-    for request in sheet.run.requests().iter() {
-        if count < 40 && request.unit == unit && is_shown(sheet, request) {
-            count += 1;
-        }
-    }
-    count
+/// Whether a request is one of a unit that is shown.
+fn is_of(sheet: &Sheet<'_>, unit: u8, request: &Request) -> bool {
+    request.unit == unit && is_shown(sheet, request)
 }
 
 impl Lane {
@@ -152,11 +128,12 @@ impl Lane {
         ensures { result.unit ≡ unit }
     {
         let top = top_of(sheet, unit);
-        let chart = if top > 0 {
-            44 + 4 * count_asked(sheet, unit)
-        } else {
-            0
-        };
+        let requests = sheet.run.requests().iter();
+        let asked = requests
+            .filter(|request| is_of(sheet, unit, request))
+            .count();
+        let room = 44 + 4 * (asked.min(40) as u8);
+        let chart = if top > 0 { room } else { 0 };
         Lane {
             unit,
             kind: sheet.kind_of(unit),
@@ -180,18 +157,11 @@ pub fn lanes_of(alloc: Global, sheet: &Sheet<'_>) -> Result<Vec<Lane>, AllocErro
 }
 
 impl<'s, 'a> Scene<'s, 'a> {
-    /// The columns.
-    pub fn columns(&self) -> &'a [Column]
-        ensures { result.now ≡ self.now.sheet.now.run.now.columns }
-    {
-        self.sheet.columns()
-    }
-
     /// The head of a column; after the last column, a head of no event.
     pub fn head(&self, column: usize) -> Head
         ensures { result ≡ (column_at self.now.sheet.now.run.now.columns column).head }
     {
-        match self.columns().get(column) {
+        match self.sheet.columns().get(column) {
             Some(column) => column.head,
             None => Head::new(),
         }
@@ -201,7 +171,7 @@ impl<'s, 'a> Scene<'s, 'a> {
     pub fn cell(&self, unit: u8, column: usize) -> Cell
         ensures { result ≡ cell_of self.now.sheet.now.run.now.columns unit column }
     {
-        match self.columns().get(column) {
+        match self.sheet.columns().get(column) {
             Some(column) => cell_at(column, unit),
             None => Cell::new(),
         }
@@ -216,24 +186,14 @@ impl<'s, 'a> Scene<'s, 'a> {
         self.frame.x(self.sheet.column_of(event))
     }
 
-    /// Where a stretch begins.
-    #[tactic(auto, unfolding(crate::specs::Scales::start_of))]
-    pub fn start(&self, stretch: Stretch) -> u32
-        ensures place { result ≡ start_of self.now stretch }
-        ensures inside { result ≤ 1024 }
-    {
-        self.frame.x(stretch.from)
-    }
-
     /// How wide a stretch is.
     #[tactic(auto, unfolding(crate::specs::Scales::width_of))]
     pub fn width(&self, stretch: Stretch) -> u32
         ensures size { result ≡ width_of self.now stretch }
         ensures inside { result ≤ 1024 }
     {
-        self.frame
-            .x(stretch.to)
-            .saturating_sub(self.frame.x(stretch.from))
+        let from = self.frame.x(stretch.from);
+        self.frame.x(stretch.to).saturating_sub(from)
     }
 
     /// The middle of a stretch.
@@ -242,23 +202,6 @@ impl<'s, 'a> Scene<'s, 'a> {
         ensures place { result ≡ middle_of self.now stretch }
         ensures inside { result ≤ 1536 }
     {
-        self.start(stretch) + self.width(stretch) / 2
-    }
-
-    /// Where a request comes to hand, and where it ends.
-    #[tactic(auto, unfolding(crate::specs::Scales::hand_of))]
-    pub fn hand(&self, request: &Request) -> u32
-        ensures place { result ≡ hand_of self.now request.now }
-        ensures inside { result ≤ 1024 }
-    {
-        self.at(request.in_hand.unwrap_or(0))
-    }
-
-    #[tactic(auto, unfolding(crate::specs::Scales::end_of))]
-    pub fn end(&self, request: &Request) -> u32
-        ensures place { result ≡ end_of self.now request.now }
-        ensures inside { result ≤ 1024 }
-    {
-        self.at(request.ended.unwrap_or(0))
+        self.frame.x(stretch.from) + self.width(stretch) / 2
     }
 }

@@ -96,7 +96,7 @@ fn are_alike(lanes: &[Lane], column: &Column, next: &Column, track: Track) -> bo
 fn goes_on(scene: &Scene<'_, '_>, before: usize, column: usize, track: Track) -> bool
     ensures { IsTrue result → AreAlike scene.now.lanes.now track (column_at scene.now.sheet.now.run.now.columns before) (column_at scene.now.sheet.now.run.now.columns column) }
 {
-    let columns = scene.columns();
+    let columns = scene.sheet.columns();
     match (columns.get(before), columns.get(column)) {
         (Some(before), Some(column)) => are_alike(scene.lanes, before, column, track),
         _ => false,

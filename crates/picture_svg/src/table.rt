@@ -1,205 +1,130 @@
 //! The requests, in the order asked.
 
-ghost use Rattle.std.specs.Prelude.{◌≡◌, ◌≤◌, ◌+◌, ◌*◌, ◌∷◌, [], length, IfOk, OnOk};
-ghost use Rattle.picture_svg.specs.Nesting.{started, with_row};
-ghost use Rattle.picture_svg.specs.Pictures.{listing};
-ghost use Rattle.picture_svg.specs.declared.pieces.Element.TheVariants.{Group};
+ghost use Rattle.std.specs.Prelude.{◌≡◌, ◌≤◌, fold, length, OnOk};
+ghost use Rattle.picture_svg.specs.Nesting.{with_row};
 
-use crate::markup::Markup;
-use crate::pieces::{Element, Piece, Route, Start, at, extent};
-use crate::scene::{Drawing, LABEL, LEFT};
+use crate::markup::{Done, Markup};
+use crate::pieces::Piece::{End, Number, Row, Start, Word};
+use crate::pieces::{Element, Opening, Shape, at};
+use crate::scene::{LABEL, LEFT, Scene};
 use crate::stretches::Track;
 use drive_pictures::{Outcome, Request, outcome_word};
-use std::alloc::AllocError;
-
-/// Where the numbers of a request end, and what they are called.
-const ENDS: [u32; 6] = [84, 124, 164, 200, 234, 262];
 
 /// Puts the cylinder of a request, if the request joined.
-fn put_cylinder(out: &mut Markup<'_>, cylinder: Option<u32>) -> Result<(), AllocError>
+fn put_cylinder(out: &mut Markup<'_>, cylinder: Option<u32>) -> Done
     ensures { OnOk result (out.new ≡ out.old) }
 {
     match cylinder {
-        Some(cylinder) => {
-            let cylinder = u64::from(cylinder);
-            out.put_all(&[Piece::Word(" c"), Piece::Number(cylinder)])
-        }
+        Some(cylinder) => out.put_all(&[Word(" c"), Number(u64::from(cylinder))]),
         None => Ok(()),
     }
 }
 
 /// What a request asks.
-fn draw_asking(out: &mut Markup<'_>, request: &Request, y: u32) -> Result<(), AllocError>
+fn draw_asking(out: &mut Markup<'_>, request: &Request, y: u32) -> Done
     requires { y ≤ 19000 }
     ensures { OnOk result (out.new ≡ out.old) }
 {
-    let class = "m e";
-    let place = at(LABEL, y);
-    let id = u64::from(request.id);
     let verb = if request.write { " write u" } else { " read u" };
-    let unit = u64::from(request.unit);
-    out.put_all(&[
-        Piece::Start(Start::Text { class, at: place }),
-        Piece::Number(id),
-        Piece::Word(verb),
-        Piece::Number(unit),
-    ])?;
+    out.put(Start(Opening::Text, "m e", at(LABEL, y)))?;
+    out.put_all(&[Number(u64::from(request.id)), Word(verb)])?;
+    out.put(Number(u64::from(request.unit)))?;
     put_cylinder(out, request.cylinder)?;
-    out.end(Element::Text)
+    out.put(End(Element::Text))
 }
 
-/// The group of a request begins, with its tooltip and the line below it.
-fn begin_request(
-    out: &mut Markup<'_>,
-    right: u32,
-    request: &Request,
-    y: u32,
-) -> Result<(), AllocError>
-    requires across { right ≤ 1024 }
-    requires down { y ≤ 19000 }
-    ensures { OnOk result (out.new ≡ started Group (with_row out.old request.now)) }
-{
-    let from = at(LEFT, y + 12);
-    let to = at(right, y + 12);
-    out.begin_tip()?;
-    out.row(request)?;
-    out.end(Element::Title)?;
-    out.path("g", Route::Across { from, to })
-}
-
-impl<'s, 'a> Drawing<'s, 'a> {
+impl<'s, 'a> Scene<'s, 'a> {
     /// The names of the table's columns.
-    fn draw_names(&mut self, y: u32) -> Result<(), AllocError>
+    fn draw_names(&self, out: &mut Markup<'_>, y: u32) -> Done
         requires { y ≤ 19000 }
-        ensures { OnOk result (self.new ≡ self.old) }
+        ensures { OnOk result (out.new ≡ out.old) }
     {
-        let beside = self.scene.frame.beside();
-        let name = if self.scene.shown.few {
+        let beside = self.frame.beside();
+        let name = if self.shown.few {
             "requests, as asked"
         } else {
             "those with trouble first"
         };
-        self.out.text("b e", at(LABEL, y), name)?;
-        self.out.text("q", at(beside, y), "answer")?;
-        self.out.text("m q e", at(beside + ENDS[0], y), "done")?;
-        self.out.text("m q e", at(beside + ENDS[1], y), "queued")?;
-        self.out.text("m q e", at(beside + ENDS[2], y), "on way")?;
-        self.out.text("m q e", at(beside + ENDS[3], y), "ready")?;
-        self.out.text("m q e", at(beside + ENDS[4], y), "trans")?;
-        self.out.text("m q e", at(beside + ENDS[5], y), "turn")
+        out.text("b e", at(LABEL, y), name)?;
+        out.text("q", at(beside, y), "answer")?;
+        out.text("m q e", at(beside + 84, y), "done")?;
+        out.text("m q e", at(beside + 124, y), "queued")?;
+        out.text("m q e", at(beside + 164, y), "on way")?;
+        out.text("m q e", at(beside + 200, y), "ready")?;
+        out.text("m q e", at(beside + 234, y), "trans")?;
+        out.text("m q e", at(beside + 262, y), "turn")
     }
 
-    /// The time that a request waits.
-    fn draw_wait(&mut self, request: &Request, y: u32) -> Result<(), AllocError>
+    /// The time that a request waits, and the time that it is in hand, with its end if that is one of the events that are shown.
+    fn draw_times(&self, out: &mut Markup<'_>, request: &Request, y: u32) -> Done
         requires { y ≤ 19000 }
-        ensures { OnOk result (self.new ≡ self.old) }
+        ensures { OnOk result (out.new ≡ out.old) }
     {
-        let asked = self.scene.at(request.asked);
-        let hand = self.scene.hand(request);
-        if hand > asked {
+        let (asked, ended) = (self.at(request.asked), request.ended.unwrap_or(0));
+        let in_hand = request.in_hand.unwrap_or(0);
+        let width = self.at(in_hand).saturating_sub(asked);
+        if width > 0 {
             let class = if request.write { "w y" } else { "w a" };
-            self.out
-                .rect(class, at(asked, y + 4), extent(hand - asked, 4), None)
-        } else {
-            Ok(())
+            out.shape(Shape::Rect, class, at(asked, y + 4), at(width, 4))?;
         }
-    }
-
-    /// The time that a request is in hand, and its end if that is one of the events that are shown.
-    fn draw_hand(&mut self, request: &Request, y: u32) -> Result<(), AllocError>
-        requires { y ≤ 19000 }
-        ensures { OnOk result (self.new ≡ self.old) }
-    {
-        let ended = request.ended.unwrap_or(0);
-        let from = self.scene.sheet.column_of(request.in_hand.unwrap_or(0));
-        let to = self.scene.sheet.column_of(ended);
-        self.draw_bars(Track::Lead(request.unit), from, to, y)?;
-        if ended < self.scene.sheet.window.last {
-            let from = at(self.scene.at(ended), y);
-            self.out.path("k", Route::Tick { from })
-        } else {
-            Ok(())
+        let (from, to) = (self.sheet.column_of(in_hand), self.sheet.column_of(ended));
+        self.draw_bars(out, Track::Lead(request.unit), from, to, y)?;
+        if ended < self.sheet.window.last {
+            let from = at(self.at(ended), y);
+            out.shape(Shape::Bar, "k", from, from)?;
         }
+        Ok(())
     }
 
     /// The answer of a request, and its numbers.
-    fn draw_numbers(&mut self, request: &Request, y: u32) -> Result<(), AllocError>
+    fn draw_numbers(&self, out: &mut Markup<'_>, request: &Request, y: u32) -> Done
         requires { y ≤ 19000 }
-        ensures { OnOk result (self.new ≡ self.old) }
+        ensures { OnOk result (out.new ≡ out.old) }
     {
-        let beside = self.scene.frame.beside();
-        let outcome = request.outcome;
-        let class = if matches!(outcome, Outcome::Ok) {
-            "m"
-        } else {
-            "m x"
-        };
-        let turn = if request.is_out_of_order() {
-            "m e b"
-        } else {
-            "m e"
-        };
-        self.out.text(class, at(beside, y), outcome_word(outcome))?;
-        self.out
-            .text_with("m e", at(beside + ENDS[0], y), "", request.done)?;
-        self.out
-            .text_with("m e", at(beside + ENDS[1], y), "", request.queued())?;
-        self.out
-            .text_with("m e", at(beside + ENDS[2], y), "", request.times.way)?;
-        self.out
-            .text_with("m e", at(beside + ENDS[3], y), "", request.times.ready)?;
-        self.out
-            .text_with("m e", at(beside + ENDS[4], y), "", request.times.trans)?;
-        self.out
-            .text_with(turn, at(beside + ENDS[5], y), "", request.turn)
+        let (beside, times) = (self.frame.beside(), request.times);
+        let is_ok = matches!(request.outcome, Outcome::Ok);
+        let class = if is_ok { "m" } else { "m x" };
+        let is_bold = request.is_out_of_order();
+        let turn = if is_bold { "m e b" } else { "m e" };
+        out.text(class, at(beside, y), outcome_word(request.outcome))?;
+        out.text_with("m e", at(beside + 84, y), "", request.done)?;
+        out.text_with("m e", at(beside + 124, y), "", request.queued())?;
+        out.text_with("m e", at(beside + 164, y), "", times.way)?;
+        out.text_with("m e", at(beside + 200, y), "", times.ready)?;
+        out.text_with("m e", at(beside + 234, y), "", times.trans)?;
+        out.text_with(turn, at(beside + 262, y), "", request.turn)
     }
 
     /// A request.
-    fn draw_request(&mut self, request: &Request, y: u32) -> Result<(), AllocError>
+    fn draw_request(&self, out: &mut Markup<'_>, request: &Request, y: u32) -> Done
         requires { y ≤ 18900 }
-        ensures { OnOk result (self.new ≡ listing (request.now ∷ []) self.old) }
+        ensures { OnOk result (out.new ≡ with_row out.old request.now) }
     {
-        begin_request(&mut self.out, self.scene.frame.right(), request, y)?;
-        draw_asking(&mut self.out, request, y + 9)?;
-        self.draw_wait(request, y)?;
-        self.draw_hand(request, y)?;
-        self.draw_numbers(request, y + 9)?;
-        self.out.end(Element::Group)
+        let (from, to) = (at(LEFT, y + 12), at(self.frame.right(), y + 12));
+        out.begin_tip()?;
+        out.put_all(&[Row(*request), End(Element::Title)])?;
+        out.shape(Shape::Across, "g", from, to)?;
+        draw_asking(out, request, y + 9)?;
+        self.draw_times(out, request, y)?;
+        self.draw_numbers(out, request, y + 9)?;
+        out.put(End(Element::Group))
     }
 
-    /// The requests that are listed, each below the one before it. The result is where the last one stands.
-    fn draw_rows(&mut self, y: u32) -> Result<u32, AllocError>
+    /// The table of the requests that are listed, each below the one before it, and how many there are if not all are listed.
+    pub fn draw_table(&self, out: &mut Markup<'_>, y: u32) -> Done
         requires y { y ≤ 15000 }
-        requires few { length self.old.scene.shown.now.listed.items ≤ 256 }
-        ensures rows { OnOk result (self.new ≡ listing self.old.scene.shown.now.listed.items self.old) }
-        ensures last { IfOk result (λ last. last ≡ y + 13 * length self.old.scene.shown.now.listed.items) }
+        requires few { length self.now.shown.now.listed.items ≤ 256 }
+        ensures { OnOk result (out.new ≡ fold with_row out.old self.now.shown.now.listed.items) }
     {
-        let mut y = y;
-        for request in self.scene.shown.listed.iter() {
+        self.draw_names(out, y + 9)?;
+        let (mut y, left_out) = (y, self.shown.left_out());
+        for request in self.shown.listed.iter() {
             y += 13;
-            self.draw_request(request, y)?;
+            self.draw_request(out, request, y)?;
         }
-        Ok(y)
-    }
-
-    /// The table of the requests, and how many there are if not all of them are listed.
-    pub fn draw_table(&mut self, y: u32) -> Result<(), AllocError>
-        requires y { y ≤ 15000 }
-        requires few { length self.old.scene.shown.now.listed.items ≤ 256 }
-        ensures { OnOk result (self.new ≡ listing self.old.scene.shown.now.listed.items self.old) }
-    {
-        self.draw_names(y + 9)?;
-        let last = self.draw_rows(y)?;
-        let left_out = self.scene.shown.left_out();
-        if left_out == 0 {
-            Ok(())
-        } else {
-            self.out.text_with(
-                "q e",
-                at(LABEL, last + 22),
-                "requests not shown: ",
-                left_out,
-            )
+        if left_out > 0 {
+            out.text_with("q e", at(LABEL, y + 22), "requests not shown: ", left_out)?;
         }
+        Ok(())
     }
 }

@@ -16,8 +16,8 @@ draw-requires-clause-few c =
 
 pub returns : goal.returns
 returns c =
-    let d = picture_is c.args.sheet.now c.in_ok-lanes.lanes.items c.as_slice.result.now c.in_ok-shown.shown.listed.items c.new-out.result c.draw.new.self.out
+    let d = picture_is c.args.sheet.now c.in_ok-lanes.lanes.items c.as_slice.result.now c.in_ok-shown.shown.listed.items c.new-out.result c.draw.new.out
     c.as_slice.ensures.value c.in_ok-lanes.ensures c.new-out.ensures c.in_ok-draw.ensures in
     IfOk-weaker c.finish.result _ _
-    (λ text written. picture_of c.args.sheet.now c.in_ok-shown.shown.listed.items c.draw.new.self.out text.items c.in_ok-shown.ensures.listed d written)
+    (λ text written. picture_of c.args.sheet.now c.in_ok-shown.shown.listed.items c.draw.new.out text.items c.in_ok-shown.ensures.listed d written)
     c.finish.ensures

@@ -1,8 +1,0 @@
-use Rattle.std.proofs.Common.{◌≡◌, ◌-◌}
-use Rattle.picture_svg.proofs.scene.Drawing.draw_script.Given as goal
-
-abbrev pub invariant-columns : goal.invariant-columns
-invariant-columns l = l.self ≡ l.initial.self
-
-abbrev pub decreases-columns : goal.decreases-columns
-decreases-columns l = l.count - l.from
