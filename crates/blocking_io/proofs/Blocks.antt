@@ -1,8 +1,7 @@
 -- The blocks of the read that the oldest answer is of.
 use Rattle.std.proofs.Common.{◌≡◌, ℕ, ◌+◌, ◌<◌, ◌≤◌, Bool, true, false, List, [], length, take, sym, ap, subst, ◌∙◌, arith, Some, refl}
 use Rattle.std.specs.Prelude.{if◌then◌else◌, ◌==◌, slice_index_or}
-use Rattle.main_memory.specs.Bytes.{filled}
-use Rattle.main_memory.specs.Bytes.{front}
+use Rattle.main_memory.specs.Bytes.{filled, front}
 use Rattle.main_memory.proofs.ByteLaws.{front-filled}
 use Rattle.trace_replay.specs.declared.requests.answers.AnswerKind.TheVariants.{ReadOk}
 use Rattle.driver_machine.specs.declared.Made.{Made}

@@ -24,12 +24,8 @@ use Rattle.driver_laws.specs.rules.Sessions.{IsSession, behind, behind_all, wait
 use Rattle.driver_laws.specs.rules.Rest.{HasTables}
 use Rattle.driver_laws.specs.rules.Waited.{map_of, answer_in, with_packs, IsAskable, IsWaitedFor, IsAnswered, AreLeftBy}
 use Rattle.driver_laws.proofs.rules.WaitedLaws.{waited_is_answered, all_rest_again, packs_hold_map}
-use Rattle.hp_driver.specs.Passes.{IsQuiet, kind_if, setup_of, rested, StandsQuiet}
-use Rattle.hp_driver.specs.Passes.{IsOpen, GoesTo}
-use Rattle.hp_driver.proofs.Passes.{quiet_rests}
-use Rattle.hp_driver.proofs.Passes.{drains_are_over, drains_find_nothing}
-use Rattle.hp_driver.proofs.Passes.{quiet_again}
-use Rattle.hp_driver.proofs.Passes.{Waits}
+use Rattle.hp_driver.specs.Passes.{IsQuiet, kind_if, setup_of, rested, StandsQuiet, IsOpen, GoesTo}
+use Rattle.hp_driver.proofs.Passes.{quiet_rests, drains_are_over, drains_find_nothing, quiet_again, Waits}
 use Rattle.blocking_io.specs.Given.{Given, gives_all, reached_by, bytes_by}
 use Rattle.blocking_io.specs.Calls.{Stage}
 use Rattle.blocking_io.specs.Asking.{Answers, ImagesStay}

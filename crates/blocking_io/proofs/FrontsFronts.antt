@@ -23,9 +23,8 @@ use Rattle.trace_replay.proofs.Histories.{Fits, Open, CleanFits}
 use Rattle.trace_replay.proofs.Kept.{IsHeld}
 use Rattle.driver_laws.specs.rules.Consistent.{IsConsistent}
 use Rattle.driver_laws.proofs.rules.Consistency.{moments_consistent}
-use Rattle.blocking_io.specs.Passes.{IsNextSector, with_next}
-use Rattle.driver_laws.specs.rules.Machine.{Blocks, Machine, idle, request_of, without, kind_of, meets, AreUsable, MayAnswer, blocks_after, blocks_done, done_in, after_answer, Steps}
-use Rattle.driver_laws.specs.rules.Machine.{submitted as machine_submitted}
+use Rattle.blocking_io.specs.Passes.{IsNextSector, with_next, kind_if, setup_of, rested, StandsQuiet}
+use Rattle.driver_laws.specs.rules.Machine.{Blocks, Machine, idle, request_of, without, kind_of, meets, AreUsable, MayAnswer, blocks_after, blocks_done, done_in, after_answer, Steps, submitted as machine_submitted}
 use Rattle.driver_laws.specs.rules.Stands.{Setup, home_at, home_in, held_at, HandStands, IsOutstanding, QueueStands, StandsFor, is_sure_among}
 use Rattle.driver_laws.proofs.rules.Blocks.{begun_blocks, read_blocks}
 use Rattle.driver_laws.proofs.rules.Beginnings.{steps_join}
@@ -43,13 +42,10 @@ use Rattle.driver_laws.specs.rules.Waited.{map_of, first_in, with_packs, IsAskab
 use Rattle.driver_laws.proofs.rules.Parts.{PartStep, part_step}
 use Rattle.driver_laws.proofs.rules.Cleans.{done_moves_clean}
 use Rattle.driver_laws.proofs.rules.Restful.{rest_keeps, rest_stands}
-use Rattle.blocking_io.specs.Passes.{kind_if, setup_of, rested, StandsQuiet}
-use Rattle.blocking_io.proofs.Passes.{played_consistent}
-use Rattle.blocking_io.proofs.Passes.{quiet_rests}
+use Rattle.blocking_io.proofs.Passes.{played_consistent, quiet_rests, done_few}
 use Rattle.blocking_io.specs.Asking.{setup_at, Follows}
 use Rattle.blocking_io.specs.Stopping.{LeftAt, IsCut, begun}
 use Rattle.blocking_io.specs.Fronts.{OthersStay, HoldsFront, StoppedHoldsFront, AnsweredMovesClean}
-use Rattle.blocking_io.proofs.Passes.{done_few}
 use Rattle.driver_laws.proofs.rules.MomentSteps.{sure_claims}
 
 -- ---- WHERE THE MACHINE IS behind a submission and some answers: the request was refused, is outstanding, or was answered

@@ -20,13 +20,13 @@ use Rattle.driver_laws.specs.shown.Lengths.{length_behind, AreAsLong}
 use Rattle.driver_laws.proofs.shown.Lengths.{long_append}
 use Rattle.driver_laws.proofs.rules.Quiet.{after_parts}
 use Rattle.driver_laws.specs.shown.NextBlock.{HasNext}
-use Rattle.driver_laws.specs.rules.Sessions.{Part, IsSession, behind, behind_all, waited, told_in}
+use Rattle.driver_laws.specs.rules.Sessions.{Part, IsSession, behind, behind_all, told_in}
 use Rattle.driver_laws.specs.rules.Waited.{with_packs}
 use Rattle.hp_driver.specs.Passes.{StandsQuiet}
 use Rattle.blocking_io.specs.Calls.{Stage}
 use Rattle.blocking_io.specs.Asking.{setup_at, moments_in}
-use Rattle.blocking_io.specs.Stopping.{Took, LeftAt, LongAt, IsCut, begun}
-use Rattle.blocking_io.specs.Sessions.{Reaches, AnswersReach, SessionsJoin, StopsJoin, TwoThenStop}
+use Rattle.blocking_io.specs.Stopping.{Took, LeftAt, LongAt, IsCut}
+use Rattle.blocking_io.specs.Sessions.{Reaches, AnswersReach, SessionsJoin, StopsJoin}
 
 -- ---- PARTS
 session_append : (s : Replay) (xs ys : List Part) → IsSession s xs → IsSession (behind_all s xs) ys → IsSession s (xs ++ ys)
@@ -177,10 +177,3 @@ stops_join stop xs ys old mid new first next still = record {
         long = long_behind stop s xs ys old.held mid.held new.held (first.long (still.packs t) tables s q) other.long;
       };
 }
-
-pub two_then_stop : TwoThenStop
-two_then_stop stop l m n q r t old one two new first second third still later =
-    stops_join stop (waited l q first.asked first.drained) (waited m r second.asked second.drained ++ begun n t third.asked third.drained) old one new
-    (answers_reach l q old one first)
-    (stops_join stop (waited m r second.asked second.drained) (begun n t third.asked third.drained) one two new (answers_reach m r one two second) third.stops later)
-    (record { packs = λ z. still.packs (later.packs z); trace = λ z. still.trace (later.trace z) })

@@ -29,7 +29,7 @@ use Rattle.driver_laws.proofs.answers.Joined.{front_of_front}
 use Rattle.driver_laws.specs.shown.Calls.{Ends, IsSurfaceOf}
 use Rattle.driver_laws.proofs.shown.DrainsLaws.{GoesOn, drain_begins, drain_goes_on, drain_between}
 use Rattle.driver_laws.proofs.shown.Inputted.{lines_play_nothing}
-use Rattle.hp_driver.proofs.Passes.{event_fronts}
+use Rattle.hp_driver.proofs.Passes.{event_fronts, quiet_opens, quiet_submits, drains_begin, drains_continue, drains_find_nothing}
 use Rattle.driver_laws.specs.shown.RunsRuns.{Stay}
 use Rattle.driver_laws.specs.shown.Lengths.{AreAsLong}
 use Rattle.driver_laws.specs.shown.Within.{ShowsAll}
@@ -39,9 +39,7 @@ use Rattle.driver_laws.specs.shown.NextBlock.{NextBlocksShow}
 use Rattle.driver_laws.proofs.shown.Sectors.{submission_quiet}
 use Rattle.driver_laws.specs.rules.Sessions.{MayPlay, IsPart, behind, behind_all, told_in, waited}
 use Rattle.driver_laws.specs.rules.Waited.{with_packs}
-use Rattle.hp_driver.specs.Passes.{setup_of, StandsQuiet}
-use Rattle.hp_driver.specs.Passes.{GoesTo, DrainsFrom}
-use Rattle.hp_driver.proofs.Passes.{quiet_opens, quiet_submits, drains_begin, drains_continue, drains_find_nothing}
+use Rattle.hp_driver.specs.Passes.{setup_of, StandsQuiet, GoesTo, DrainsFrom}
 use Rattle.blocking_io.specs.Given.{Given}
 use Rattle.blocking_io.specs.Calls.{Stage, SubmissionStops, EventStops}
 use Rattle.blocking_io.specs.Asking.{moments_in, setup_at}

@@ -30,12 +30,8 @@ use Rattle.driver_laws.proofs.shown.RunsLaws.{runs_keep}
 use Rattle.driver_laws.proofs.shown.Inputted.{lines_play_nothing}
 use Rattle.driver_laws.specs.rules.Sessions.{Part, MayPlay, IsPart, behind}
 use Rattle.driver_laws.specs.rules.Waited.{with_packs}
-use Rattle.hp_driver.specs.Passes.{IsQuiet, kind_if, setup_of, StandsQuiet}
-use Rattle.hp_driver.specs.Passes.{IsOpen, GoesTo, DrainsFrom}
-use Rattle.hp_driver.proofs.Passes.{quiet_opens, quiet_submits, drains_begin, drains_continue, takings_open, takings_drain}
-use Rattle.hp_driver.proofs.Passes.{setup_stays}
-use Rattle.hp_driver.proofs.Passes.{Waits, Drains, Fewer, first_fewer, later_fewer, waits_taken, drains_taken}
-use Rattle.hp_driver.proofs.Passes.{submitted_waits}
+use Rattle.hp_driver.specs.Passes.{IsQuiet, kind_if, setup_of, StandsQuiet, IsOpen, GoesTo, DrainsFrom}
+use Rattle.hp_driver.proofs.Passes.{quiet_opens, quiet_submits, drains_begin, drains_continue, takings_open, takings_drain, setup_stays, Waits, Drains, Fewer, first_fewer, later_fewer, waits_taken, drains_taken, submitted_waits}
 use Rattle.blocking_io.specs.Given.{Given, gives, gives_all}
 use Rattle.driver_laws.specs.answers.Waiting.{takings, all_taken}
 use Rattle.blocking_io.specs.Calls.{Stage, GivesSubmission, GivesEvent}

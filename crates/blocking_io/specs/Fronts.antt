@@ -10,12 +10,11 @@ use Rattle.driver_laws.specs.rules.Stands.{Setup, home_in}
 use Rattle.driver_machine.specs.Guards.{IsSetUp}
 use Rattle.driver_machine.specs.Sound.{Sound, AtWork}
 use Rattle.driver_laws.specs.declared.answers.outcome.Stop.{Stop}
-use Rattle.blocking_io.specs.Passes.{Stay}
+use Rattle.blocking_io.specs.Passes.{Stay, IsQuiet}
 use Rattle.driver_laws.specs.rules.Rest.{HasTables}
 use Rattle.driver_laws.specs.rules.Sessions.{waited, told_in}
 use Rattle.driver_laws.specs.rules.Waited.{map_of, first_in, answer_in, with_packs}
 use Rattle.driver_laws.specs.rules.Cleans.{MovedClean, done_by}
-use Rattle.blocking_io.specs.Passes.{IsQuiet}
 use Rattle.blocking_io.specs.Calls.{Stage}
 use Rattle.blocking_io.specs.Asking.{setup_at, Answers}
 use Rattle.blocking_io.specs.Stopping.{Stops}

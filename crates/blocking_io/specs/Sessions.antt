@@ -12,7 +12,7 @@ use Rattle.driver_laws.specs.rules.Waited.{with_packs}
 use Rattle.hp_driver.specs.Passes.{StandsQuiet}
 use Rattle.blocking_io.specs.Calls.{Stage}
 use Rattle.blocking_io.specs.Asking.{setup_at, moments_in, Answers}
-use Rattle.blocking_io.specs.Stopping.{StopsIn, begun, Stops}
+use Rattle.blocking_io.specs.Stopping.{StopsIn}
 
 -- A SESSION THAT CAME TO ITS END, from each replay that stands for the driver before; the replay behind it stands for it after, and each
 -- image is just as long as the blocks that were written make it.
@@ -45,9 +45,3 @@ SessionsJoin = (first next : List Part) (old mid new : Stage) → GoesOn first o
 abbrev pub StopsJoin : Type 0
 StopsJoin = (stop : Stop) (first next : List Part) (old mid new : Stage) → GoesOn first old mid → StopsIn stop next mid new → StillTell mid new
     → StopsIn stop (first ++ next) old new
-
--- So it is where two requests were answered and a third one stops.
-abbrev pub TwoThenStop : Type 0
-TwoThenStop = (stop : Stop) (l m n : ℕ) (q r t : Request) (old one two new : Stage) (first : Answers l q old one) (second : Answers m r one two) (third : Stops stop n t two new)
-    → StillTell one two → StillTell two new
-    → StopsIn stop (waited l q first.asked first.drained ++ (waited m r second.asked second.drained ++ begun n t third.asked third.drained)) old new

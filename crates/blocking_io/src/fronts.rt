@@ -1,9 +1,4 @@
-//! What a blocking request leaves, as `blocking_io` promises it. The functions here do nothing: each stands for a law.
-//!
-//! What is proved: `fronts_law`: if the request stopped, the packs hold a front of it. `clean_law`: if the request was answered, each
-//! block that is done has its clean line. This module also defines the words for whole blocks of a partition in one request, and for
-//! what is kept from call to call. Raw transfers and the cache share these words.
-
+// What a blocking request leaves. The functions here do nothing: each stands for a law.
 ghost use Rattle.blocking_io.specs.Fronts.{StoppedHoldsFront, AnsweredMovesClean};
 
 /// If the trace or the packs fail during a blocking request, the packs hold a front of it: a write replaced some of its first blocks,

@@ -1,5 +1,5 @@
 // Requests one after another.
-ghost use Rattle.blocking_io.specs.Sessions.{AnswersReach, SessionsJoin, StopsJoin, TwoThenStop};
+ghost use Rattle.blocking_io.specs.Sessions.{AnswersReach, SessionsJoin, StopsJoin};
 
 /// Requests that are answered one after another form one session, from each replay that stands for the driver before the first request.
 /// The replay after that session stands for the driver after the last request. If the last request stops, so does the whole: the trace
@@ -8,5 +8,4 @@ pub fn sessions_law()
     ensures answered { AnswersReach }
     ensures join { SessionsJoin }
     ensures stops { StopsJoin }
-    ensures two_then_stop { TwoThenStop }
 {}

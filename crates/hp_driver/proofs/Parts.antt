@@ -7,7 +7,7 @@ use Rattle.driver_machine.specs.declared.Phase.{Phase}
 use Rattle.driver_machine.specs.declared.Phase.TheVariants.{Waiting, Positioning, Due}
 use Rattle.driver_machine.specs.World.{World, UnitView, AdapterView, Held, adapter_of, unit_on, unit_of, unit_at, adapter_at, held_in, slot_in_hand}
 use Rattle.driver_machine.specs.Acts as deed
-use Rattle.driver_machine.specs.Acts.{Act, Of, Nothing, Deed, Tried}
+use Rattle.driver_machine.specs.Acts.{Act, Of, Nothing, Deed}
 use Rattle.driver_machine.specs.Events.{when_by, in_hand, due_acts, begun, choose_by, choose_acts, or_nothing, arrive_acts, attend_acts, attended, can_arrive, can_attend, data_interrupt, attention, steps_taken}
 use Rattle.driver_machine.specs.Due.{command_of}
 use Rattle.driver_machine.specs.Guards.{Allowed}

@@ -1,6 +1,5 @@
 -- Laws of a block that is moved or repaired: what the slots are after one block of one buffer was written.
-use Rattle.std.proofs.Common.{◌≡◌, ◌≢◌, ℕ, ◌+◌, ◌*◌, ◌<◌, ◌≤◌, Bool, true, false, if◌then◌else◌, List, take, drop, length, set, Option, None, Some, Result, Ok, Err, refl, sym, ap, ◌∙◌, subst, arith}
-use Rattle.std.specs.Result.{IfOk, OnErr}
+use Rattle.std.proofs.Common.{◌≡◌, ◌≢◌, ℕ, ◌+◌, ◌*◌, ◌<◌, ◌≤◌, Bool, true, false, if◌then◌else◌, List, take, drop, length, set, Option, None, Some, refl, sym, ap, ◌∙◌, subst, arith}
 use Rattle.std.proofs.lemmas.List.{length-take, length-drop, length-append, set-get_or}
 use Rattle.main_memory.specs.declared.span.Span.{Span}
 use Rattle.main_memory.specs.Bytes.{part, with_part}
@@ -8,11 +7,6 @@ use Rattle.main_memory.specs.Blocks.{Loan, IsLoan, IsSpan, in_frame, in_next, si
 use Rattle.main_memory.specs.Memory.{Memory, IsMemory, IsLent, AreTaken, AreApart, with_block, blocks_of}
 use Rattle.main_memory.proofs.ByteLaws.{length-with_part}
 use Rattle.main_memory.proofs.BlockLaws.{is_span, length-bytes_in, length-with_bytes_in, slice_get-blocks_of, blocks_of-with_block, blocks_of-with_block_other}
-use Rattle.pack_geometry.specs.Pack.{Pack}
-use Rattle.hardware_table.specs.declared.Moved.{Moved}
-use Rattle.hardware_table.specs.Drive.{DriveState}
-use Rattle.hardware_table.specs.Noise.{Book}
-use Rattle.mba_adapter.specs.Move.{MovesSector}
 use Rattle.driver_machine.specs.World.{Held, block_in, with_block_in}
 use Rattle.request_slots.specs.Requests.{held_at}
 use Rattle.request_slots.specs.declared.slot.Slot.{Slot}

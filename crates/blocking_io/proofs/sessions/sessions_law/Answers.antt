@@ -1,4 +1,4 @@
-use Rattle.blocking_io.proofs.Joined.{answers_reach, sessions_join, stops_join, two_then_stop}
+use Rattle.blocking_io.proofs.Joined.{answers_reach, sessions_join, stops_join}
 use Rattle.blocking_io.proofs.sessions.sessions_law.Goals as goal
 
 pub returns-clause-answered : goal.returns-clause-answered
@@ -9,6 +9,3 @@ returns-clause-join c = sessions_join
 
 pub returns-clause-stops : goal.returns-clause-stops
 returns-clause-stops c = stops_join
-
-pub returns-clause-two_then_stop : goal.returns-clause-two_then_stop
-returns-clause-two_then_stop c = two_then_stop

@@ -1,11 +1,10 @@
-use Rattle.std.proofs.Common.{◌≡◌, ◌∷◌, List, [], Ok, sym, ap, ◌∙◌, subst}
+use Rattle.std.proofs.Common.{◌≡◌, ◌∷◌, [], sym, ap, subst}
 use Rattle.hp_core.specs.Asked.{Asked}
 use Rattle.hp_core.specs.Deeds.{deed_in}
 use Rattle.driver_machine.specs.World.{World, UnitView, unit_at, adapter_at, adapter_of}
-use Rattle.driver_machine.specs.Acts.{Act, Deed, Of, after}
+use Rattle.driver_machine.specs.Acts.{Deed, Of}
 use Rattle.driver_machine.specs.Due.{command_of}
 use Rattle.driver_machine.specs.Guards.{Allowed}
-use Rattle.hp_driver.specs.Free.{IsFree}
 use Rattle.hp_driver.specs.Hand.{hand_at}
 use Rattle.hp_driver.proofs.Chosen.{asked_some, may_chosen, chosen_free}
 use Rattle.hp_driver.proofs.Exits.{as_acts}

@@ -1,6 +1,4 @@
-use Rattle.std.proofs.Common.{List, Bool, sym, ap, ◌∙◌}
-use Rattle.std.specs.Prelude.{drop}
-use Rattle.pack_geometry.specs.declared.DriveKind.{DriveKind}
+use Rattle.std.proofs.Common.{List, sym, ap, ◌∙◌}
 use Rattle.transfer_engine.specs.declared.job.Job.{Job}
 use Rattle.driver_machine.specs.declared.RetryStep.{RetryStep}
 use Rattle.driver_machine.specs.Due.{step_of}

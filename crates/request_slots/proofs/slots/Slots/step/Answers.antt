@@ -1,4 +1,4 @@
-use Rattle.std.proofs.Common.{◌≡◌, ℕ, ◌<◌, List, Option, sym, ap, ◌∙◌, subst, rules}
+use Rattle.std.proofs.Common.{◌≡◌, ℕ, ◌<◌, List, Option, sym, ap, ◌∙◌, subst}
 use Rattle.hardware_table.specs.Adapter.{next_window}
 use Rattle.mba_adapter.specs.Move.{has_read}
 use Rattle.mba_adapter.proofs.FailLaws.{tries_as}
