@@ -8,8 +8,8 @@ ghost use Rattle.cached_run.specs.Lines.{IsRoomy};
 
 use buffer_cache::{Cache, Subsystem};
 use outside_traits::traits::NoMemory;
+use script_runs::UnitSetup;
 use script_runs::desk::Desk;
-use script_runs::stops::UnitSetup;
 use std::alloc::Global;
 
 /// The driver of a script's units, which takes one request at a time, with a cache before it and the desk for its answers.

@@ -1,15 +1,14 @@
 -- What calls keep of the write-ahead rule, and what it promises of the packs.
-use Rattle.std.proofs.Common.{◌≡◌, ℕ, List, [], ◌∷◌, ◌++◌, Option, refl, sym, ap, subst, ◌∙◌, append_assoc, append-nil, arith}
+use Rattle.std.proofs.Common.{◌≡◌, ℕ, List, [], ◌++◌, Option, refl, sym, ap, subst, ◌∙◌, append_assoc, append-nil, arith}
 use Rattle.pack_geometry.specs.Pack.{Pack}
 use Rattle.pack_geometry.specs.TableSpelling.{Table}
-use Rattle.trace_replay.specs.Script.{Script, Numbered, drives_of}
-use Rattle.trace_replay.specs.Moments.{Moment, Played, Told, Idle, played}
+use Rattle.trace_replay.specs.Script.{Script, drives_of}
+use Rattle.trace_replay.specs.Moments.{Moment}
 use Rattle.trace_replay.specs.Replay.{Replay, after_moments}
 use Rattle.trace_replay.specs.Runs.{start_of}
-use Rattle.trace_replay.proofs.Following.{follow_on}
 use Rattle.driver_laws.specs.rules.Beginnings.{IsBegun, BeginningsKeep, PromisesSoFar}
 use Rattle.script_runs.specs.Writing.{WriteNothing}
-use Rattle.script_runs.specs.Ahead.{AreBehind, RulesStart, AllSent, NothingKeepsRule, WritesKeepRule, RulesHold}
+use Rattle.script_runs.specs.Ahead.{AreBehind, SaysOneSector, WritesAhead}
 use Rattle.driver_laws.proofs.rules.Quiet.{after_parts}
 use Rattle.script_runs.proofs.Writing.{nothing_leaves_packs, nothing_leaves_lengths, nothing_joined, nothing_front}
 use Rattle.driver_laws.proofs.rules.Fronts.{begun_front}
@@ -22,7 +21,8 @@ behind_more script tables first left moments more are none = record {
   long = nothing_leaves_lengths (start_of script tables first) first left moments more none are.long;
 }
 
-pub rules_start : RulesStart
+pub rules_start : (script : Script) (tables : ℕ → Option Table) (first held : ℕ → Pack) (moments : List Moment) → AreBehind script tables first held moments
+    → WritesAhead script tables first held moments []
 rules_start script tables first held moments are = record {
   move = [];
   quiet = [];
@@ -35,13 +35,15 @@ rules_start script tables first held moments are = record {
 whole_is : (sent move quiet late : List Moment) → late ≡ move ++ quiet → (sent ++ move) ++ quiet ≡ sent ++ late
 whole_is sent move quiet late cut = append_assoc sent move quiet ∙ ap (λ (ms : List Moment). sent ++ ms) (sym cut)
 
-pub all_sent : AllSent
+pub all_sent : (script : Script) (tables : ℕ → Option Table) (first held : ℕ → Pack) (sent late : List Moment) → WritesAhead script tables first held sent late
+    → WritesAhead script tables first held (sent ++ late) []
 all_sent script tables first held sent late ahead =
     rules_start script tables first held (sent ++ late)
     (subst (AreBehind script tables first held) (whole_is sent ahead.move ahead.quiet late ahead.cut)
     (behind_more script tables first held (sent ++ ahead.move) ahead.quiet ahead.packs ahead.nothing))
 
-pub nothing_keeps_rule : NothingKeepsRule
+pub nothing_keeps_rule : (script : Script) (tables : ℕ → Option Table) (first held : ℕ → Pack) (sent late more : List Moment) → WritesAhead script tables first held sent late
+    → WriteNothing (after_moments (start_of script tables first) (sent ++ late)) more → WritesAhead script tables first held sent (late ++ more)
 nothing_keeps_rule script tables first held sent late more ahead none =
     let start : Replay = start_of script tables first in
     let behind : after_moments start (sent ++ late) ≡ after_moments (after_moments start (sent ++ ahead.move)) ahead.quiet =
@@ -55,7 +57,8 @@ nothing_keeps_rule script tables first held sent late more ahead none =
       packs = ahead.packs;
     }
 
-pub writes_keep_rule : WritesKeepRule
+pub writes_keep_rule : (script : Script) (tables : ℕ → Option Table) (first held : ℕ → Pack) (sent move : List Moment) → SaysOneSector move
+    → AreBehind script tables first held (sent ++ move) → WritesAhead script tables first held sent move
 writes_keep_rule script tables first held sent move one are = record {
   move = move;
   quiet = [];
@@ -65,7 +68,9 @@ writes_keep_rule script tables first held sent move one are = record {
   packs = are;
 }
 
-pub rules_hold : BeginningsKeep → RulesHold
+pub rules_hold : BeginningsKeep → (script : Script) (tables : ℕ → Option Table) (first held : ℕ → Pack) (sent late : List Moment) → IsBegun script tables first (sent ++ late)
+    → (ahead : WritesAhead script tables first held sent late) → (front rest : List Moment) → ahead.quiet ≡ front ++ rest
+    → PromisesSoFar script tables first held (sent ++ (ahead.move ++ front))
 rules_hold keep script tables first held sent late begun ahead front rest cut =
     let start : Replay = start_of script tables first in
     let whole : sent ++ late ≡ ((sent ++ ahead.move) ++ front) ++ rest =

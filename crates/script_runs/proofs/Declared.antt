@@ -1,10 +1,9 @@
 -- The drive that a line declares, as the line is stored.
-use Rattle.std.proofs.Common.{◌≡◌, ℕ, zero, suc, ◌<◌, List, [], ◌∷◌, length, map, Option, None, Some, refl, sym, ap, ◌∙◌, arith}
+use Rattle.std.proofs.Common.{◌≡◌, ℕ, zero, suc, ◌<◌, List, [], ◌∷◌, length, map, Option, None, refl, sym, ap, ◌∙◌, arith}
 use Rattle.std.specs.Prelude.{slice_index_or, Box}
 use Rattle.std.specs.Box.{box_value}
 use Rattle.std.specs.declared.alloc.Global.{Global}
 use Rattle.pack_geometry.specs.declared.DriveKind.{DriveKind}
-use Rattle.trace_replay.specs.Script.{Line}
 use Rattle.script_lines.specs.declared.statement.Span.{Span}
 use Rattle.script_lines.specs.declared.statement.Statement.{Statement as Said}
 use Rattle.script_lines.specs.declared.statement.Statement.TheVariants as says

@@ -35,7 +35,7 @@ use Rattle.driver_laws.specs.answers.Counts.{noises_of, faults_of}
 use Rattle.driver_laws.proofs.answers.Events.{events_add}
 use Rattle.driver_laws.proofs.answers.Ids.{events_add_none}
 use Rattle.driver_laws.specs.answers.Waiting.{all_taken}
-use Rattle.script_runs.specs.Steps.{Behind, Drained, HasRoom, DrainsEnd}
+use Rattle.script_runs.specs.Steps.{Behind, Drained, HasRoom}
 use Rattle.script_runs.proofs.Taking.{runs_wait, draining_taken, kept_taken}
 use Rattle.script_runs.proofs.Tries.{Tries, tries}
 use Rattle.script_runs.proofs.Fitting.{within_more}
@@ -204,5 +204,7 @@ module _ (script : Script) (tables : ℕ → Option Table) (old : ℕ → Pack) 
       let first : BehindIn next (inputs ++ record { line = next; input = says.Drain } ∷ []) = drain_first line next inputs b input less is in
       drain_on (suc (left_of next (inputs ++ record { line = next; input = says.Drain } ∷ []) first)) next (inputs ++ record { line = next; input = says.Drain } ∷ []) first (omega arith)
 
-pub drains_end : DrainsEnd
+pub drains_end : (script : Script) (tables : ℕ → Option Table) (old : ℕ → Pack) (total done : ℕ) (used : List ℕ) (line next : ℕ) (inputs : List Numbered) → line < next
+    → Behind script tables old total done used line inputs
+    → Drained script tables old total done used next (inputs ++ record { line = next; input = says.Drain } ∷ [])
 drains_end script tables old total done used line next inputs less b = drained script tables old total done used line next inputs less b (next_event b.world) refl

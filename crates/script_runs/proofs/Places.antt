@@ -18,7 +18,7 @@ use Rattle.driver_machine.specs.Sound.{Sound}
 use Rattle.driver_laws.proofs.shown.Writes.{piece_at}
 use Rattle.driver_laws.specs.answers.Counts.{in_use}
 use Rattle.driver_laws.proofs.answers.Slots.{free_where_room, all_lent_are_needed}
-use Rattle.script_runs.specs.Steps.{HasPlace, PlacesExist}
+use Rattle.script_runs.specs.Steps.{HasPlace}
 use Rattle.script_runs.proofs.Frames.{Free, frames_free, all_lent, many_lent, contained, lent_among}
 
 -- WHERE A REQUEST IS NOT REFUSED it lies inside, and its frames are there.
@@ -151,7 +151,7 @@ placed w r sound unit is fresh free none =
       };
     }
 
-pub places_exist : PlacesExist
+pub places_exist : (w : World) (r : Request) → Sound w → IsSetUp w r.unit → IsRequest r → IsFresh w r.id → in_use w.slots < length w.slots → HasPlace w r
 places_exist w r sound unit is fresh free = by (refusal_of r w) refl
   where
     by : (o : Option AnswerKind) → refusal_of r w ≡ o → HasPlace w r

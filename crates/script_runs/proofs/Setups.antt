@@ -6,11 +6,12 @@ use Rattle.pack_geometry.specs.Pack.{Pack}
 use Rattle.pack_geometry.specs.TableSpelling.{Table}
 use Rattle.pack_geometry.specs.PackTable.{IsTableOf, AreTablesOf}
 use Rattle.pack_geometry.proofs.TableExists.{table_exists}
-use Rattle.trace_replay.specs.Script.{Statement, Declares, Plays, Line, drives_in, IsPlayed, AreUnitsFirst}
+use Rattle.trace_replay.specs.Script.{Statement, Declares, Plays, Line, drives_in, IsPlayed, AreUnitsFirst, Script}
 use Rattle.driver_machine.specs.World.{Setup}
 use Rattle.driver_machine.specs.Sound.{IsTableFor}
-use Rattle.script_runs.specs.Steps.{tables_in, SetupsExist}
+use Rattle.script_runs.specs.Steps.{tables_in, HasSetups}
 use Rattle.script_runs.proofs.Attached.{IsSetupOf, AreAttached, attached_none, attached_more, attached_still, told_more, told_still, is_first, set_for_script}
+use Rattle.trace_replay.specs.Script as says
 
 -- EACH PACK has a table or none, so each line that declares a drive has a setup.
 table_for : (kind : DriveKind) (pack : Pack) (t : Option Table) → IsTableOf kind pack t → (table : Table) → t ≡ Some table → IsTableFor kind table
@@ -57,7 +58,7 @@ fold packs front (line ∷ rest) first f =
     subst (Folded packs) e
     (fold packs (front ++ line ∷ []) rest (subst AreUnitsFirst (sym e) first) (one_line packs front rest line first f line.statement refl))
 
-pub setups_exist : SetupsExist
+pub setups_exist : (script : Script) (old : ℕ → Pack) → says.AreUnitsFirst script.lines → HasSetups script old
 setups_exist script old first =
     let f : Folded old script.lines = fold old [] script.lines first (record { setups = []; attached = attached_none; told = λ unit. refl }) in
     record { tables = tables_in f.setups; setups = f.setups; read = f.told; set = set_for_script script f.setups f.attached }

@@ -10,13 +10,12 @@ use Rattle.hardware_table.specs.Moves.{was_written, has_bytes}
 use Rattle.trace_replay.specs.Moments.{Played}
 use Rattle.trace_replay.specs.Script as script
 use Rattle.trace_replay.specs.Script.{Input}
-use Rattle.trace_replay.specs.Events.{Event}
 use Rattle.trace_replay.specs.Replay.{Replay, after_moment}
 use Rattle.driver_machine.specs.declared.Phase.TheVariants.{Transferring}
-use Rattle.driver_machine.specs.World.{World, unit_at, adapter_at, adapter_of, unit_of, held_in, slot_in_hand}
+use Rattle.driver_machine.specs.World.{World, unit_at, adapter_at, adapter_of, unit_of, held_in, slot_in_hand, Held}
 use Rattle.driver_machine.specs.Acts.{Act, Nothing, Tried, Sector}
 use Rattle.driver_machine.specs.Lines.{lines_of_all}
-use Rattle.driver_machine.specs.Events.{event_acts, move_acts, in_hand, or_nothing, can_move}
+use Rattle.driver_machine.specs.Events.{event_acts, move_acts, in_hand, or_nothing, can_move, submit_acts}
 use Rattle.driver_machine.specs.Sound.{Sound, IsPhase}
 use Rattle.driver_laws.proofs.invariant.Deeds.{deed_at}
 use Rattle.driver_laws.proofs.invariant.Due.{in_hand_one}
@@ -24,9 +23,11 @@ use Rattle.driver_laws.proofs.invariant.Calls.{IsServing, serving}
 use Rattle.driver_laws.specs.shown.Within.{ShowsAll}
 use Rattle.driver_laws.proofs.shown.Starting.{set_up}
 use Rattle.driver_laws.proofs.shown.Sectors.{IsNoMove, event_quiet, submission_quiet}
-use Rattle.script_runs.specs.Writing.{WriteNothing, EventsWriteNothing, FirstEventsWriteNothing, LaterEventsWriteNothing, SubmissionsWriteNothing, EmptyDrainsWriteNothing}
+use Rattle.script_runs.specs.Writing.{WriteNothing}
 use Rattle.script_runs.proofs.Writing.{quiet_write_nothing}
 use Rattle.driver_laws.proofs.shown.Lengths.{same_shown}
+use Rattle.trace_replay.specs.requests.Requests.{Request}
+use Rattle.driver_machine.specs.Writes.{writes_by}
 
 -- A TRANSFER that reads writes nothing.
 both : (b c : Bool) → b && not c ≡ true → (b ≡ true) × (c ≡ false)
@@ -93,12 +94,14 @@ move_nothing s w line a t acts rest sound shows off cut = at (can_move (adapter_
 quiet_event : (s : Replay) (w : World) (line : ℕ) (input : Input) (t : Tried) (acts rest : List Act) → IsNoMove input → event_acts line input t w ≡ acts ++ rest → WriteNothing s (lines_of_all w acts)
 quiet_event s w line input t acts rest is cut = quiet_write_nothing s (lines_of_all w acts) (event_quiet line input t w acts rest is cut)
 
-pub later_events_write_nothing : LaterEventsWriteNothing
+pub later_events_write_nothing : (s : Replay) (w : World) (line : ℕ) (input : Input) (tried : Tried) (acts rest : List Act) → Sound w → ShowsAll w s
+    → writes_by w input ≡ false → event_acts line input tried w ≡ acts ++ rest → WriteNothing s (lines_of_all w acts)
 later_events_write_nothing s w line (script.MoveAt a) t acts rest sound shows off cut = move_nothing s w line a t acts rest sound shows off cut
 later_events_write_nothing s w line other t acts rest sound shows off cut = quiet_event s w line other t acts rest tt cut
 
 -- THE FIRST EVENT of a drain
-pub first_events_write_nothing : FirstEventsWriteNothing
+pub first_events_write_nothing : (s : Replay) (w : World) (line : ℕ) (input : Input) (tried : Tried) (acts rest : List Act) → Sound w → ShowsAll w s
+    → writes_by w input ≡ false → event_acts line input tried w ≡ acts ++ rest → WriteNothing s (Played line script.Drain ∷ lines_of_all w acts)
 first_events_write_nothing s w line input t acts rest sound shows off cut =
     (refl, later_events_write_nothing (after_moment s (Played line script.Drain)) w line input t acts rest sound (same_shown w s _ shows) off cut)
 
@@ -107,15 +110,17 @@ quiet_line : (s : Replay) (w : World) (line : ℕ) (input : Input) (t : Tried) (
     → WriteNothing s (Played line input ∷ lines_of_all w acts)
 quiet_line s w line input t acts rest is cut = (refl, quiet_event (after_moment s (Played line input)) w line input t acts rest is cut)
 
-pub events_write_nothing : EventsWriteNothing
+pub events_write_nothing : (s : Replay) (w : World) (line : ℕ) (input : Input) (tried : Tried) (acts rest : List Act) → Sound w → ShowsAll w s
+    → writes_by w input ≡ false → event_acts line input tried w ≡ acts ++ rest → WriteNothing s (Played line input ∷ lines_of_all w acts)
 events_write_nothing s w line (script.MoveAt a) t acts rest sound shows off cut =
     (refl, move_nothing (after_moment s (Played line (script.MoveAt a))) w line a t acts rest sound (same_shown w s _ shows) off cut)
 events_write_nothing s w line other t acts rest sound shows off cut = quiet_line s w line other t acts rest tt cut
 
 -- A SUBMISSION, and a drain that finds nothing to do
-pub submissions_write_nothing : SubmissionsWriteNothing
+pub submissions_write_nothing : (s : Replay) (w : World) (line p : ℕ) (r : Request) (h : Held) (acts rest : List Act) → submit_acts r line p h w ≡ acts ++ rest
+    → WriteNothing s (Played line (script.Submit r) ∷ lines_of_all w acts)
 submissions_write_nothing s w line p r h acts rest cut =
     (refl, quiet_write_nothing (after_moment s (Played line (script.Submit r))) (lines_of_all w acts) (submission_quiet r line p h w acts rest cut))
 
-pub empty_drains_write_nothing : EmptyDrainsWriteNothing
+pub empty_drains_write_nothing : (s : Replay) (w : World) (line : ℕ) → WriteNothing s (Played line script.Drain ∷ lines_of_all w (Nothing line ∷ []))
 empty_drains_write_nothing s w line = (refl, (refl, tt))

@@ -7,9 +7,8 @@ use Rattle.fire_code.specs.declared.Verdict.TheVariants as code
 use Rattle.fire_code.proofs.Verdicts.{verdict_judges}
 use Rattle.hardware_table.specs.declared.Moved.{Moved}
 use Rattle.hardware_table.specs.declared.Moved.TheVariants.{Clean, Burst, Hard, Marked}
-use Rattle.hardware_table.specs.Drive.{is_writing}
-use Rattle.hardware_table.specs.Moves.{stop_of, IsReadVerdict, IsVerdictBy}
-use Rattle.script_runs.specs.OneRun.{VerdictsExist}
+use Rattle.hardware_table.specs.Drive.{is_writing, DriveState}
+use Rattle.hardware_table.specs.Moves.{stop_of, IsReadVerdict, IsVerdictBy, IsVerdict}
 
 read_by : (places : List ℕ) (v : Verdict) → Judges v (remainder places) → (verdict : Moved) × IsReadVerdict (Some places) verdict
 read_by places code.Clean judges = (Clean, judges)
@@ -26,5 +25,5 @@ verdict_by None true write places = (Marked, refl)
 verdict_by None false true places = (Clean, refl)
 verdict_by None false false places = read_verdict places
 
-pub verdicts_exist : VerdictsExist
+pub verdicts_exist : (d : DriveState) (marked : Bool) (places : Option (List ℕ)) → (verdict : Moved) × IsVerdict d marked places verdict
 verdicts_exist d marked places = verdict_by (stop_of d) marked (is_writing d.work) places

@@ -1,26 +1,28 @@
 -- Moments that write nothing leave the packs, and how long images are.
 use Rattle.std.proofs.Common.{◌≡◌, ℕ, Bool, true, false, ◌==◌, ◌&&◌, List, [], ◌∷◌, ◌++◌, refl, sym, ap, ◌∙◌}
-use Rattle.std.specs.Prelude.{if◌then◌else◌, length}
+use Rattle.std.specs.Prelude.{if◌then◌else◌, length, Option}
 use Rattle.hardware_table.specs.Drive.{DriveState}
 use Rattle.hardware_table.specs.Moves.{was_read, was_written}
 use Rattle.trace_replay.specs.requests.Requests.{Request}
-use Rattle.trace_replay.specs.Moments.{Deed, Search, Seek, Recal, Offset, Centre, Clear, Pack, Transfer, Arrive, Sector, Intr, Try, Attn, End, Moment, Played, Told, Idle}
+use Rattle.trace_replay.specs.Moments.{Deed, Sector, Moment, Played, Told, Idle}
 use Rattle.trace_replay.specs.Service.{in_hand}
 use Rattle.trace_replay.specs.Packs.{Surface, surface_read, surface_written}
-use Rattle.trace_replay.specs.Replay.{Replay, surface_after, next_wish, after_moment, after_moments}
+use Rattle.trace_replay.specs.Replay.{Replay, surface_after, next_wish, after_moment, after_moments, AreLeft}
 use Rattle.trace_replay.proofs.Unchanged.{told_keeps}
-use Rattle.driver_laws.specs.shown.Lengths.{length_told, length_behind, reaching}
+use Rattle.driver_laws.specs.shown.Lengths.{length_told, length_behind, reaching, AreAsLong}
 use Rattle.driver_laws.proofs.shown.Lengths.{long_append}
-use Rattle.driver_laws.specs.rules.Beginnings.{IsNoSector}
+use Rattle.driver_laws.specs.rules.Beginnings.{IsNoSector, AreNoSectors}
 use Rattle.driver_laws.proofs.rules.Quiet.{Same, played_same, after_parts, same_left}
-use Rattle.script_runs.specs.Writing.{was_written_at, WriteNothing, QuietWriteNothing, NothingLeavesPacks, NothingLeavesLengths}
+use Rattle.script_runs.specs.Writing.{was_written_at, WriteNothing}
+use Rattle.pack_geometry.specs.declared.DriveKind.{DriveKind}
+use Rattle.pack_geometry.specs.Pack.{Pack as UnitPack}
 
 -- WITHOUT A SECTOR nothing is written.
 quiet_told : (s : Replay) (line unit id : ℕ) (deed : Deed) → IsNoSector (Told line unit id deed) → was_written_at s (Told line unit id deed) ≡ false
 quiet_told s line unit id (Sector b v) none = absurd none
 quiet_told s line unit id other none = refl
 
-pub quiet_write_nothing : QuietWriteNothing
+pub quiet_write_nothing : (s : Replay) (moments : List Moment) → AreNoSectors moments → WriteNothing s moments
 quiet_write_nothing s [] none = tt
 quiet_write_nothing s (Played line input ∷ ms) none = (refl, quiet_write_nothing (after_moment s (Played line input)) ms none.1)
 quiet_write_nothing s (Told line unit id deed ∷ ms) none = (quiet_told s line unit id deed none.0, quiet_write_nothing (after_moment s (Told line unit id deed)) ms none.1)
@@ -47,7 +49,9 @@ moments_same : (s : Replay) (ms : List Moment) → WriteNothing s ms → Same s 
 moments_same s [] none = refl
 moments_same s (m ∷ ms) none = moments_same (after_moment s m) ms none.1 ∙ moment_same s m none.0
 
-pub nothing_leaves_packs : NothingLeavesPacks
+pub nothing_leaves_packs : (drives : ℕ → Option DriveKind) (old left : ℕ → UnitPack) (start : Replay) (moments more : List Moment)
+    → WriteNothing (after_moments start moments) more → AreLeft drives old left (after_moments start moments).surface
+    → AreLeft drives old left (after_moments start (moments ++ more)).surface
 nothing_leaves_packs drives old left start moments more none is =
     same_left drives old left (after_moments start moments).surface (after_moments start (moments ++ more)).surface
     (ap (λ (s : Replay). s.surface.sector) (after_parts start moments more) ∙ moments_same (after_moments start moments) more none) is
@@ -73,7 +77,8 @@ nothing_long s (Told line u id d ∷ ms) unit long none =
     ap (λ (n : ℕ). length_behind (after_moment s (Told line u id d)) ms unit n) (told_long s line u id d unit long none.0)
     ∙ nothing_long (after_moment s (Told line u id d)) ms unit long none.1
 
-pub nothing_leaves_lengths : NothingLeavesLengths
+pub nothing_leaves_lengths : (start : Replay) (old left : ℕ → UnitPack) (moments more : List Moment) → WriteNothing (after_moments start moments) more
+    → AreAsLong start moments old left → AreAsLong start (moments ++ more) old left
 nothing_leaves_lengths start old left moments more none are unit =
     are unit
     ∙ sym (nothing_long (after_moments start moments) more unit (length_behind start moments unit (length (old unit).image)) none)

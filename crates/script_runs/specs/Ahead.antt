@@ -10,7 +10,6 @@ use Rattle.trace_replay.specs.Text.{trace_text}
 use Rattle.driver_laws.specs.answers.Outcome.{IsFront}
 use Rattle.driver_laws.specs.shown.Lengths.{AreAsLong}
 use Rattle.trace_lines.specs.answers.AnswerText.{out_text}
-use Rattle.driver_laws.specs.rules.Beginnings.{IsBegun, PromisesSoFar}
 use Rattle.script_runs.specs.Writing.{WriteNothing}
 
 -- a text lies between two others: the first is a front of it, and it is a front of the second
@@ -51,29 +50,3 @@ pub record TellsAhead (out_tells : Bool) (said said' : List ℕ) (trace_tells : 
   pub cut : late ≡ told ++ untold
   pub trace : IsTrue trace_tells → IsBetween (taken ++ trace_text (sent ++ told)) (taken ++ trace_text (sent ++ late)) taken'
   pub out : IsTrue out_tells → IsBetween (said ++ out_text sent) (said ++ out_text (sent ++ told)) said'
-
--- IT HOLDS where nothing was done,
-abbrev pub RulesStart : Type 0
-RulesStart = (script : Script) (tables : ℕ → Option Table) (first held : ℕ → Pack) (moments : List Moment) → AreBehind script tables first held moments
-    → WritesAhead script tables first held moments []
-
--- where all text is sent,
-abbrev pub AllSent : Type 0
-AllSent = (script : Script) (tables : ℕ → Option Table) (first held : ℕ → Pack) (sent late : List Moment) → WritesAhead script tables first held sent late
-    → WritesAhead script tables first held (sent ++ late) []
-
--- behind more moments that write nothing,
-abbrev pub NothingKeepsRule : Type 0
-NothingKeepsRule = (script : Script) (tables : ℕ → Option Table) (first held : ℕ → Pack) (sent late more : List Moment) → WritesAhead script tables first held sent late
-    → WriteNothing (after_moments (start_of script tables first) (sent ++ late)) more → WritesAhead script tables first held sent (late ++ more)
-
--- and behind a move that comes directly behind the sending.
-abbrev pub WritesKeepRule : Type 0
-WritesKeepRule = (script : Script) (tables : ℕ → Option Table) (first held : ℕ → Pack) (sent move : List Moment) → SaysOneSector move
-    → AreBehind script tables first held (sent ++ move) → WritesAhead script tables first held sent move
-
--- SO THE PACKS HOLD what the answered writes left, but for one request of each unit, behind each of the moments since that move.
-abbrev pub RulesHold : Type 0
-RulesHold = (script : Script) (tables : ℕ → Option Table) (first held : ℕ → Pack) (sent late : List Moment) → IsBegun script tables first (sent ++ late)
-    → (ahead : WritesAhead script tables first held sent late) → (front rest : List Moment) → ahead.quiet ≡ front ++ rest
-    → PromisesSoFar script tables first held (sent ++ (ahead.move ++ front))

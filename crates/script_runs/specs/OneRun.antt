@@ -1,10 +1,7 @@
 -- Exactly one legal run: of every script over any packs there is one, and no other.
-use Rattle.std.specs.Prelude.{◌≡◌, ℕ, ◌^◌, ◌<◌, Bool, List, Option}
+use Rattle.std.specs.Prelude.{◌≡◌, ℕ, ◌^◌, ◌<◌, List, Option}
 use Rattle.pack_geometry.specs.Pack.{Pack}
 use Rattle.pack_geometry.specs.TableSpelling.{Table}
-use Rattle.hardware_table.specs.declared.Moved.{Moved}
-use Rattle.hardware_table.specs.Drive.{DriveState}
-use Rattle.hardware_table.specs.Moves.{IsVerdict}
 use Rattle.script_lines.specs.Words.{all_verbs}
 use Rattle.script_reader.specs.Grammar.{Spells}
 use Rattle.script_lines.specs.Known.{Numbered}
@@ -39,7 +36,3 @@ OneRunExists = (script : Script) (old : ℕ → Pack) → IsScript script → sc
 abbrev pub BytesHaveOneRun : Type 0
 BytesHaveOneRun = (bytes : List ℕ) (lines : List Numbered) (count : ℕ) (old : ℕ → Pack)
     → Spells all_verbs bytes lines count → HasOneRun (meaning lines count) old
-
--- A SECTOR THAT IS TRIED has a verdict, whatever places noise flips in it.
-abbrev pub VerdictsExist : Type 0
-VerdictsExist = (d : DriveState) (marked : Bool) (places : Option (List ℕ)) → (verdict : Moved) × IsVerdict d marked places verdict

@@ -1,25 +1,23 @@
 -- The machine's run of a script, line by line: what stands behind some lines, and that each further line leaves the like.
-use Rattle.std.specs.Prelude.{◌≡◌, ℕ, ◌+◌, ◌≤◌, ◌<◌, ◌^◌, ◌==◌, if◌then◌else◌, List, [], ◌∷◌, ◌++◌, length, Option, None, Some, is_some, Contains}
+use Rattle.std.specs.Prelude.{◌≡◌, ℕ, ◌+◌, ◌≤◌, ◌==◌, if◌then◌else◌, List, [], ◌∷◌, length, Option, None, Some, is_some}
 use Rattle.pack_geometry.specs.declared.DriveKind.{DriveKind}
 use Rattle.pack_geometry.specs.Pack.{Pack}
 use Rattle.pack_geometry.specs.TableSpelling.{Table}
 use Rattle.pack_geometry.specs.PackTable.{AreTablesOf}
-use Rattle.trace_replay.specs.requests.Requests.{Request, IsRequest}
+use Rattle.trace_replay.specs.requests.Requests.{Request}
 use Rattle.trace_replay.specs.Moments.{Moment, played}
-use Rattle.trace_replay.specs.Script as says
-use Rattle.trace_replay.specs.Script.{Script, Input, Numbered, IsInput, drives_of, Plays, with_id}
+use Rattle.trace_replay.specs.Script.{Script, Numbered, drives_of}
 use Rattle.trace_replay.specs.Runs.{start_of}
 use Rattle.driver_machine.specs.World.{World, Held, Setup, new_world, unit_at}
 use Rattle.driver_machine.specs.Events.{next_event, refusal_of}
-use Rattle.driver_machine.specs.Guards.{IsSetUp, IsHeldFor, IsFresh}
-use Rattle.driver_machine.specs.Sound.{Sound}
+use Rattle.driver_machine.specs.Guards.{IsSetUp, IsHeldFor}
 use Rattle.driver_laws.specs.invariant.Setups.{AreSetups}
 use Rattle.driver_machine.specs.Runs.{MaySubmit}
 use Rattle.driver_laws.specs.shown.Acts.{AreSetUp}
 use Rattle.driver_laws.specs.shown.Runs.{IsSoFar}
 use Rattle.driver_laws.specs.shown.RunsRuns.{IsKept}
 use Rattle.driver_laws.specs.shown.Drains.{AreAsked}
-use Rattle.driver_laws.specs.answers.Counts.{IsWithin, in_use}
+use Rattle.driver_laws.specs.answers.Counts.{IsWithin}
 use Rattle.driver_laws.specs.answers.Ids.{AreOf}
 
 -- THE UNITS are set up as the script declares them.
@@ -80,33 +78,8 @@ pub record HasPlace (w : World) (r : Request) : Type 0 where
   pub may : MaySubmit w r slot held
   pub is : refusal_of r w ≡ None → IsHeldFor (unit_at w held.unit).drive.kind r held
 
--- THE STEPS
-abbrev pub SetupsExist : Type 0
-SetupsExist = (script : Script) (old : ℕ → Pack) → says.AreUnitsFirst script.lines → HasSetups script old
-
-abbrev pub PlacesExist : Type 0
-PlacesExist = (w : World) (r : Request) → Sound w → IsSetUp w r.unit → IsRequest r → IsFresh w r.id → in_use w.slots < length w.slots → HasPlace w r
-
 -- ONE LINE that is played: behind it at most one more is counted.
 pub record Went (script : Script) (tables : ℕ → Option Table) (old : ℕ → Pack) (total done : ℕ) (used : List ℕ) (line : ℕ) (inputs : List Numbered) : Type 0 where
   pub done_now : ℕ
   pub few : done_now ≤ done + 1
   pub behind : Behind script tables old total done_now used line inputs
-
-abbrev pub LinesGo : Type 0
-LinesGo = (script : Script) (tables : ℕ → Option Table) (old : ℕ → Pack) (total done : ℕ) (used : List ℕ) (line next : ℕ) (input : Input) (inputs : List Numbered)
-    → line < next → done < total → total < 2 ^ 32 → IsInput (drives_of script) input
-    → ((r : Request) → input ≡ says.Submit r → Contains used r.id → ⊥)
-    → Behind script tables old total done used line inputs
-    → Went script tables old total done (with_id (Plays input) used) next (inputs ++ record { line = next; input = input } ∷ [])
-
--- A drain goes on until no event can come.
-abbrev pub DrainsEnd : Type 0
-DrainsEnd = (script : Script) (tables : ℕ → Option Table) (old : ℕ → Pack) (total done : ℕ) (used : List ℕ) (line next : ℕ) (inputs : List Numbered) → line < next
-    → Behind script tables old total done used line inputs
-    → Drained script tables old total done used next (inputs ++ record { line = next; input = says.Drain } ∷ [])
-
--- THE START stands behind no line.
-abbrev pub RunsStart : Type 0
-RunsStart = (script : Script) (tables : ℕ → Option Table) (old : ℕ → Pack) (setups : List Setup) (total : ℕ) → AreSetFor script tables setups
-    → Behind script tables old total 0 [] 0 []

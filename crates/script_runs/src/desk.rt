@@ -10,7 +10,7 @@ ghost use Rattle.script_runs.specs.Saying.{rest_text, said_text};
 use outside_traits::traits::{NoMemory, Sink, SinkFailed};
 use outside_traits::{Gather, gather_law};
 use std::alloc::Global;
-use trace_lines::answers::{BlockLine, answer_line};
+use trace_lines::answers::{BlockLine, answer_line, write_block};
 use trace_replay::requests::AnswerKind;
 
 /// How many bytes of answers are gathered at most.
@@ -49,7 +49,7 @@ fn gather_block<O: Sink>(k: u32, desk: &mut Desk, out: &mut O) -> Result<(), Sin
     ensures gathers { Gathers O.tells O.taken O.faults out.old out.new desk.old.gather desk.new.gather result (block_text k (slice_index_or desk.old.blocks.items k [])) }
     ensures blocks { desk.new.blocks ≡ desk.old.blocks }
 {
-    desk.line.write(k, &desk.blocks[k as usize]);
+    write_block(&mut desk.line, k, &desk.blocks[k as usize]);
     desk.gather.put(desk.line.as_bytes(), out)
 }
 

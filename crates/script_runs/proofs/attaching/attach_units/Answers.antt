@@ -1,4 +1,4 @@
-use Rattle.std.proofs.Common.{◌≡◌, ◌<◌, ◌≤◌, length, subst, ◌∙◌, arith}
+use Rattle.std.proofs.Common.{◌<◌, ◌≤◌, length, subst, ◌∙◌, arith}
 use Rattle.hp_units.specs.Setups.{setups_of}
 use Rattle.script_runs.specs.declared.fault.PlayFault.TheVariants as faults
 use Rattle.script_runs.proofs.AttachLaws.{room_at, attached_at, told_at_line, long_at, attaches_at, at_fault, attached_all, told_all, not_given, not_ok, fault_from, later_from, rose_from}
