@@ -5,7 +5,7 @@ use Rattle.std.proofs.lemmas.List.{append-nil, append_assoc}
 use Rattle.std.proofs.Math.Seq.{take-suc}
 use Rattle.drive_pictures.specs.declared.requests.Request.{Request}
 use Rattle.picture_chart.specs.Charts.{text_of, IsChart}
-use Rattle.picture_chart.specs.Pages.{head_of, Grows, HasLane, Lanes, HasPanel, Panels, panel_columns, panels_of, IsRow, AreRows, HasRows, left_out, legend, legend_second, legend_third, IsChartOf}
+use Rattle.picture_chart.specs.Pages.{head_of, Grows, HasLane, Lanes, HasPanel, Panels, panel_columns, panels_of, IsRow, AreRows, HasRows, left_out, legend, IsChartOf}
 use Rattle.run_plan.specs.declared.sheet.Sheet.{Sheet}
 use Rattle.run_plan.specs.declared.summary.Sentence.{Sentence}
 use Rattle.run_plan.specs.Requests.{is_few, listed, shown_count}
@@ -23,6 +23,15 @@ grows_more old page new a b = record {
   lines = a.lines ++ b.lines;
   is = b.is ∙ ap (λ t. t ++ b.lines) a.is ∙ append_assoc old a.lines b.lines;
 }
+
+-- four lines more, each of which is another
+pub four_more : (old a b d new : List (List ℕ)) (k k' l l' m m' n n' : List ℕ) → k ≡ k' → l ≡ l' → m ≡ m' → n ≡ n'
+    → a ≡ old ++ k ∷ [] → b ≡ a ++ l ∷ [] → d ≡ b ++ m ∷ [] → new ≡ d ++ n ∷ [] → new ≡ old ++ k' ∷ l' ∷ m' ∷ n' ∷ []
+four_more old a b d new k k' l l' m m' n n' e f g h p q r s =
+    subst (λ t. new ≡ old ++ t ∷ l' ∷ m' ∷ n' ∷ []) e (subst (λ t. new ≡ old ++ k ∷ t ∷ m' ∷ n' ∷ []) f
+    (subst (λ t. new ≡ old ++ k ∷ l ∷ t ∷ n' ∷ []) g (subst (λ t. new ≡ old ++ k ∷ l ∷ m ∷ t ∷ []) h
+    (s ∙ ap (λ t. t ++ n ∷ []) r ∙ append_assoc b (m ∷ []) (n ∷ []) ∙ ap (λ t. t ++ m ∷ n ∷ []) q
+    ∙ append_assoc a (l ∷ []) (m ∷ n ∷ []) ∙ ap (λ t. t ++ l ∷ m ∷ n ∷ []) p ∙ append_assoc old (k ∷ []) (l ∷ m ∷ n ∷ [])))))
 
 pub lanes_more : (sheet : Sheet) (columns : List Column) (units : List ℕ) (i : ℕ) (old page new : List (List ℕ)) → Lanes sheet columns units i old page
     → HasLane sheet columns (get_or units i 0) page new → Lanes sheet columns units (i + 1) old new
@@ -62,12 +71,12 @@ both_ok (Ok a) P Q R f p q = f a p q
 both_ok (Err e) P Q R f p q = tt
 
 -- the chart, page by page
-pub chart_of : (sheet : Sheet) (sentences : List Sentence) (requests those : List Request) (head panelled named listing counted topped second lettered page lines : List (List ℕ)) (count left : ℕ) (text : List ℕ)
+pub chart_of : (sheet : Sheet) (sentences : List Sentence) (requests those : List Request) (head panelled named listing counted lettered page lines : List (List ℕ)) (count left : ℕ) (text : List ℕ)
     → SumUp sheet sentences → head ≡ head_of sheet sentences ++ [] ∷ [] → Panels sheet (panels_of sheet.run.now.columns) head panelled
     → Grows panelled named → requests ≡ those → those ≡ listed sheet (is_few (shown_count sheet)) → HasRows requests named listing
     → count ≡ shown_count sheet → left ≡ count - length those → counted ≡ listing ++ left_out left
-    → topped ≡ counted ++ legend → second ≡ topped ++ legend_second → lettered ≡ second ++ legend_third → Grows lettered page → lines ≡ page → text ≡ text_of lines → IsChart text → IsChartOf sheet text
-chart_of sheet sentences requests those head panelled named listing counted topped second lettered page lines count left text sums first panels names same listed_are rows all rest told letters next last marks lines_are is chart = record {
+    → lettered ≡ counted ++ legend → Grows lettered page → lines ≡ page → text ≡ text_of lines → IsChart text → IsChartOf sheet text
+chart_of sheet sentences requests those head panelled named listing counted lettered page lines count left text sums first panels names same listed_are rows all rest told letters marks lines_are is chart = record {
   sentences = sentences;
   sums_up = sums;
   panelled = panelled;
@@ -80,7 +89,7 @@ chart_of sheet sentences requests those head panelled named listing counted topp
   marks =
       let so_many : left ≡ shown_count sheet - length (listed sheet (is_few (shown_count sheet))) =
       rest ∙ ap (λ n. n - length those) all ∙ ap (λ (rs : List Request). shown_count sheet - length rs) listed_are in
-      subst (λ p. Grows p page) (last ∙ ap (λ p. p ++ legend_third) (next ∙ ap (λ p. p ++ legend_second) (letters ∙ ap (λ p. p ++ legend) (told ∙ ap (λ n. listing ++ left_out n) so_many)))) marks;
+      subst (λ p. Grows p page) (letters ∙ ap (λ p. p ++ legend) (told ∙ ap (λ n. listing ++ left_out n) so_many)) marks;
   lines = is ∙ ap text_of lines_are;
   chart = chart;
 }

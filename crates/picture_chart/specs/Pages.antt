@@ -119,13 +119,9 @@ abbrev pub third_letters : List Letter
 third_letters = letter.Retries ∷ letter.Replaces ∷ letter.Moved ∷ []
 
 unfoldable pub legend : List (List ℕ)
-legend = [] ∷ legend_line (codes "drive") first_letters ∷ []
-
-unfoldable pub legend_second : List (List ℕ)
-legend_second = legend_line (codes "     ") second_letters ∷ []
-
-unfoldable pub legend_third : List (List ℕ)
-legend_third = legend_line (codes "     ") third_letters ∷ []
+legend =
+    [] ∷ legend_line (codes "drive") first_letters ∷ legend_line (codes "     ") second_letters
+    ∷ legend_line (codes "     ") third_letters ∷ []
 
 -- how many requests that are shown are not listed, where there are some
 abbrev pub left_out : ℕ → List (List ℕ)
@@ -143,6 +139,6 @@ pub record IsChartOf (sheet : Sheet) (text : List ℕ) : Type 0 where
   pub listing : List (List ℕ)
   pub rows : HasRows (listed sheet (is_few (shown_count sheet))) named listing
   pub page : List (List ℕ)
-  pub marks : Grows (listing ++ left_out (shown_count sheet - length (listed sheet (is_few (shown_count sheet)))) ++ legend ++ legend_second ++ legend_third) page
+  pub marks : Grows (listing ++ left_out (shown_count sheet - length (listed sheet (is_few (shown_count sheet)))) ++ legend) page
   pub lines : text ≡ text_of page
   pub chart : IsChart text

@@ -3,7 +3,7 @@
 ghost use Rattle.std.specs.Prelude.{◌≡◌, ◌<◌, ◌++◌, ◌∷◌, [], length, take, slice_range, codes, IfOk, OnOk};
 ghost use Rattle.picture_chart.specs.Charts.{line_of};
 ghost use Rattle.run_plan.specs.Units.{units_shown};
-ghost use Rattle.picture_chart.specs.Pages.{with_phrase, with_third, with_sentence, head_of, panel_columns, panels_of, title_line, legend_line, legend, legend_second, legend_third, Grows, Panels, IsChartOf};
+ghost use Rattle.picture_chart.specs.Pages.{with_phrase, with_third, with_sentence, head_of, panel_columns, panels_of, title_line, legend_line, legend, Grows, Panels, IsChartOf};
 
 use crate::line::{Done, WIDEST, line_of};
 use crate::panel::{Drives, put_panel};
@@ -126,32 +126,17 @@ fn legend_line(label: &[u8], letters: &[Letter]) -> ChartLine
     line
 }
 
-/// Puts an empty line, and what the first letters say.
+/// Puts an empty line, and what the letters say.
 #[tactic(auto, unfolding(crate::specs::Pages::legend))]
 fn put_letters(page: &mut Vec<ChartLine>) -> Done
     ensures { OnOk result (page.new.items ≡ page.old.items ++ legend) }
 {
     let first = [Idle, Seeks, Turns, Recalibrates];
-    put_line(page, ChartLine::new())?;
-    put_line(page, legend_line(b"drive", &first))
-}
-
-/// Puts what the next letters say.
-#[tactic(auto, unfolding(crate::specs::Pages::legend_second))]
-fn put_second(page: &mut Vec<ChartLine>) -> Done
-    ensures { OnOk result (page.new.items ≡ page.old.items ++ legend_second) }
-{
     let second = [Offsets, Arrived, Ready, Moves];
-    put_line(page, legend_line(b"     ", &second))
-}
-
-/// Puts what the last letters say.
-#[tactic(auto, unfolding(crate::specs::Pages::legend_third))]
-fn put_third_line(page: &mut Vec<ChartLine>) -> Done
-    ensures { OnOk result (page.new.items ≡ page.old.items ++ legend_third) }
-{
-    let third = [Retries, Replaces, Moved];
-    put_line(page, legend_line(b"     ", &third))
+    put_line(page, ChartLine::new())?;
+    put_line(page, legend_line(b"drive", &first))?;
+    put_line(page, legend_line(b"     ", &second))?;
+    put_line(page, legend_line(b"     ", &[Retries, Replaces, Moved]))
 }
 
 /// What marks, digits and counts say.
@@ -186,8 +171,6 @@ pub fn chart(alloc: Global, sheet: &Sheet<'_>) -> Result<Vec<u8>, AllocError>
     put_requests(&mut page, shown.listed.as_slice())?;
     put_left_out(&mut page, shown.left_out())?;
     put_letters(&mut page)?;
-    put_second(&mut page)?;
-    put_third_line(&mut page)?;
     put_texts(&mut page, &MARKS)?;
     text_of(alloc, page.as_slice())
 }
