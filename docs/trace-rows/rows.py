@@ -239,7 +239,7 @@ def script_term(row):
         if f and not line.startswith('#'):
             statement = f'Declares {f[1]} {KINDS[f[2]][3]}' if f[0] == 'unit' else f'Plays ({input_term(line)})'
             lines.append(f'record {{ number = {number}; statement = {statement} }}')
-    return f"record {{ lines = {' ∷ '.join(lines + ['[]'])}; count = {len(row['script'])} }}"
+    return f"({' ∷ '.join(lines + ['[]'])}) {len(row['script'])}"
 
 
 def answer_term(words, write):
@@ -326,14 +326,11 @@ def packs_terms(row):
 def row_specs(row):
     name = row['name']
     tables, sectors, marks = packs_terms(row)
-    start = f'over {name}_script (λ unit. {tables}) (λ unit block. {sectors}) (λ unit block. {marks})' \
-        if row['packs'] else f'over_zeros {name}_script'
+    start = f'(over (λ unit. {tables}) (λ unit block. {sectors}) (λ unit block. {marks}))' if row['packs'] else 'over_zeros'
     for line in row['start']:
-        start = f'record ({start}) {{ frames = {line.split()[1]} }}'
+        start = f'(λ script. record ({start} script) {{ frames = {line.split()[1]} }})'
     groups = ''.join('    ' + line + '\n' for group in groups_of(row) for line in group_lines(*group))
-    return (f"-- {name}: {row['what']}\nabbrev pub {name}_script : Script\n{name}_script = {script_term(row)}\n\n"
-            f'abbrev pub {name}_start : Replay\n{name}_start = {start}\n\n'
-            f'abbrev pub {name} : List Moment\n{name} = run_of {name}_script (\n{groups}    []\n    )\n')
+    return f"-- {name}: {row['what']}\nabbrev pub {name} : Row\n{name} = row {script_term(row)} {start} (\n{groups}    [])\n"
 
 
 def groups_of(row):
@@ -352,17 +349,63 @@ def groups_of(row):
     return out
 
 
+def clean_run(deeds):
+    """with how many clean sectors of blocks in a row these deeds begin, and what stands for them"""
+    first = re.fullmatch(r'Sector (\d+) Clean', deeds[0])
+    count = 0
+    while first and deeds[count:count + 1] == [f'Sector {int(first[1]) + count} Clean']:
+        count += 1
+    return (count, f'clean {first[1]} {count} (') if count > 2 else (0, '')
+
+
+def failing_run(deeds):
+    """with how many deeds of failing reads of one block that are tried again these begin, and what stands for them"""
+    tried = re.fullmatch(r'Transfer false (\d+) 1;.*;Try \d+ (\d+)', ';'.join(deeds[:5]))
+    block, number, count = (int(tried[1]), int(tried[2]), 0) if tried else (0, 0, 0)
+    while tried and deeds[5 * count:5 * count + 5] == [
+            f'Transfer false {block} 1', f'Sector {block} Hard', 'Intr', 'Clear', f'Try {block} {number + count}']:
+        count += 1
+    return (5 * count, f'again {block} {number} {count} (') if count > 1 else (0, '')
+
+
+def offset_run(deeds):
+    """the same of failing reads at offsets"""
+    tried = re.fullmatch(r'Offset \w+;.*;Transfer false (\d+) 1;.*;Try \d+ (\d+)', ';'.join(deeds[:9]))
+    block, number, codes = (int(tried[1]), int(tried[2]), []) if tried else (0, 0, [])
+    while tried and deeds[9 * len(codes) + 1:9 * len(codes) + 9] == [
+            'Arrive', 'Attn', f'Transfer false {block} 1', f'Sector {block} Hard', 'Intr', 'Clear', 'Centre', f'Try {block} {number + len(codes)}']:
+        codes.append(deeds[9 * len(codes)].split()[1])
+    return (9 * len(codes), f"offset_again {block} {number} ({' ∷ '.join(codes)} ∷ []) (") if len(codes) > 1 else (0, '')
+
+
+def pieces_of(deeds):
+    """the deeds as pieces of a term, runs of the same sort as one piece, and how many of them are open at the end"""
+    pieces, opened = [], 0
+    while deeds:
+        found = (run(deeds) for run in (clean_run, failing_run, offset_run))
+        count, piece = next((run for run in found if run[0]), (1, f'{deeds[0]} ∷ '))
+        opened += piece.endswith('(')
+        pieces.append(piece)
+        deeds = deeds[count:]
+    return pieces, opened
+
+
 def group_lines(head, deeds):
     """a group as lines of at most some 140 columns"""
     if deeds is None:
         return [f'{head} ∷']
+    pieces, opened = pieces_of(deeds)
+    end = f"[]){')' * opened} ∷"
+    whole = f"{head} ({''.join(pieces)}{end}"
+    if len(whole) <= 136:
+        return [whole]
     lines, line = [], f'{head} ('
-    for deed in deeds:
-        if len(line) + len(deed) > 130 or ' Try ' in line:
+    for piece in pieces:
+        if len(line) + len(piece) > 130 or ' Try ' in line and 'again ' not in piece or 'again ' in line:
             lines.append(line.rstrip())
             line = ''
-        line += f'{deed} ∷ '
-    return lines + [f'{line}[]) ∷']
+        line += piece
+    return lines + [line + end]
 
 
 # ---- write: proofs
@@ -406,7 +449,7 @@ def row_proof(row):
         unfolding = 'unfolding code.remainder code.power code.times_x\n'
     parts = parts_proof(name, steps, unfolding) if is_long(row) else ''
     follows = f'{name}_follows_0' if parts else steps_term(steps)
-    return (f'{parts}pub {name}_accepted : IsAccepted {name}_script {name}_start {name}\n{unfolding}{name}_accepted = record {{\n'
+    return (f'{parts}pub {name}_accepted : IsAccepted {name}\n{unfolding}{name}_accepted = record {{\n'
             f'  inputs = refl;\n  legal = record {{ follows = {follows}; over = record {{ over = refl; answered = refl }} }};\n}}\n')
 
 
@@ -415,10 +458,10 @@ def parts_proof(name, steps, unfolding):
     count = (len(steps) + PART - 1) // PART
     out, joins = '', ''
     for k in range(count):
-        state, rest = (f'{name}_after_{k}', f'{name}_from_{k}') if k else (f'{name}_start', name)
+        state, rest = (f'{name}_after_{k}', f'{name}_from_{k}') if k else (f'(start_of {name})', f'(moments_of {name})')
         if k:
-            before = f'{name}_after_{k - 1}' if k > 1 else f'{name}_start'
-            whole = f'{name}_from_{k - 1}' if k > 1 else name
+            before = f'{name}_after_{k - 1}' if k > 1 else f'(start_of {name})'
+            whole = f'{name}_from_{k - 1}' if k > 1 else f'(moments_of {name})'
             out += f'abbrev {state} : Replay\n{state} = after_moments {before} (take {PART} {whole})\n\n'
             out += f'abbrev {rest} : List Moment\n{rest} = drop {PART} {whole}\n\n'
         out += f'{name}_part_{k} : Follows {state} (take {PART} {rest})\n{unfolding}{name}_part_{k} = {steps_term(steps[PART * k:PART * (k + 1)])}\n\n'
@@ -502,7 +545,7 @@ def alone_proof(head, start, n, term):
         'Adapters': {'Transfer': 'refl', 'Sector': '(refl, refl)', 'Intr': 'refl', 'Attn': 'refl'}.get(deed, 'tt'),
         'Work': 'refl' if deed in ('Arrive', 'Sector', 'Intr') else 'tt',
     }
-    out = f'pub {name}_alone : (other : RuleName) → other ≢ {rule} → Keeps other (after_moments {start} (take {n} {row})) ({term})\n'
+    out = f'pub {name}_alone : (other : RuleName) → other ≢ {rule} → Keeps other (after_moments {start} (take {n} (moments_of {row}))) ({term})\n'
     proofs = {other: 'absurd (apart refl)' if other == rule else words.get(other, 'refl') for other in RULES}
     most = max(proofs.values(), key=list(proofs.values()).count)
     return out + ''.join(f'{name}_alone {other} apart = {proof}\n' for other, proof in proofs.items() if proof != most) + f'{name}_alone it apart = {most}\n'
@@ -510,7 +553,7 @@ def alone_proof(head, start, n, term):
 
 # ---- write: the crate
 PRELUDE = 'Rattle.std.specs.Prelude'
-ROW_USES = """use Rattle.std.specs.Prelude.{◌==◌, ◌&&◌, ◌++◌, true, false, if◌then◌else◌, List, [], ◌∷◌, Some, None, replicate}
+ROW_USES = """use Rattle.std.specs.Prelude.{◌==◌, ◌&&◌, ◌++◌, true, false, if◌then◌else◌, [], ◌∷◌, Some, None, replicate}
 use Rattle.pack_geometry.specs.declared.DriveKind.TheVariants.{Rp06, Rm03, Rm05}
 use Rattle.partitions.specs.declared.Part.TheVariants as part
 use Rattle.drive_registers.specs.declared.OffsetCode.TheVariants.{Plus400, Minus400, Plus800, Minus800, Plus1200, Minus1200}
@@ -519,10 +562,9 @@ use Rattle.hardware_table.specs.declared.NoiseSpan.TheVariants.{Times, Until}
 use Rattle.hardware_table.specs.declared.Moved.TheVariants as verdict
 use Rattle.hardware_table.specs.declared.Moved.TheVariants.{Clean, Burst, Hard, Marked, Faulted}
 use Rattle.trace_replay.specs.requests.Requests.{Offline, Locked, Unforwarded, Fault, ReadOk, WriteOk, OutsidePartition, EndOfPartition, NoFrames, Failed}
-use Rattle.trace_replay.specs.Script.{Submit, ArriveAt, MoveAt, AttendTo, Drain, Turn, Noise, Arm, SetOnline, SetLocked, Script, Declares, Plays}
-use Rattle.trace_replay.specs.Moments.{Search, Seek, Recal, Offset, Centre, Clear, Pack, Transfer, Arrive, Sector, Intr, Try, Attn, End, Moment, Played, Told, Idle}
-use Rattle.trace_replay.specs.Replay.{Replay}
-use Rattle.trace_rows.specs.Accepted.{over, over_zeros, run_of, Says, Waits}
+use Rattle.trace_replay.specs.Script.{Submit, ArriveAt, MoveAt, AttendTo, Drain, Turn, Noise, Arm, SetOnline, SetLocked, Declares, Plays}
+use Rattle.trace_replay.specs.Moments.{Search, Seek, Recal, Offset, Centre, Clear, Pack, Transfer, Arrive, Sector, Intr, Try, Attn, End}
+use Rattle.trace_rows.specs.Accepted.{over, over_zeros, Row, row, Says, Waits, clean, again, offset_again}
 use Rattle.trace_rows.specs.Sequences.{sequence}
 """
 
@@ -554,7 +596,7 @@ def chunks(rows):
     out, size = [[]], 0
     for row in rows:
         n = len(moments_of(row))
-        if size and size + n > 200:
+        if size and size + n > 400:
             out.append([])
             size = 0
         out[-1].append(row)
@@ -575,6 +617,16 @@ def bursts_of(rows):
     return {key: seen[key] for key in sorted(shown)}
 
 
+def list_lines(names):
+    """the list of these rows, as lines of a clause"""
+    lines = ['']
+    for name in names:
+        if len(lines[-1]) + len(name) > 120:
+            lines.append('')
+        lines[-1] += f'{name} ∷ '
+    return '\n        '.join(line.rstrip() for line in lines[:-1] + [lines[-1] + '[]'])
+
+
 def made(names):
     """the files of the crate, and what they have"""
     rows = {n: read_row(n) for n in names}
@@ -593,7 +645,8 @@ def made(names):
             head += 'use Rattle.fire_code.specs.Remainder as code\n'
         if 'repair.' in proof:
             head += 'use Rattle.fire_code.specs.Repair as repair\n'
-        head += f"use Rattle.trace_rows.specs.Accepted.{{IsAccepted}}\nuse Rattle.trace_rows.specs.Rows{k}.{{{', '.join(f'{r}_script, {r}_start, {r}'.replace('{r}', r) for r in (x['name'] for x in group))}}}\n"
+        head += f"use Rattle.trace_rows.specs.Accepted.{{{'start_of, moments_of, ' if '_part_' in proof else ''}IsAccepted}}\n"
+        head += f"use Rattle.trace_rows.specs.Rows{k}.{{{', '.join(r['name'] for r in group)}}}\n"
         if bursts:
             head += f'use Rattle.trace_rows.proofs.Bursts.{{{bursts}}}\n'
         if 'shown_0_7_14' in proof:
@@ -609,13 +662,13 @@ def made(names):
     for head, before, line in refused:
         name, rule, row = head[:3]
         n = place_of(rows, row, before)
-        start = f'{row}_start' if len(head) < 5 else head[4]
+        start = f'(start_of {row})' if len(head) < 5 else head[4]
         term = refused_term(line)
         word = 'Breaks'
         if 'alone' in head:
             alone.append((head, start, n, term))
             word = 'BreaksAlone'
-        clauses.append(f'    ensures {name} {{ {word} {rule} {start} {row} {n} ({term}) }}')
+        clauses.append(f'    ensures {name} {{ {word} {rule} {start} (moments_of {row}) {n} ({term}) }}')
     unfinished = [('empty_script', 1), ('first_read', 8), ('retries_run_out', 40), ('attentions_together', 20)]
     body = '\n'.join(alone_proof(*a) for a in alone)
     where = {r['name']: k for k, g in enumerate(groups, 1) for r in g}
@@ -623,23 +676,23 @@ def made(names):
     lib = LIB_HEAD.format(rows=len(rows), refused=len(refused))
     texts = ['first_read', 'empty_script', 'short_burst_repaired', 'until_offset', 'written_as_far_as_done', 'offline', 'partition_ends', 'each_fault']
     laws = '/// The traces of the rows are legal: each trace plays its script, and its moments may come one after another.\npub fn rows_law()\n'
-    laws += ''.join(f'    ensures {n} {{ IsAccepted {n}_script {n}_start {n} }}\n' for n in rows) + '{}\n\n'
+    laws += f'    ensures {{ EachIs IsAccepted ({list_lines(rows)}) }}\n{{}}\n\n'
     laws += ('/// What is refused: after a number of moments of a row, a moment that breaks the rule that is named. For each rule there is a moment\n'
              '/// that breaks no other rule. Traces that stop too early are refused too.\npub fn refusals_law()\n')
-    laws += '\n'.join(clauses) + '\n' + ''.join(f'    ensures {n}_unfinished {{ IsUnfinished {n}_start {n} {k} }}\n' for n, k in unfinished) + '{}\n\n'
+    laws += '\n'.join(clauses) + '\n' + ''.join(f'    ensures {n}_unfinished {{ IsUnfinished (start_of {n}) (moments_of {n}) {k} }}\n' for n, k in unfinished) + '{}\n\n'
     laws += '/// The texts of the traces of some rows, byte for byte.\npub fn text_law()\n'
     for n in texts:
-        laws += f'    ensures {n} {{ trace_text {n} ≡ ended (' + ' ∷ '.join(f'codes "{l}"' for l in rows[n]['trace']) + ' ∷ []) }\n'
+        laws += f'    ensures {n} {{ trace_text (moments_of {n}) ≡ ended (' + ' ∷ '.join(f'codes "{l}"' for l in rows[n]['trace']) + ' ∷ []) }\n'
     laws += '{}\n'
-    uses = used(laws, LIB_USES + row_names(lambda n: [f'{n}_script', f'{n}_start', n]))
+    uses = used(laws, LIB_USES + row_names(lambda n: [n]))
     put('src/lib.rt', lib + ''.join('ghost ' + l + ';\n' for l in uses.strip().split('\n')) + '\n' + laws)
     answers = 'use Rattle.trace_rows.proofs.rows_law.Goals as goal\n' + ''.join(
         f"use Rattle.trace_rows.proofs.Rows{k}.{{{', '.join(r['name'] + '_accepted' for r in g)}}}\n" for k, g in enumerate(groups, 1))
-    for n in rows:
-        answers += f'\npub returns-clause-{n} : goal.returns-clause-{n}\nreturns-clause-{n} c = {n}_accepted\n'
+    answers += '\npub returns : goal.returns\nreturns c = '
+    answers += ''.join(f'({n}_accepted, ' for n in rows) + 'tt' + ')' * len(rows) + '\n'
     put('proofs/rows_law/Answers.antt', answers)
     put('proofs/Refused1.antt', '-- What a row that breaks one rule alone keeps: all others; docs/trace-rows/rows.py writes this.\n'
-        + used(body, LIB_USES + 'use Rattle.std.proofs.Common.{refl}\n' + 'use Rattle.std.specs.Prelude.{◌≢◌, take}\n' + row_names(lambda n: [f'{n}_start', n])) + '\n' + body)
+        + used(body, LIB_USES + 'use Rattle.std.proofs.Common.{refl}\n' + 'use Rattle.std.specs.Prelude.{◌≢◌, take}\n' + row_names(lambda n: [n])) + '\n' + body)
     answers = REFUSED_HEAD + f"use Rattle.trace_rows.proofs.Refused1.{{{', '.join(h[0] + '_alone' for h, _, _, _ in alone)}}}\n" + REFUSED_BURST
     told = set(re.findall(r'returns-clause-(\w+) c', REFUSED_BURST))
     for head, _, _ in refused:
@@ -708,7 +761,7 @@ use Rattle.trace_replay.specs.Moments.{Search, Seek, Recal, Offset, Centre, Clea
 use Rattle.trace_replay.specs.Replay.{after_moments}
 use Rattle.trace_replay.specs.Rules.{Breaks, BreaksAlone, IsUnfinished, RuleName, Keeps, Number, Events, Service, Conversation, Drives, Adapters, Packs, Work}
 use Rattle.trace_replay.specs.Text.{trace_text, ended}
-use Rattle.trace_rows.specs.Accepted.{IsAccepted}
+use Rattle.trace_rows.specs.Accepted.{start_of, moments_of, IsAccepted, EachIs}
 use Rattle.trace_rows.specs.Strange.{busy_start, stranded_start, skewed_start}
 """
 REFUSED_HEAD = """use Rattle.std.proofs.Common.{ap, arith}

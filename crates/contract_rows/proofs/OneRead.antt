@@ -9,7 +9,7 @@ use Rattle.script_lines.specs.Known.{Numbered}
 use Rattle.script_lines.specs.Words.{all_verbs}
 use Rattle.script_reader.proofs.ReadingLaws.{one_script}
 use Rattle.script_reader.specs.Meaning.{meaning}
-use Rattle.trace_rows.specs.Rows1.{first_read_script}
+use Rattle.trace_rows.specs.Rows1.{first_read}
 use Rattle.contract_rows.specs.OneRead.{one_read_text, MeansOneRead}
 
 -- its lines
@@ -31,5 +31,5 @@ pub means_one_read : MeansOneRead
 means_one_read = (
   (one_read, 2, spells_one_read),
   λ lines count s. let same = one_script all_verbs one_read_text one_read lines 2 count spells_one_read s in
-      subst (λ (k : ℕ). meaning lines k ≡ first_read_script) same.1 (subst (λ (ls : List Numbered). meaning ls 2 ≡ first_read_script) same.0 refl),
+      subst (λ (k : ℕ). meaning lines k ≡ first_read.script) same.1 (subst (λ (ls : List Numbered). meaning ls 2 ≡ first_read.script) same.0 refl),
 )

@@ -19,50 +19,34 @@ use Rattle.driver_laws.specs.rules.Stands.{is_sure_among}
 use Rattle.driver_machine.specs.World.{UnitView, Held, block_in}
 use Rattle.driver_laws.specs.shown.Bytes.{asked_of, IsSureFor, HandBears, UnitBears, IsStep}
 
--- a block that a write has done is not at its home
-abbrev pub WriteNotAtItsHome : Type 0
-WriteNotAtItsHome = (armed : List LiveNoise) (u : ℕ) (kind : DriveKind) (table : Option Table) (pack : Pack) (blocks : Blocks) (h : Held) (t : TransferState) (done k sector : ℕ) (last : Moved)
-    → HandBears (is_sure_among armed u) kind table pack blocks h t done last → h.write ≡ true → k < done → home_of kind table pack (h.first + k) ≡ Some sector
-    → block_at pack.image sector ≢ filled 512 (block_in h k) → ⊥
-
--- a block is written that no request has done
-abbrev pub NeighbourWritten : Type 0
-NeighbourWritten = (armed : List LiveNoise) (u : ℕ) (kind : DriveKind) (table : Option Table) (pack : Pack) (blocks : Blocks) (h : Held) (t : TransferState) (done block : ℕ) (last : Moved)
-    → HandBears (is_sure_among armed u) kind table pack blocks h t done last → (block < h.first) ⊎ (h.first + done ≤ block)
-    → content_of kind table pack block ≢ blocks block → ⊥
-
--- a read has another block in its buffer
-abbrev pub OtherBlockRead : Type 0
-OtherBlockRead = (armed : List LiveNoise) (u : ℕ) (kind : DriveKind) (table : Option Table) (pack : Pack) (blocks : Blocks) (h : Held) (t : TransferState) (done k : ℕ) (last : Moved)
-    → HandBears (is_sure_among armed u) kind table pack blocks h t done last → h.write ≡ false → IsSureFor (is_sure_among armed u) kind table pack h → k < done
-    → block_in h k ≢ asked_of h k (blocks (h.first + k)) → ⊥
-
--- a burst that was found is not the one in the buffer
-abbrev pub BurstElsewhere : Type 0
-BurstElsewhere = (armed : List LiveNoise) (u : ℕ) (kind : DriveKind) (table : Option Table) (pack : Pack) (blocks : Blocks) (h : Held) (t : TransferState) (done at pattern : ℕ)
-    → HandBears (is_sure_among armed u) kind table pack blocks h t done (Burst at pattern) → IsSureFor (is_sure_among armed u) kind table pack h
-    → repaired at pattern (block_in h done) ≢ asked_of h done (blocks (h.first + done)) → ⊥
-
--- a block is done that cannot be used
-abbrev pub UnusableBlockDone : Type 0
-UnusableBlockDone = (armed : List LiveNoise) (u : ℕ) (kind : DriveKind) (table : Option Table) (pack : Pack) (blocks : Blocks) (h : Held) (t : TransferState) (done k : ℕ) (last : Moved)
-    → HandBears (is_sure_among armed u) kind table pack blocks h t done last → k < done → blocks (h.first + k) ≡ None → ⊥
-
--- a block is forwarded that is not marked, or to the replacement of another one
-abbrev pub UnmarkedBlockForwarded : Type 0
-UnmarkedBlockForwarded = (armed : List LiveNoise) (u : ℕ) (kind : DriveKind) (table : Option Table) (pack : Pack) (blocks : Blocks) (h : Held) (t : TransferState) (done i : ℕ) (last : Moved)
-    → HandBears (is_sure_among armed u) kind table pack blocks h t done last → t.index ≡ Some i → is_marked pack (h.first + t.done) ≡ false → ⊥
-
-abbrev pub OtherEntryForwarded : Type 0
-OtherEntryForwarded = (armed : List LiveNoise) (u : ℕ) (kind : DriveKind) (table : Option Table) (pack : Pack) (blocks : Blocks) (h : Held) (t : TransferState) (done i : ℕ) (last : Moved)
-    → HandBears (is_sure_among armed u) kind table pack blocks h t done last → t.index ≡ Some i → index_in table (place_at kind (h.first + t.done)) ≢ Some i → ⊥
-
--- a unit has the table of another pack
-abbrev pub TableOfAnotherPack : Type 0
-TableOfAnotherPack = (armed : List LiveNoise) (u : ℕ) (pack : Pack) (blocks : Blocks) (v : UnitView) (a : AdapterState) (h : Held) (table : Option Table)
-    → UnitBears (is_sure_among armed u) pack blocks v a h → IsTableOf v.drive.kind pack table → v.table ≢ table → ⊥
-
--- a read is answered with other bytes
-abbrev pub AnsweredWithOtherBytes : Type 0
-AnsweredWithOtherBytes = (armed : List LiveNoise) (u sector : ℕ) (blocks : Blocks) (h : Held) (count last k : ℕ) → IsStep (is_sure_among armed u sector) blocks h (ReadOk count last) → is_sure_among armed u sector → k < count
-    → block_in h k ≢ asked_of h k (blocks (h.first + k)) → ⊥
+pub record BytesRefused : Type 0 where
+  -- a block that a write has done is not at its home
+  pub write_not_at_its_home : (armed : List LiveNoise) (u : ℕ) (kind : DriveKind) (table : Option Table) (pack : Pack) (blocks : Blocks) (h : Held) (t : TransferState) (done k sector : ℕ) (last : Moved)
+      → HandBears (is_sure_among armed u) kind table pack blocks h t done last → h.write ≡ true → k < done → home_of kind table pack (h.first + k) ≡ Some sector
+      → block_at pack.image sector ≢ filled 512 (block_in h k) → ⊥
+  -- a block is written that no request has done
+  pub neighbour_written : (armed : List LiveNoise) (u : ℕ) (kind : DriveKind) (table : Option Table) (pack : Pack) (blocks : Blocks) (h : Held) (t : TransferState) (done block : ℕ) (last : Moved)
+      → HandBears (is_sure_among armed u) kind table pack blocks h t done last → (block < h.first) ⊎ (h.first + done ≤ block)
+      → content_of kind table pack block ≢ blocks block → ⊥
+  -- a read has another block in its buffer
+  pub other_block_read : (armed : List LiveNoise) (u : ℕ) (kind : DriveKind) (table : Option Table) (pack : Pack) (blocks : Blocks) (h : Held) (t : TransferState) (done k : ℕ) (last : Moved)
+      → HandBears (is_sure_among armed u) kind table pack blocks h t done last → h.write ≡ false → IsSureFor (is_sure_among armed u) kind table pack h → k < done
+      → block_in h k ≢ asked_of h k (blocks (h.first + k)) → ⊥
+  -- a burst that was found is not the one in the buffer
+  pub burst_elsewhere : (armed : List LiveNoise) (u : ℕ) (kind : DriveKind) (table : Option Table) (pack : Pack) (blocks : Blocks) (h : Held) (t : TransferState) (done at pattern : ℕ)
+      → HandBears (is_sure_among armed u) kind table pack blocks h t done (Burst at pattern) → IsSureFor (is_sure_among armed u) kind table pack h
+      → repaired at pattern (block_in h done) ≢ asked_of h done (blocks (h.first + done)) → ⊥
+  -- a block is done that cannot be used
+  pub unusable_block_done : (armed : List LiveNoise) (u : ℕ) (kind : DriveKind) (table : Option Table) (pack : Pack) (blocks : Blocks) (h : Held) (t : TransferState) (done k : ℕ) (last : Moved)
+      → HandBears (is_sure_among armed u) kind table pack blocks h t done last → k < done → blocks (h.first + k) ≡ None → ⊥
+  -- a block is forwarded that is not marked, or to the replacement of another one
+  pub unmarked_block_forwarded : (armed : List LiveNoise) (u : ℕ) (kind : DriveKind) (table : Option Table) (pack : Pack) (blocks : Blocks) (h : Held) (t : TransferState) (done i : ℕ) (last : Moved)
+      → HandBears (is_sure_among armed u) kind table pack blocks h t done last → t.index ≡ Some i → is_marked pack (h.first + t.done) ≡ false → ⊥
+  pub other_entry_forwarded : (armed : List LiveNoise) (u : ℕ) (kind : DriveKind) (table : Option Table) (pack : Pack) (blocks : Blocks) (h : Held) (t : TransferState) (done i : ℕ) (last : Moved)
+      → HandBears (is_sure_among armed u) kind table pack blocks h t done last → t.index ≡ Some i → index_in table (place_at kind (h.first + t.done)) ≢ Some i → ⊥
+  -- a unit has the table of another pack
+  pub table_of_another_pack : (armed : List LiveNoise) (u : ℕ) (pack : Pack) (blocks : Blocks) (v : UnitView) (a : AdapterState) (h : Held) (table : Option Table)
+      → UnitBears (is_sure_among armed u) pack blocks v a h → IsTableOf v.drive.kind pack table → v.table ≢ table → ⊥
+  -- a read is answered with other bytes
+  pub answered_with_other_bytes : (armed : List LiveNoise) (u sector : ℕ) (blocks : Blocks) (h : Held) (count last k : ℕ) → IsStep (is_sure_among armed u sector) blocks h (ReadOk count last) → is_sure_among armed u sector → k < count
+      → block_in h k ≢ asked_of h k (blocks (h.first + k)) → ⊥

@@ -5,27 +5,17 @@ use Rattle.live_noise.specs.Book.{number_of, with_entry}
 use Rattle.driver_laws.specs.declared.rules.cached.Entry.{Entry as Cached}
 use Rattle.driver_laws.specs.rules.Entries.{State, changed_in_front, unchanged, written_back}
 
--- noise of a sector that was armed later strikes first
-abbrev pub NewNoiseInFrontOfItsSector : Type 0
-NewNoiseInFrontOfItsSector = (first later : Entry) → first ≢ later → number_of first ≡ number_of later → with_entry later (first ∷ []) ≡ later ∷ first ∷ [] → ⊥
-
--- a block of the cache was changed, and the entry has the bytes that it had, though they are others,
-abbrev pub ChangedBytesHeldBack : Type 0
-ChangedBytesHeldBack = (e : Cached) (bytes : List ℕ) (s : State) → s.entries ≡ e ∷ [] → bytes ≢ e.bytes
-    → (changed_in_front e.unit e.block bytes s).entries ≡ record e { changed = true } ∷ [] → ⊥
-
--- or it does not count as changed
-abbrev pub ChangeNotNoted : Type 0
-ChangeNotNoted = (e : Cached) (bytes : List ℕ) (s : State) → s.entries ≡ e ∷ [] → (changed_in_front e.unit e.block bytes s).entries ≡ record e { bytes = bytes; changed = false } ∷ [] → ⊥
-
--- a sync does not write an entry back that was changed,
-abbrev pub ChangedEntryNotWrittenBack : Type 0
-ChangedEntryNotWrittenBack = (e : Cached) → e.changed ≡ true → written_back (e ∷ []) ≡ [] → ⊥
-
--- or one that was not,
-abbrev pub UnchangedEntryWrittenBack : Type 0
-UnchangedEntryWrittenBack = (e : Cached) → e.changed ≡ false → written_back (e ∷ []) ≢ [] → ⊥
-
--- or an entry counts as changed behind it
-abbrev pub EntryLeftChanged : Type 0
-EntryLeftChanged = (e : Cached) → (unchanged e).changed ≡ true → ⊥
+pub record EntriesRefused : Type 0 where
+  -- noise of a sector that was armed later strikes first
+  pub new_noise_in_front_of_its_sector : (first later : Entry) → first ≢ later → number_of first ≡ number_of later → with_entry later (first ∷ []) ≡ later ∷ first ∷ [] → ⊥
+  -- a block of the cache was changed, and the entry has the bytes that it had, though they are others,
+  pub changed_bytes_held_back : (e : Cached) (bytes : List ℕ) (s : State) → s.entries ≡ e ∷ [] → bytes ≢ e.bytes
+      → (changed_in_front e.unit e.block bytes s).entries ≡ record e { changed = true } ∷ [] → ⊥
+  -- or it does not count as changed
+  pub change_not_noted : (e : Cached) (bytes : List ℕ) (s : State) → s.entries ≡ e ∷ [] → (changed_in_front e.unit e.block bytes s).entries ≡ record e { bytes = bytes; changed = false } ∷ [] → ⊥
+  -- a sync does not write an entry back that was changed,
+  pub changed_entry_not_written_back : (e : Cached) → e.changed ≡ true → written_back (e ∷ []) ≡ [] → ⊥
+  -- or one that was not,
+  pub unchanged_entry_written_back : (e : Cached) → e.changed ≡ false → written_back (e ∷ []) ≢ [] → ⊥
+  -- or an entry counts as changed behind it
+  pub entry_left_changed : (e : Cached) → (unchanged e).changed ≡ true → ⊥

@@ -10,15 +10,16 @@ use Rattle.hardware_table.specs.Noise.{strikes}
 use Rattle.hardware_table.specs.Adapter.{next_block, next_window}
 use Rattle.main_memory.specs.Blocks.{size_at}
 use Rattle.trace_replay.specs.requests.Requests.{Request, first_block}
-use Rattle.trace_replay.specs.Script.{Input, Submit, MoveAt, Drain, Script, Numbered, inputs_of}
+use Rattle.trace_replay.specs.Script.{Input, Submit, MoveAt, Drain, Numbered, inputs_of}
 use Rattle.trace_replay.specs.Moments.{Moment, Played}
 use Rattle.trace_replay.specs.Packs.{Surface, with_sector, read_as, bytes_of_write}
 use Rattle.trace_replay.specs.Service.{frames_needed}
-use Rattle.trace_replay.specs.Replay.{Replay, UnitSeen}
+use Rattle.trace_replay.specs.Replay.{UnitSeen}
 use Rattle.driver_machine.specs.World.{World, Held, Setup, unit_at, adapter_at, held_in, slot_in_hand, unit_of, block_in, pieces, new_world}
 use Rattle.driver_machine.specs.Acts.{Act, after, Nothing, Taken, Tried, after_all}
 use Rattle.driver_machine.specs.Lines.{lines_of_all}
 use Rattle.driver_machine.specs.Events.{submit_acts, event_acts, next_event}
+use Rattle.trace_rows.specs.Accepted.{Row, start_of, moments_of}
 use Rattle.contract_rows.specs.Checks.{sound_by, at_work}
 
 -- the world, what the packs hold, the moments so far, and whether the invariant was met behind each act
@@ -175,19 +176,19 @@ abbrev pub setups_of : List ℕ → (ℕ → UnitSeen) → List Setup
 setups_of [] units = []
 setups_of (u ∷ us) units = record { unit = u; kind = (units u).drive.kind; table = (units u).table } ∷ setups_of us units
 
-abbrev pub outcome : Script → Replay → State
-outcome script start = plays (inputs_of script) (record {
-  world = record (new_world (setups_of start.there start.units) (length script.lines) (length script.lines)) { frames = start.frames };
-  surface = start.surface;
+abbrev pub outcome : Row → State
+outcome row = plays (inputs_of row.script) (record {
+  world = record (new_world (setups_of (start_of row).there (start_of row).units) (length row.script.lines) (length row.script.lines)) { frames = (start_of row).frames };
+  surface = (start_of row).surface;
   moments = [];
   sound = true;
 })
 
 -- the moments alone, from a start at which frames are used by none of its requests
-abbrev pub Tells : Script → Replay → List Moment → Type 0
-Tells script start moments = (outcome script start).moments ≡ moments
+abbrev pub Tells : Row → Type 0
+Tells row = (outcome row).moments ≡ moments_of row
 
--- A ROW: what the machine gives of a script from this start is just these moments, and the invariant is met behind each act.
-pub record Gives (script : Script) (start : Replay) (moments : List Moment) : Type 0 where
-  pub told : Tells script start moments
-  pub sound : (outcome script start).sound ≡ true
+-- WHAT THE MACHINE GIVES of a row's script from its start is just its moments, and the invariant is met behind each act.
+pub record Gives (row : Row) : Type 0 where
+  pub told : Tells row
+  pub sound : (outcome row).sound ≡ true

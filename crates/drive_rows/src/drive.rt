@@ -2,20 +2,19 @@
 ghost use Rattle.std.specs.Prelude.{◌≡◌, true};
 ghost use Rattle.hardware_table.specs.Drive.{is_transferring};
 
-use crate::few_blocks::{FewBlocks, Wrong, few_blocks};
+use crate::few_blocks::{Wrong, few_blocks};
 use DriveKind::{Rm03, Rm05, Rp06};
 use FaultKind::{Dte, Hcrc, Late, Opi, Seek};
 use Function::{Centre, Nop, Read, Search, Write, WriteHeader};
 use Moved::Faulted;
 use Trial::{Fault, MarkedWrite, Noisy};
-use bad144_table::{empty_table, serial, write_table};
+use bad144_table::{empty_table, serial};
 use drive_model::{Drive, FaultKind, Moved, NoiseBook, NoiseSpan, Register};
 use drive_registers::Function;
 use fire_code::Noise;
 use main_memory::{MainMemory, Window, to_bus};
 use mba_autoconf::{AttachFault, ProbeFault, attach, probe};
-use outside_traits::traits::{NoMemory, Packs};
-use pack_geometry::{DriveKind, copy_block};
+use pack_geometry::DriveKind;
 use std::alloc::Global;
 
 // What a sector meets that is tried.
@@ -35,17 +34,15 @@ fn transferring(kind: DriveKind, trial: Trial) -> Drive
     ensures work { is_transferring result.work ≡ true }
 {
     let mut drive = Drive::new(kind, 3);
-    match trial {
-        Fault(fault) => drive.arm_fault(fault, 1),
-        _ => {}
+    if let Fault(fault) = trial {
+        drive.arm_fault(fault, 1);
     }
     match trial {
         Trial::Write | MarkedWrite => drive.go(Function::Write),
         _ => drive.go(Function::Read),
     }
-    match trial {
-        Trial::Offline => drive.set_online(false),
-        _ => {}
+    if matches!(trial, Trial::Offline) {
+        drive.set_online(false);
     }
     drive
 }
@@ -74,27 +71,11 @@ static ROWS: [Row; 12] = [
     (Noisy(&[0, 7, 14]), Moved::Hard, (0o100100, 0), 2),
 ];
 
-// The packs of a trial, on which the call of this number fails.
-fn packs_for(alloc: Global, trial: Trial, number: u64) -> Result<FewBlocks, NoMemory> {
-    let marks: &'static [u32] = match trial {
-        Trial::Mark | MarkedWrite => &[0],
-        _ => &[],
-    };
-    few_blocks(alloc, marks, number, Wrong::Fails)
-}
-
 // A book with the noise of a trial at block 0, if the trial has any.
 fn book_for(alloc: Global, trial: Trial) -> Option<NoiseBook> {
-    let noise = match trial {
-        Noisy(places) => Noise::new(places),
-        _ => None,
-    };
-    let Ok(mut book) = NoiseBook::new(alloc, 1) else {
-        return None;
-    };
-    match noise {
-        Some(noise) => book.arm(4, 0, noise, NoiseSpan::Times(1)),
-        None => {}
+    let mut book = NoiseBook::new(alloc, 1).ok()?;
+    if let Noisy(places) = trial {
+        book.arm(4, 0, Noise::new(places)?, NoiseSpan::Times(1));
     }
     Some(book)
 }
@@ -115,44 +96,37 @@ fn is_tried(
     row: &Row,
     number: u64,
     window: &mut Window<'_>,
-) -> bool {
-    let Some(mut book) = book_for(alloc, row.0) else {
-        return false;
-    };
-    let Ok(mut packs) = packs_for(alloc, row.0, number) else {
-        return false;
-    };
+) -> Option<bool> {
+    let mut book = book_for(alloc, row.0)?;
+    let is_marked = matches!(row.0, Trial::Mark | MarkedWrite);
+    let marks: &[u32] = if is_marked { &[0] } else { &[] };
+    let mut packs = few_blocks(alloc, marks, number, Wrong::Fails)?;
     let mut drive = transferring(kind, row.0);
     let is_told = match drive.move_sector(&mut packs, 4, 0, &mut book, window) {
         Ok(verdict) => number == 0 && verdict == row.1 && shows_error(&drive, kind, row),
         Err(_) => number > 0,
     };
-    is_told && packs.calls == if number > 0 { number } else { row.3 }
+    Some(is_told && packs.calls == if number > 0 { number } else { row.3 })
 }
 
 // Whether a row holds if no call fails, and if each call does.
-fn are_tried(alloc: Global, kind: DriveKind, row: &Row) -> bool {
-    let Ok(mut memory) = MainMemory::new(alloc) else {
-        return false;
-    };
-    let Ok(buffer) = memory.lend(1, 0, 512) else {
-        return false;
-    };
-    let buffer = to_bus(buffer);
+fn are_tried(alloc: Global, kind: DriveKind, row: &Row) -> Option<bool> {
+    let mut memory = MainMemory::new(alloc).ok()?;
+    let buffer = to_bus(memory.lend(1, 0, 512).ok()?);
     let mut window = memory.window(&buffer, 0);
     for number in 0..=row.3 {
-        if !is_tried(alloc, kind, row, number, &mut window) {
-            return false;
+        if is_tried(alloc, kind, row, number, &mut window) != Some(true) {
+            return None;
         }
     }
-    true
+    Some(true)
 }
 
 #[test]
 fn verdicts(rt: HostRuntime) {
     for (kind, _, _) in &KINDS {
         for row in &ROWS {
-            assert!(rt; are_tried(rt.alloc(), *kind, row));
+            assert!(rt; are_tried(rt.alloc(), *kind, row) == Some(true));
         }
     }
 }
@@ -172,16 +146,6 @@ static FUNCTIONS: [Done; 8] = [
     (Centre, 5, false, [0, 0o10700], [0o10700, 0, 0]),
 ];
 
-// Whether three registers of a drive hold these words.
-fn shows(drive: &Drive, registers: [Register; 3], words: [u16; 3]) -> bool {
-    for i in 0..3usize {
-        if drive.read_register(registers[i]) != words[i] {
-            return false;
-        }
-    }
-    true
-}
-
 // Whether a function leaves a drive as a row says.
 fn does_function(kind: DriveKind, row: &Done) -> bool {
     let (function, dc, locked, left, arrived) = *row;
@@ -194,10 +158,10 @@ fn does_function(kind: DriveKind, row: &Done) -> bool {
     drive.go(function);
     // Of stays, but that Centre clears the offset.
     let of = if function == Centre { 0o10000 } else { 0o10260 };
-    let words = [left[0], left[1], of];
-    let is_left = shows(&drive, [Register::Er1, Register::Ds, Register::Of], words);
+    let found = [Register::Er1, Register::Ds, Register::Of].map(|it| drive.read_register(it));
     drive.arrive();
-    is_left && shows(&drive, [Register::Ds, Register::Cc, Register::La], arrived)
+    let later = [Register::Ds, Register::Cc, Register::La].map(|it| drive.read_register(it));
+    found == [left[0], left[1], of] && later == arrived
 }
 
 // A kind of drive, its type word, and the most bytes that an image of it may have.
@@ -209,48 +173,38 @@ static KINDS: [Kind; 3] = [
     (DriveKind::Rm05, 0o20027, 256_196_608),
 ];
 
-// Whether a drive of this kind has its type word, and does all functions.
-fn is_kind(row: &Kind) -> bool {
-    for done in &FUNCTIONS {
-        if !does_function(row.0, done) {
-            return false;
-        }
-    }
-    Drive::new(row.0, 3).read_register(Register::Dt) == row.1
-}
-
 #[test]
 fn registers(rt: HostRuntime) {
-    for row in &KINDS {
-        assert!(rt; is_kind(row));
+    for (kind, word, _) in &KINDS {
+        assert!(rt; Drive::new(*kind, 3).read_register(Register::Dt) == *word);
+        for row in &FUNCTIONS {
+            assert!(rt; does_function(*kind, row));
+        }
     }
 }
 
 // Whether a pack that is `more` bytes longer than it may be, and has no table, is attached with `calls` calls, of which call `number`
 // fails. It is attached if it is as long as it may be and no call fails; otherwise it is told to be too long, or that a call failed.
-fn is_attached(alloc: Global, row: &Kind, more: u64, number: u64, calls: u64) -> bool {
+fn is_attached(alloc: Global, row: &Kind, more: u64, number: u64, calls: u64) -> Option<bool> {
     let (kind, _, most) = *row;
-    let Ok(mut packs) = few_blocks(alloc, &[], number, Wrong::Fails) else {
-        return false;
-    };
+    let mut packs = few_blocks(alloc, &[], number, Wrong::Fails)?;
     packs.length = most.saturating_add(more);
     let is_told = match attach(&mut Drive::new(kind, 3), &mut packs, 3) {
         Ok(found) => more == 0 && number == 0 && found.kind == kind && found.table.is_none(),
         Err(AttachFault::TooLong { length }) => more == 1 && length == packs.length,
         Err(AttachFault::Store) => number > 0,
     };
-    is_told && packs.calls == calls
+    Some(is_told && packs.calls == calls)
 }
 
 #[test]
 fn attached_up_to_the_call_that_fails(rt: HostRuntime) {
     for row in &KINDS {
         // Its length, and a mark and a read of each copy of the table.
-        assert!(rt;
-            is_attached(rt.alloc(), row, 0, 0, 11) && is_attached(rt.alloc(), row, 1, 0, 1)
-        );
+        assert!(rt; is_attached(rt.alloc(), row, 0, 0, 11) == Some(true));
+        assert!(rt; is_attached(rt.alloc(), row, 1, 0, 1) == Some(true));
         for number in 1..=11 {
-            assert!(rt; is_attached(rt.alloc(), row, 0, number, number));
+            assert!(rt; is_attached(rt.alloc(), row, 0, number, number) == Some(true));
         }
     }
 }
@@ -267,14 +221,10 @@ static TYPES: [Probed; 6] = [
     (0o020122, Err(ProbeFault::Unknown(0o122))),
 ];
 
-fn is_probed(row: &Probed) -> bool {
-    probe(row.0) == row.1
-}
-
 #[test]
 fn drive_types(rt: HostRuntime) {
     for row in &TYPES {
-        assert!(rt; is_probed(row));
+        assert!(rt; probe(row.0) == row.1);
     }
 }
 
@@ -295,21 +245,14 @@ static COPIES: [Copies; 5] = [
 
 // The serial number of the table with which such a pack is attached.
 fn serial_found(alloc: Global, marks: &'static [u32], serials: &[u32; 5]) -> Option<u32> {
-    let mut packs = few_blocks(alloc, marks, 0, Wrong::Fails).ok()?;
+    let mut packs = few_blocks(alloc, marks, 0, Wrong::Fails)?;
     for k in 0..5u32 {
-        let mut text = [0; 512];
-        write_table(&empty_table(Rp06, serials[k as usize]), &mut text);
         if serials[k as usize] > 0 {
-            let _ = packs.write(3, copy_block(Rp06, k), &text);
+            packs.put_copy(Rp06, k, &empty_table(Rp06, serials[k as usize]));
         }
     }
-    match attach(&mut Drive::new(Rp06, 3), &mut packs, 3) {
-        Ok(found) => match &found.table {
-            Some(table) => Some(serial(table)),
-            None => None,
-        },
-        Err(_) => None,
-    }
+    let found = attach(&mut Drive::new(Rp06, 3), &mut packs, 3).ok()?;
+    found.table.as_ref().map(|table| serial(table))
 }
 
 #[test]

@@ -1,10 +1,12 @@
 // A pack in memory of which few blocks are written, and on which one call goes wrong.
-ghost use Rattle.std.specs.Prelude.{◌≡◌, OnErr};
+ghost use Rattle.std.specs.Prelude.{◌≡◌, ◌<◌, OnErr};
 ghost use Rattle.outside_traits.specs.Causes.{HasCause};
 
+use bad144_table::{BadTable, write_table};
 use mass_outside::mem_packs::MemPacks;
 use mass_outside::slots::Image;
-use outside_traits::traits::{NoMemory, PackCall, Packs, StoreFailed};
+use outside_traits::traits::{PackCall, Packs, StoreFailed};
+use pack_geometry::{DriveKind, copy_block};
 use std::alloc::Global;
 
 /// How a call goes wrong.
@@ -16,14 +18,6 @@ pub(crate) enum Wrong {
     FailsBehind,
     /// It does not fail, but answers a mark or another byte, or writes nothing.
     Lies,
-}
-
-/// What a call wrote, by its number.
-#[derive(Drop)]
-pub(crate) struct Written {
-    pub(crate) call: u64,
-    pub(crate) block: u32,
-    pub(crate) bytes: [u8; 512],
 }
 
 /// So many calls the first reading of an RM03 makes that is formatted: the length, a mark and a read of each of 131,653 blocks, but no
@@ -45,38 +39,37 @@ pub(crate) struct FewBlocks {
     /// The length that it answers, in bytes.
     pub(crate) length: u64,
     pub(crate) calls: u64,
-    pub(crate) written: Vec<Written>,
+    /// What was written: by which call, to which block, and its bytes.
+    pub(crate) written: Vec<(u64, u32, [u8; 512])>,
     failed: u64,
     failed_at: PackCall,
-    number: u64,
+    pub(crate) number: u64,
     wrong: Wrong,
 }
 
 /// A pack that says that it is as long as an RM03's, with room for the blocks of an RP06 and these blocks marked, of which the call of
-/// this number goes wrong in this way. `NoMemory` if there is no memory for it.
+/// this number goes wrong in this way. `None` if there is no memory for it.
 pub(crate) fn few_blocks(
     alloc: Global,
     marks: &[u32],
     number: u64,
     wrong: Wrong,
-) -> Result<FewBlocks, NoMemory> {
-    let mut packs = MemPacks::new(alloc, Vec::new(alloc), Vec::new(alloc))?;
-    packs.put(
-        alloc,
-        Image {
-            unit: 0,
-            bytes: Vec::new(alloc),
-            marks: Vec::new(alloc),
-            blocks: 340_670,
-        },
-    )?;
+) -> Option<FewBlocks> {
+    let image = Image {
+        unit: 0,
+        bytes: Vec::new(alloc),
+        marks: Vec::new(alloc),
+        blocks: 340_670,
+    };
+    let images = Vec::from_array(alloc, [image]).ok()?;
+    let mut packs = MemPacks::new(alloc, images, Vec::new(alloc)).ok()?;
     for block in &FILLED {
         let _ = packs.write(0, *block, &[0x77; 512]);
     }
     for block in marks {
         let _ = packs.set_mark(0, *block, true);
     }
-    Ok(FewBlocks {
+    Some(FewBlocks {
         packs,
         length: 67_420_160,
         calls: 0,
@@ -89,12 +82,6 @@ pub(crate) fn few_blocks(
 }
 
 impl FewBlocks {
-    /// From now on the call of this number fails, counted from here.
-    pub(crate) fn fail(&mut self, number: u64) {
-        self.calls = 0;
-        self.number = number;
-    }
-
     /// Counts a call, which fails if it is to fail.
     fn call(&mut self, call: PackCall) -> Result<(), StoreFailed>
         ensures cause { HasCause self.old.failed self.new.failed result }
@@ -111,11 +98,7 @@ impl FewBlocks {
 
     /// How the call that was counted last goes wrong, if it does.
     fn wrong_now(&self) -> Option<Wrong> {
-        if self.calls == self.number {
-            Some(self.wrong)
-        } else {
-            None
-        }
+        (self.calls == self.number).then_some(self.wrong)
     }
 
     /// The first byte of a block.
@@ -131,11 +114,16 @@ impl FewBlocks {
         ensures failed_at { self.new.failed_at ≡ self.old.failed_at }
     {
         let _ = self.packs.write(0, block, bytes);
-        let _ = self.written.push(Written {
-            call: self.calls,
-            block,
-            bytes: *bytes,
-        });
+        let _ = self.written.push((self.calls, block, *bytes));
+    }
+
+    /// Writes a copy of a table.
+    pub(crate) fn put_copy(&mut self, kind: DriveKind, k: u32, table: &BadTable)
+        requires { k < 5 }
+    {
+        let mut text = [0; 512];
+        write_table(table, &mut text);
+        let _ = self.packs.write(0, copy_block(kind, k), &text);
     }
 }
 

@@ -3,7 +3,7 @@ ghost use Rattle.std.specs.Prelude.{◌<◌};
 ghost use Rattle.pack_geometry.specs.Geometry.{block_count};
 ghost use Rattle.pack_geometry.specs.declared.DriveKind.TheVariants.{Rm03};
 
-use crate::few_blocks::{FewBlocks, SURVEYED, Written, Wrong, few_blocks};
+use crate::few_blocks::{FewBlocks, SURVEYED, Wrong, few_blocks};
 use Wrong::{Fails, FailsBehind, Lies};
 use pack_format::testing::Station;
 use pack_format::{FormatFault, FormatReport, format};
@@ -43,23 +43,10 @@ fn content_of(first: u8) -> [u8; 512] {
 }
 
 /// Whether just that was written which a whole run writes by calls of lower numbers.
-fn is_front(written: &[Written], number: u64) -> bool {
-    for i in 0..15usize {
-        let (call, block, first) = WRITES[i];
-        let is_so = match written.get(i) {
-            Some(it) => {
-                call < number
-                    && it.call == call
-                    && it.block == block
-                    && it.bytes == content_of(first)
-            }
-            None => number <= call,
-        };
-        if !is_so {
-            return false;
-        }
-    }
-    written.len() <= 15
+fn is_front(written: &[(u64, u32, [u8; 512])], number: u64) -> bool {
+    let count = WRITES.iter().filter(|row| row.0 < number).count();
+    let wanted = WRITES.iter().map(|row| (row.0, row.1, content_of(row.2)));
+    written.len() == count && written.iter().zip(wanted).all(|(it, row)| *it == row)
 }
 
 /// How a run ends.
@@ -70,15 +57,13 @@ enum End {
     /// By a call that failed.
     Stopped,
     /// At a byte that came back otherwise: its block, its place there, what was written and what was read.
-    Differs(u32, u16, u8, u8),
+    Differs((u32, u16, u8, u8)),
 }
 
 /// Whether a run in which this call goes wrong so ends with the last of so many calls, and has written just what a whole run writes before
 /// it, and by the call itself where that did what it was to do.
-fn ends(alloc: Global, number: u64, wrong: Wrong, calls: u64, end: End) -> bool {
-    let Ok(mut packs) = few_blocks(alloc, &[5, 160], number, wrong) else {
-        return false;
-    };
+fn ends(alloc: Global, number: u64, wrong: Wrong, calls: u64, end: End) -> Option<bool> {
+    let mut packs = few_blocks(alloc, &[5, 160], number, wrong)?;
     let is_told = match (format(alloc, &mut packs, 0, DriveKind::Rm03, 9), end) {
         (Ok(FormatReport { bad }), End::Formatted) => bad == 2,
         (Err(FormatFault::Store), End::Stopped) => true,
@@ -91,15 +76,15 @@ fn ends(alloc: Global, number: u64, wrong: Wrong, calls: u64, end: End) -> bool 
                     read,
                 },
             ),
-            End::Differs(its_block, its_at, it_wrote, it_read),
-        ) => (block, at, wrote, read) == (its_block, its_at, it_wrote, it_read),
+            End::Differs(wanted),
+        ) => (block, at, wrote, read) == wanted,
         _ => false,
     };
     let behind = match wrong {
         FailsBehind => calls.saturating_add(1),
         Fails | Lies => number,
     };
-    is_told && packs.calls == calls && is_front(packs.written.as_slice(), behind)
+    Some(is_told && packs.calls == calls && is_front(packs.written.as_slice(), behind))
 }
 
 /// Calls of a whole run that fail: the first one, how many, and by which steps. If a step is odd, marks and reads take turns.
@@ -125,7 +110,7 @@ fn end_with(alloc: Global, calls: &(u64, u64, u64)) -> bool {
     let (first, count, step) = *calls;
     for k in 0..count {
         let number = first.saturating_add(k.saturating_mul(step));
-        if !ends(alloc, number, Fails, number, End::Stopped) {
+        if ends(alloc, number, Fails, number, End::Stopped) != Some(true) {
             return false;
         }
     }
@@ -146,22 +131,14 @@ fn end_at(alloc: Global, row: &(u64, u32, u8)) -> bool {
     let (mark, read) = (write.saturating_add(1), write.saturating_add(2));
     let last = content_of(first)[511];
     let had = if first == 0 { 0xa5 } else { 0x77 };
-    ends(alloc, write, FailsBehind, write, End::Stopped)
-        && ends(alloc, write, Lies, read, End::Differs(block, 0, first, had))
-        && ends(
-            alloc,
-            mark,
-            Lies,
-            mark,
-            End::Differs(block, 0, first, !first),
-        )
-        && ends(
-            alloc,
-            read,
-            Lies,
-            read,
-            End::Differs(block, 511, last, !last),
-        )
+    let differs = |at, wrote, read| End::Differs((block, at, wrote, read));
+    let runs = [
+        (write, FailsBehind, write, End::Stopped),
+        (write, Lies, read, differs(0, first, had)),
+        (mark, Lies, mark, differs(0, first, !first)),
+        (read, Lies, read, differs(511, last, !last)),
+    ];
+    runs.iter().all(|run| ends(alloc, run.0, run.1, run.2, run.3) == Some(true))
 }
 
 #[test]
@@ -169,40 +146,36 @@ fn each_write_comes_back_otherwise(rt: HostRuntime) {
     for row in &WRITES {
         assert!(rt; end_at(rt.alloc(), row));
     }
-    assert!(rt; ends(rt.alloc(), u64::MAX, Fails, CALLS, End::Formatted));
+    assert!(rt; ends(rt.alloc(), u64::MAX, Fails, CALLS, End::Formatted) == Some(true));
 }
 
 /// Whether the reading of a block fails with this one of its calls, and makes no other call after it.
-fn fails_with(alloc: Global, packs: &mut FewBlocks, block: u32, number: u64) -> bool
+fn fails_with(alloc: Global, packs: &mut FewBlocks, block: u32, number: u64) -> Option<bool>
     requires { block < block_count Rm03 }
 {
-    let Ok(mut station) = Station::new(alloc, DriveKind::Rm03) else {
-        return false;
-    };
-    packs.fail(number);
+    let mut station = Station::new(alloc, DriveKind::Rm03).ok()?;
+    packs.calls = 0;
+    packs.number = number;
     let mut bytes = [0; 512];
     let polled = station.poll_read(packs, 0, DriveKind::Rm03, block, &mut bytes);
-    polled.is_err() && packs.calls == number
+    Some(polled.is_err() && packs.calls == number)
 }
 
 /// Whether the reading of each block of an RM03 fails with each of its calls: a mark, and a read if the block is not marked.
-fn fails_with_each(alloc: Global) -> bool {
-    let Ok(mut packs) = few_blocks(alloc, &[5, 160], 1, Fails) else {
-        return false;
-    };
+fn fails_with_each(alloc: Global) -> Option<bool> {
+    let mut packs = few_blocks(alloc, &[5, 160], 1, Fails)?;
     for block in 0..131_680u32 {
-        let is_marked = block == 5 || block == 160;
-        let packs = &mut packs;
-        if !fails_with(alloc, packs, block, 1)
-            || !(is_marked || fails_with(alloc, packs, block, 2))
-        {
-            return false;
+        let calls = if block == 5 || block == 160 { 1 } else { 2 };
+        for number in 1..=calls {
+            if fails_with(alloc, &mut packs, block, number) != Some(true) {
+                return None;
+            }
         }
     }
-    true
+    Some(true)
 }
 
 #[test]
 fn each_reading_fails(rt: HostRuntime) {
-    assert!(rt; fails_with_each(rt.alloc()));
+    assert!(rt; fails_with_each(rt.alloc()) == Some(true));
 }

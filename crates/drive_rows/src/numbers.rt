@@ -1,7 +1,11 @@
 // Numbers that come from outside: the code's checks and verdicts, the ends of partitions, headers, type words, and digits.
 use Admission::{Eof, Inside, Outside};
 use DriveKind::{Rm03, Rm05, Rp06};
+use HeaderFault::{BadSector, Format};
+use NoiseClass::{Alias, Short, Shown};
 use NumberFault::{Digit, Empty, Large};
+use Radix::{Decimal, Hex, Octal};
+use Verdict::{Burst, Clean, Uncorrectable};
 use drive_model::sector_format::{HeaderFault, header_fault, header_of};
 use drive_registers::{RM03_TYPE, RM05_TYPE, RP06_TYPE};
 use fire_code::{
@@ -21,25 +25,21 @@ fn has_check(last: u8, check: u32) -> bool {
 // A last byte of zero, one with its highest bit set, and one with the next bit set.
 static CHECKS: [(u8, u32); 3] = [(0, 0), (0x80, 0x00A0_0805), (0x40, 0x0140_100A)];
 
+const SPREAD: Verdict = Burst {
+    at: 4091,
+    pattern: 0o2001,
+};
+
+const LAST: Verdict = Burst {
+    at: 4128,
+    pattern: 1,
+};
+
 static NOISE: [(&[u16], NoiseClass, Verdict); 4] = [
-    (
-        &[4090, 4100],
-        NoiseClass::Short,
-        Verdict::Burst {
-            at: 4091,
-            pattern: 0o2001,
-        },
-    ),
-    (&[0, 7, 14], NoiseClass::Shown, Verdict::Uncorrectable),
-    (&[0, 9, 11, 21, 30, 32], NoiseClass::Alias, Verdict::Clean),
-    (
-        &[4127],
-        NoiseClass::Short,
-        Verdict::Burst {
-            at: 4128,
-            pattern: 1,
-        },
-    ),
+    (&[4090, 4100], Short, SPREAD),
+    (&[0, 7, 14], Shown, Uncorrectable),
+    (&[0, 9, 11, 21, 30, 32], Alias, Clean),
+    (&[4127], Short, LAST),
 ];
 
 // Whether noise has this class, and a sector of zeros that it strikes this verdict, by the tables and by the plain program.
@@ -103,25 +103,11 @@ type Row = (DriveKind, u32, bool, u16, u16, Option<HeaderFault>);
 
 static HEADERS: [Row; 6] = [
     (Rp06, 1000, false, 0o010002, 0o003412, None),
-    (
-        Rp06,
-        1000,
-        true,
-        0o000002,
-        0o003412,
-        Some(HeaderFault::Format),
-    ),
+    (Rp06, 1000, true, 0o000002, 0o003412, Some(Format)),
     (Rm03, 160, false, 0o150001, 0, None),
-    (Rm03, 160, true, 0o110001, 0, Some(HeaderFault::BadSector)),
+    (Rm03, 160, true, 0o110001, 0, Some(BadSector)),
     (Rm05, 1000, false, 0o150001, 0o006010, None),
-    (
-        Rm05,
-        1000,
-        true,
-        0o110001,
-        0o006010,
-        Some(HeaderFault::BadSector),
-    ),
+    (Rm05, 1000, true, 0o110001, 0o006010, Some(BadSector)),
 ];
 
 fn has_header(row: &Row) -> bool {
@@ -142,46 +128,28 @@ fn headers(rt: HostRuntime) {
     }
 }
 
-// The drives' type words.
-static TYPE_WORDS: [(u16, u16); 3] = [
-    (RP06_TYPE, 0o020022),
-    (RM03_TYPE, 0o020024),
-    (RM05_TYPE, 0o020027),
-];
-
 #[test]
 fn type_words(rt: HostRuntime) {
-    for (named, word) in &TYPE_WORDS {
-        assert!(rt; *named == *word);
-    }
+    assert!(rt; RP06_TYPE == 0o020022 && RM03_TYPE == 0o020024 && RM05_TYPE == 0o020027);
 }
 
 // A text, its radix, the most that it may be, and its number, or what is wrong with it.
 type Number = (&'static [u8], Radix, u64, Result<u64, NumberFault>);
 
 static NUMBERS: [Number; 8] = [
-    (b"", Radix::Decimal, 9, Err(Empty)),
-    (b"1x", Radix::Decimal, 9, Err(Digit(1))),
-    (b"10", Radix::Decimal, 9, Err(Large)),
-    (b"09", Radix::Decimal, 9, Ok(9)),
-    (b"99x", Radix::Decimal, 9, Err(Digit(2))),
-    (b"18", Radix::Octal, 100, Err(Digit(1))),
-    (b"aF", Radix::Hex, 255, Ok(175)),
-    (
-        b"18446744073709551616",
-        Radix::Decimal,
-        u64::MAX,
-        Err(Large),
-    ),
+    (b"", Decimal, 9, Err(Empty)),
+    (b"1x", Decimal, 9, Err(Digit(1))),
+    (b"10", Decimal, 9, Err(Large)),
+    (b"09", Decimal, 9, Ok(9)),
+    (b"99x", Decimal, 9, Err(Digit(2))),
+    (b"18", Octal, 100, Err(Digit(1))),
+    (b"aF", Hex, 255, Ok(175)),
+    (b"18446744073709551616", Decimal, u64::MAX, Err(Large)),
 ];
-
-fn is_read(row: &Number) -> bool {
-    number(row.0, row.1, row.2) == row.3
-}
 
 #[test]
 fn numbers(rt: HostRuntime) {
     for row in &NUMBERS {
-        assert!(rt; is_read(row));
+        assert!(rt; number(row.0, row.1, row.2) == row.3);
     }
 }

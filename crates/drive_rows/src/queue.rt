@@ -38,17 +38,10 @@ fn serves(queue: &mut SortQueue, row: &Order) -> bool {
     queue.len() == 0
 }
 
-/// The same of a new queue.
-fn is_sorted(alloc: Global, row: &Order) -> bool {
-    match queue_with_all(alloc, row.0, &row.1) {
-        Ok(mut queue) => serves(&mut queue, row),
-        Err(_) => false,
-    }
-}
-
 #[test]
 fn two_sweeps(rt: HostRuntime) {
     for row in &ORDERS {
-        assert!(rt; is_sorted(rt.alloc(), row));
+        let queue = queue_with_all(rt.alloc(), row.0, &row.1);
+        assert!(rt; queue.is_ok_and(|mut queue| serves(&mut queue, row)));
     }
 }

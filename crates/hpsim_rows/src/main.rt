@@ -3,12 +3,13 @@
 #![tactic(auto)]
 
 use hpsim_run::run;
-use row_stage::{MemPacks, MemSink, MemSource, Program, Stage, Text, perform};
+use row_stage::{MemPacks, MemSink, MemSource, Program, Stage};
 use std::alloc::Global;
 use std::io;
 use std::io::Write;
 
 /// The program whose rows these are.
+#[derive(Drop)]
 struct Simulator;
 
 impl Program for Simulator {
@@ -27,12 +28,9 @@ impl Program for Simulator {
 
 fn main(rt: HostRuntime) -> anyhow::Result<()> {
     let text = io::read_to_string(rt.alloc(), rt.reader())?;
-    let mut stage = Stage::new(rt.alloc())?;
-    let mut page = Text::new(rt.alloc());
+    let mut stage = Stage::new(rt.alloc(), Simulator)?;
     for line in text.as_str().lines() {
-        perform(&Simulator, &mut stage, &mut page, line)?;
-        io::writer(&rt).write_all(page.bytes())?;
-        page.clear();
+        io::writer(&rt).write_all(stage.perform(line)?)?;
     }
     Ok(())
 }

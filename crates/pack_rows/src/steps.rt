@@ -20,7 +20,7 @@ pub(crate) enum Call {
     Mark(u32, bool),
 }
 
-/// What is done to a file, or asked about it.
+/// What is done to files, or asked about them.
 #[derive(Clone, Copy)]
 pub(crate) enum Deed {
     Write(&'static [u8]),
@@ -32,19 +32,12 @@ pub(crate) enum Deed {
     TakesNone,
 }
 
-/// A deed that must succeed or be true, or a call and what it must answer: `None` if it must fail.
+/// A deed that must succeed or be true for each of some files, calls on a unit with what they must answer, or calls that must fail.
 #[derive(Clone, Copy)]
 pub(crate) enum Step {
-    On(&'static str, Deed),
-    Of(u8, Call, Option<u64>),
-}
-
-/// Whether a file holds these bytes.
-fn holds(rt: &HostRuntime, name: &str, bytes: &[u8]) -> bool {
-    match fs::read(rt, name) {
-        Ok(held) => held.as_slice() == bytes,
-        Err(_) => false,
-    }
+    On(&'static [&'static str], Deed),
+    Of(u8, &'static [(Call, u64)]),
+    Fail(u8, &'static [Call]),
 }
 
 /// Whether a sink that makes its file takes two lines.
@@ -57,7 +50,7 @@ fn takes_lines(rt: &HostRuntime, name: &str) -> bool {
 fn is_done(rt: &HostRuntime, name: &str, deed: Deed) -> bool {
     match deed {
         Deed::Write(bytes) => fs::write(rt, name, bytes).is_ok(),
-        Deed::Holds(bytes) => holds(rt, name, bytes),
+        Deed::Holds(bytes) => fs::read(rt, name).is_ok_and(|held| held.as_slice() == bytes),
         Deed::IsMissing => matches!(fs::exists(rt, name), Ok(false)),
         Deed::Link(to) => symlink(rt, to, name).is_ok(),
         Deed::Remove => fs::remove_file(rt, name).is_ok(),
@@ -66,43 +59,25 @@ fn is_done(rt: &HostRuntime, name: &str, deed: Deed) -> bool {
     }
 }
 
-/// 256 times the first byte, and the last byte.
-fn edges(block: &[u8; 512]) -> u64 {
-    256 * u64::from(block[0]) + u64::from(block[511])
-}
-
-/// The edges of a block, which is read into a buffer that held 7s before.
-fn edges_at<P: Packs>(packs: &mut P, unit: u8, at: u32) -> Option<u64>
-    requires { unit < 32 }
-{
-    let mut block = [7u8; 512];
-    match packs.read(unit, at, &mut block) {
-        Ok(()) => Some(edges(&block)),
-        Err(_) => None,
-    }
-}
-
-/// What a call answers. `None` if it fails.
+/// What a call answers: of a block, which is read into a buffer that held 7s before, 256 times its first byte, and its last byte. `None`
+/// if it fails.
 fn answer<P: Packs>(packs: &mut P, unit: u8, call: Call) -> Option<u64> {
     let unit = unit.min(31);
     match call {
         Call::Length => packs.length(unit).ok(),
-        Call::Read(at) => edges_at(packs, unit, at),
+        Call::Read(at) => {
+            let mut block = [7u8; 512];
+            packs.read(unit, at, &mut block).ok()?;
+            Some(256 * u64::from(block[0]) + u64::from(block[511]))
+        }
         Call::Write(at, byte) => packs.write(unit, at, &[byte; 512]).is_ok().then_some(0),
-        Call::Marked(at) => match packs.marked(unit, at) {
-            Ok(on) => Some(u64::from(on)),
-            Err(_) => None,
-        },
+        Call::Marked(at) => packs.marked(unit, at).ok().map(|on| u64::from(on)),
         Call::Mark(at, on) => packs.set_mark(unit, at, on).is_ok().then_some(0),
     }
 }
 
-/// How often a step fails before it answers what it must, which is at most once. `None` if it does something else.
-fn failures<P: Packs>(rt: &HostRuntime, packs: &mut P, step: &Step) -> Option<usize> {
-    let (unit, call, wanted) = match *step {
-        Step::On(name, deed) => return is_done(rt, name, deed).then_some(0),
-        Step::Of(unit, call, wanted) => (unit, call, wanted),
-    };
+/// How often a call fails before it answers what it must, which is at most once. `None` if it does something else.
+fn failures<P: Packs>(packs: &mut P, unit: u8, call: Call, wanted: Option<u64>) -> Option<usize> {
     let answered = answer(packs, unit, call);
     if answered == wanted {
         return Some(0);
@@ -113,16 +88,39 @@ fn failures<P: Packs>(rt: &HostRuntime, packs: &mut P, step: &Step) -> Option<us
     None
 }
 
-/// How many of these steps fail once. `None` if a step does something else.
-fn failures_of<P: Packs>(rt: &HostRuntime, packs: &mut P, steps: &[Step]) -> Option<usize> {
+/// How many calls of a step fail once. `None` if one does something else, or a deed is not done.
+fn failures_at<P: Packs>(rt: &HostRuntime, packs: &mut P, step: Step) -> Option<usize> {
     let mut count = 0usize;
-    for step in steps {
-        count = count.saturating_add(failures(rt, packs, step)?);
+    match step {
+        Step::On(names, deed) => {
+            for name in names {
+                is_done(rt, name, deed).then_some(())?;
+            }
+        }
+        Step::Of(unit, calls) => {
+            for (call, wanted) in calls {
+                count = count.saturating_add(failures(packs, unit, *call, Some(*wanted))?);
+            }
+        }
+        Step::Fail(unit, calls) => {
+            for call in calls {
+                count = count.saturating_add(failures(packs, unit, *call, None)?);
+            }
+        }
     }
     Some(count)
 }
 
-/// How many of these steps fail once on new packs, which read ahead, in the files of a folder. `None` if a step does something else.
+/// How many calls of these steps fail once. `None` if a step does something else.
+fn failures_of<P: Packs>(rt: &HostRuntime, packs: &mut P, steps: &[Step]) -> Option<usize> {
+    let mut count = 0usize;
+    for step in steps {
+        count = count.saturating_add(failures_at(rt, packs, *step)?);
+    }
+    Some(count)
+}
+
+/// How many calls of these steps fail once on new packs, which read ahead, in the files of a folder. `None` if a step does something else.
 pub(crate) fn failures_over<F: PackFolder + Drop>(
     rt: &HostRuntime,
     folder: F,

@@ -1,41 +1,37 @@
 // What is shown of a run, and of what it left.
-use crate::stage::Stage;
-use crate::texts::{Text, holds, split, times};
+use crate::stage::Row;
+use crate::texts::{Outcome, add, add_as_runs, add_number, add_piece, holds, split, times};
 use mass_outside::mem_packs::MemPacks;
 use mass_outside::slots::Slot;
 
 /// Shows lines of text, or as runs what ends otherwise.
-pub(crate) fn show_text(page: &mut Text, text: &[u8]) {
+pub(crate) fn show_text(page: &mut Vec<u8>, text: &[u8]) -> Outcome {
     if text.is_empty() || text.ends_with(b"\n") {
-        page.add_bytes(text);
-    } else {
-        page.show_runs(text);
-        page.add("\n");
+        page.extend_from_slice(text)?;
+        return Ok(());
     }
+    add_as_runs(page, text)?;
+    add(page, &["\n"])
 }
 
 /// Shows a trace.
-pub(crate) fn show_trace(page: &mut Text, trace: &[u8]) {
-    page.add("trace\n");
-    show_text(page, trace);
+pub(crate) fn show_trace(page: &mut Vec<u8>, trace: &[u8]) -> Outcome {
+    add(page, &["trace\n"])?;
+    show_text(page, trace)
 }
 
 /// Shows those lines of a trace that read or write sectors.
-pub(crate) fn show_commands(page: &mut Text, trace: &[u8]) {
-    page.add("commands\n");
-    let mut from = 0usize;
-    for (at, byte) in trace.iter().enumerate() {
-        if *byte == b'\n' {
-            let line = trace.get(from..=at).unwrap_or(b"");
-            if holds(line, b" rcom ") || holds(line, b" wcom ") {
-                page.add_bytes(line);
-            }
-            from = at.saturating_add(1);
+pub(crate) fn show_commands(page: &mut Vec<u8>, trace: &[u8]) -> Outcome {
+    add(page, &["commands\n"])?;
+    for line in trace.split_inclusive(|byte| *byte == b'\n') {
+        if holds(line, b" rcom ") || holds(line, b" wcom ") {
+            page.extend_from_slice(line)?;
         }
     }
+    Ok(())
 }
 
-/// What a block holds.
+/// What a block of a slot holds.
 fn block_of(slot: &Slot, block: u32) -> [u8; 512] {
     let mut bytes = [0; 512];
     slot.read(block, &mut bytes);
@@ -48,16 +44,12 @@ pub(crate) fn block_at(packs: &MemPacks, unit: u8, block: u32) -> [u8; 512] {
 }
 
 /// Shows what a block of a unit holds, and whether it is marked.
-pub(crate) fn show_block(packs: &MemPacks, page: &mut Text, unit: u8, number: u32) {
-    let slot = packs.slot(unit % 32);
-    page.add_number("block ", u64::from(unit), " ");
-    page.add_number("", u64::from(number), ":");
-    page.show_runs(&block_of(slot, number));
-    page.add(if slot.marked(number) {
-        " marked\n"
-    } else {
-        "\n"
-    });
+pub(crate) fn show_block(packs: &MemPacks, page: &mut Vec<u8>, unit: u8, block: u32) -> Outcome {
+    add_number(page, "block ", u64::from(unit), " ")?;
+    add_number(page, "", u64::from(block), ":")?;
+    add_as_runs(page, &block_at(packs, unit, block))?;
+    let is_marked = packs.slot(unit % 32).marked(block);
+    add(page, &[if is_marked { " marked\n" } else { "\n" }])
 }
 
 /// Whether two packs have room for as many blocks and are as long, and hold just the same, byte for byte and mark for mark.
@@ -77,66 +69,45 @@ fn are_same(one: &Slot, two: &Slot) -> bool {
 }
 
 /// Shows whether the packs hold what was remembered: each image and each mark, byte for byte.
-pub(crate) fn show_kept(stage: &Stage, page: &mut Text) {
-    let (one, two) = (&stage.scene.packs, &stage.whole.packs);
+pub(crate) fn show_kept(row: &Row, page: &mut Vec<u8>) -> Outcome {
+    let (one, two) = (&row.scene.packs, &row.whole.packs);
     let is_kept = (0..32u8).all(|unit| are_same(one.slot(unit), two.slot(unit)));
-    page.add(if is_kept {
-        "packs as they were\n"
-    } else {
-        "packs changed\n"
-    });
+    let how = if is_kept { "as they were" } else { "changed" };
+    add(page, &["packs ", how, "\n"])
 }
 
-/// The sum of bytes modulo 2^32.
-fn sum_of(text: &[u8]) -> u32 {
+/// Shows how many bytes a text has, and their sum modulo 2^32.
+pub(crate) fn show_size(page: &mut Vec<u8>, name: &str, text: &[u8]) -> Outcome {
     let mut sum = 0u32;
     for byte in text {
         sum = sum.wrapping_add(u32::from(*byte));
     }
-    sum
+    add(page, &[name])?;
+    add_number(page, " ", text.len() as u64, " sum ")?;
+    add_number(page, "", u64::from(sum), "\n")
 }
 
-/// Shows how many bytes a text has, and their sum modulo 2^32.
-pub(crate) fn show_size(page: &mut Text, name: &str, text: &[u8]) {
-    page.add(name);
-    page.add_number(" ", text.len() as u64, " sum ");
-    page.add_number("", u64::from(sum_of(text)), "\n");
-}
-
-/// What is asked of a text and a piece.
-#[derive(Clone, Copy)]
-pub(crate) enum Relation {
-    Has,
-    Begins,
-    IsFront,
-    Times,
-}
-
-/// The words for what a text is to a piece.
-fn words_for(relation: Relation, text: &[u8], piece: &[u8]) -> &'static str {
-    match relation {
-        Relation::Has if holds(text, piece) => " has ",
-        Relation::Begins if text.starts_with(piece) => " begins with ",
-        Relation::IsFront if piece.starts_with(text) => " is a front of ",
+/// The words for what a text is to a piece, where the line that asks begins with this word.
+fn words_for(word: &str, text: &[u8], piece: &[u8]) -> &'static str {
+    match word {
+        "@has" if holds(text, piece) => " has ",
+        "@begins" if text.starts_with(piece) => " begins with ",
+        "@front" if piece.starts_with(text) => " is a front of ",
         _ => " is other than ",
     }
 }
 
-/// Shows what a text is to a piece, or how often it stands there.
-fn show_relation(page: &mut Text, relation: Relation, text: &[u8], piece: &[u8]) {
-    if matches!(relation, Relation::Times) {
-        page.add_number(" has ", times(text, piece), " of ");
-    } else {
-        page.add(words_for(relation, text, piece));
-    }
-}
-
-/// The same with both their names.
-pub(crate) fn compare(stage: &Stage, page: &mut Text, relation: Relation, rest: &str) {
+/// Shows what a text is to a piece, or how often it stands there, with both their names.
+pub(crate) fn compare(row: &Row, page: &mut Vec<u8>, word: &str, rest: &str) -> Outcome {
     let (name, line) = split(rest);
-    let mut piece = Text::new(stage.alloc);
-    piece.add_piece(line);
-    page.add(name);
-    show_relation(page, relation, stage.text(name), piece.bytes());
-    page.add_between("", line, "\n");
+    let mut piece = Vec::new(row.command.alloc);
+    add_piece(&mut piece, line)?;
+    let text = row.text(name);
+    add(page, &[name])?;
+    if word == "@times" {
+        add_number(page, " has ", times(text, piece.as_slice()), " of ")?;
+    } else {
+        add(page, &[words_for(word, text, piece.as_slice())])?;
+    }
+    add(page, &[line, "\n"])
 }

@@ -1,118 +1,220 @@
-// The stage on which a row is played.
-use crate::scenes::{Faults, NONE, Operation, Program, Scene, one_fault};
-use crate::texts::Text;
-use crate::watches::Watch;
+// The stage on which a row is played, and runs of commands on it.
+use crate::stops::Watch;
+use crate::texts::Outcome;
+use mass_outside::mem_packs::{FailCall, MemPacks, PackOp};
+use mass_outside::mem_streams::{MemSink, MemSource};
 use outside_traits::traits::NoMemory;
 use std::alloc::Global;
 
-/// What is kept for the next steps of a row. If memory runs out, the stage lacks what found no room, and is short from then on.
+/// A program that runs the words of a command over packs, source and sinks, and answers its status.
+pub trait Program: Drop {
+    fn run(
+        &self,
+        alloc: Global,
+        words: &[String],
+        source: &mut MemSource,
+        packs: &mut MemPacks,
+        out: &mut MemSink,
+        trace: &mut MemSink,
+    ) -> u8;
+}
+
+/// The operations that can be made to fail, each with the status of a run in which it does.
+pub(crate) static OPERATIONS: [(&str, u8); 8] = [
+    ("source", 4),
+    ("out", 5),
+    ("trace", 5),
+    ("length", 6),
+    ("write", 6),
+    ("read", 6),
+    ("marked", 6),
+    ("setmark", 6),
+];
+
+/// The operations of the packs, which come last above.
+static OF_PACKS: [PackOp; 5] = [
+    PackOp::Length,
+    PackOp::Write,
+    PackOp::Read,
+    PackOp::Marked,
+    PackOp::SetMark,
+];
+
+/// The number of the call of each operation that fails, from 1, or 0 for none; and the room of each sink.
+#[derive(Clone, Copy)]
+pub(crate) struct Faults {
+    fails: [u64; 8],
+    pub(crate) out_room: usize,
+    pub(crate) trace_room: usize,
+}
+
+/// No call fails, and few runs have more to say.
+pub(crate) const NONE: Faults = Faults {
+    fails: [0; 8],
+    out_room: 20_000,
+    trace_room: 40_000,
+};
+
+impl Faults {
+    /// From now on this call of an operation fails.
+    pub(crate) fn set(&mut self, name: &str, number: u64) {
+        for i in 0..8usize {
+            if OPERATIONS[i].0 == name {
+                self.fails[i] = number;
+            }
+        }
+    }
+}
+
+/// A command: its words and its source.
 #[derive(Drop)]
-pub struct Stage {
+pub(crate) struct Command {
     pub(crate) alloc: Global,
+    words: Vec<String>,
+    pub(crate) source: Vec<u8>,
+}
+
+impl Command {
+    /// Takes the words from a line, in which `""` stands for an empty word.
+    pub(crate) fn set_words(&mut self, line: &str) -> Outcome {
+        self.words.clear();
+        if line.is_empty() {
+            return Ok(());
+        }
+        for word in line.split(' ') {
+            let mut kept = String::new(self.alloc);
+            kept.push_str(if word == "\"\"" { "" } else { word })?;
+            self.words.push(kept)?;
+        }
+        Ok(())
+    }
+}
+
+/// Packs, and what the last run over them came to.
+#[derive(Drop)]
+pub(crate) struct Scene {
+    pub(crate) packs: MemPacks,
+    /// What was printed.
+    pub(crate) out: MemSink,
+    pub(crate) trace: MemSink,
+    pub(crate) status: u8,
+}
+
+impl Scene {
+    /// Packs that hold nothing, before the first run.
+    fn new(alloc: Global) -> Result<Scene, NoMemory> {
+        Ok(Scene {
+            packs: MemPacks::new(alloc, Vec::new(alloc), Vec::new(alloc))?,
+            out: MemSink::new(alloc, 0, Vec::new(alloc))?,
+            trace: MemSink::new(alloc, 0, Vec::new(alloc))?,
+            status: 0,
+        })
+    }
+
+    /// Runs a command.
+    pub(crate) fn run<P: Program>(
+        &mut self,
+        program: &P,
+        command: &Command,
+        faults: &Faults,
+    ) -> Outcome {
+        let (alloc, fails) = (command.alloc, faults.fails);
+        let mut calls = Vec::new(alloc);
+        for i in 0..5usize {
+            let (op, number) = (OF_PACKS[i], fails[i + 3]);
+            calls.push(FailCall { op, number })?;
+        }
+        self.packs.fail(calls);
+        self.out = MemSink::new(alloc, faults.out_room, Vec::from_slice(alloc, &[fails[1]])?)?;
+        self.trace = MemSink::new(
+            alloc,
+            faults.trace_room,
+            Vec::from_slice(alloc, &[fails[2]])?,
+        )?;
+        let bytes = Vec::from_slice(alloc, command.source.as_slice())?;
+        let mut source = MemSource::new(bytes, Vec::from_slice(alloc, &[fails[0]])?);
+        let words = command.words.as_slice();
+        let (packs, out, trace) = (&mut self.packs, &mut self.out, &mut self.trace);
+        self.status = program.run(alloc, words, &mut source, packs, out, trace);
+        Ok(())
+    }
+}
+
+/// What is kept for the next steps of a row.
+#[derive(Drop)]
+pub(crate) struct Row {
+    pub(crate) command: Command,
+    pub(crate) faults: Faults,
     /// What the commands of the row run over.
     pub(crate) scene: Scene,
     /// A run over a copy of the packs.
     pub(crate) whole: Scene,
     /// Another one, that stops.
     pub(crate) left: Scene,
-    pub(crate) words: Vec<String>,
-    pub(crate) source: Text,
-    pub(crate) faults: Faults,
     pub(crate) watches: Vec<Watch>,
-    /// The texts of the watched blocks, one after another.
-    pub(crate) texts: Text,
     /// What is printed once the sync has ended.
-    pub(crate) answer: Text,
-    pub(crate) is_short: bool,
+    pub(crate) answer: Vec<u8>,
 }
 
-impl Stage {
-    /// Creates an empty stage. `NoMemory` if its packs find no room in memory.
-    pub fn new(alloc: Global) -> Result<Stage, NoMemory> {
-        Ok(Stage {
-            alloc,
+impl Row {
+    /// A row of which nothing is done.
+    pub(crate) fn new(alloc: Global) -> Result<Row, NoMemory> {
+        Ok(Row {
+            command: Command {
+                alloc,
+                words: Vec::new(alloc),
+                source: Vec::new(alloc),
+            },
+            faults: NONE,
             scene: Scene::new(alloc)?,
             whole: Scene::new(alloc)?,
             left: Scene::new(alloc)?,
-            words: Vec::new(alloc),
-            source: Text::new(alloc),
-            faults: NONE,
             watches: Vec::new(alloc),
-            texts: Text::new(alloc),
-            answer: Text::new(alloc),
-            is_short: false,
+            answer: Vec::new(alloc),
         })
-    }
-
-    /// Whether something found no room in memory.
-    pub(crate) fn is_short(&self) -> bool {
-        let scenes = self.scene.is_short() || self.whole.is_short() || self.left.is_short();
-        let texts = self.source.is_short() || self.texts.is_short() || self.answer.is_short();
-        scenes || texts || self.is_short
     }
 
     /// The text with a name: the source, what is printed, or the trace.
     pub(crate) fn text(&self, name: &str) -> &[u8] {
         match name {
-            "source" => self.source.bytes(),
-            "out" => self.scene.out.bytes(),
-            _ => self.scene.trace.bytes(),
+            "source" => self.command.source.as_slice(),
+            "out" => self.scene.out.taken(),
+            _ => self.scene.trace.taken(),
         }
     }
+}
 
-    /// Adds a word to those of the command; `""` is an empty word.
-    fn add_word(&mut self, word: &str) {
-        let mut kept = String::new(self.alloc);
-        if word != "\"\"" {
-            self.is_short |= kept.push_str(word).is_err();
-        }
-        self.is_short |= self.words.push(kept).is_err();
+/// The stage of a program, on which rows are played one after another.
+#[derive(Drop)]
+pub struct Stage<P: Program> {
+    pub(crate) program: P,
+    pub(crate) row: Row,
+    /// What a line shows.
+    pub(crate) page: Vec<u8>,
+}
+
+impl<P: Program> Stage<P> {
+    /// Creates an empty stage.
+    pub fn new(alloc: Global, program: P) -> Result<Stage<P>, NoMemory> {
+        Ok(Stage {
+            program,
+            row: Row::new(alloc)?,
+            page: Vec::new(alloc),
+        })
     }
 
-    /// Makes the words of a line the command.
-    pub(crate) fn set_words(&mut self, line: &str) {
-        self.words.clear();
-        if line.is_empty() {
-            return;
-        }
-        for word in line.split(' ') {
-            self.add_word(word);
-        }
+    /// Runs the command of the row.
+    pub(crate) fn run(&mut self) -> Outcome {
+        let row = &mut self.row;
+        row.scene.run(&self.program, &row.command, &row.faults)
     }
 
-    /// Runs the command.
-    pub(crate) fn run<P: Program>(&mut self, program: &P) {
-        let words = self.words.as_slice();
-        self.scene
-            .run(program, words, self.source.bytes(), &self.faults);
-    }
-
-    /// Runs the command over a copy of the packs, with a front of the source, and with a call failing.
-    pub(crate) fn run_left<P: Program>(
-        &mut self,
-        program: &P,
-        end: usize,
-        operation: Operation,
-        number: u64,
-    ) {
-        let source = self.source.bytes();
-        let front = source.get(..end).unwrap_or(source);
-        let faults = one_fault(operation, number);
-        self.left.take_packs(&self.scene);
-        self.left
-            .run(program, self.words.as_slice(), front, &faults);
-    }
-
-    /// Runs the command over a copy of the packs, with no call failing.
-    pub(crate) fn run_whole<P: Program>(&mut self, program: &P) {
-        let words = self.words.as_slice();
-        self.whole.take_packs(&self.scene);
-        self.whole.run(program, words, self.source.bytes(), &NONE);
-    }
-
-    /// Runs the command once more over the packs that a run left, with no call failing.
-    pub(crate) fn run_again<P: Program>(&mut self, program: &P) {
-        let words = self.words.as_slice();
-        self.left.run(program, words, self.source.bytes(), &NONE);
+    /// Runs the command over a copy of the packs, with one call of an operation failing.
+    pub(crate) fn run_left(&mut self, name: &str, number: u64) -> Outcome {
+        let row = &mut self.row;
+        let mut faults = NONE;
+        faults.set(name, number);
+        row.left.packs = row.scene.packs.copy(row.command.alloc)?;
+        row.left.run(&self.program, &row.command, &faults)
     }
 }

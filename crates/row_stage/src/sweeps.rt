@@ -1,83 +1,87 @@
 // A run, and runs one after another.
-use crate::scenes::{Operation, Program, operation_of};
 use crate::shows::show_text;
-use crate::stage::Stage;
-use crate::texts::{Text, number, split, times};
+use crate::stage::{Program, Stage};
+use crate::texts::{Outcome, add, add_number, add_numbered, number, split, times};
 
-/// Runs a command over the packs of the stage with its source, which is taken, and shows its status and what it prints.
-pub(crate) fn play<P: Program>(
-    program: &P,
-    stage: &mut Stage,
-    page: &mut Text,
-    is_shown: bool,
-    line: &str,
-) {
-    stage.set_words(line);
-    stage.run(program);
-    stage.source.clear();
-    page.add(line);
-    page.add_number(": status ", u64::from(stage.scene.status), "\n");
-    if is_shown {
-        show_text(page, stage.scene.out.bytes());
-    }
-}
-
-/// Makes a line in which `%` stands for a number the command.
-fn set_numbered(stage: &mut Stage, line: &str, number: u64) {
-    let mut text = Text::new(stage.alloc);
-    text.add_numbered(line, number);
-    stage.set_words(std::str::from_utf8(text.bytes()).unwrap_or(""));
-}
-
-/// Runs a command for each of so many numbers from a first one on, and shows how many of them come to status 0.
-pub(crate) fn each<P: Program>(program: &P, stage: &mut Stage, page: &mut Text, rest: &str) {
-    let (count, rest) = split(rest);
-    let (first, line) = split(rest);
-    let mut done = 0u64;
-    for before in 0..number(count) {
-        set_numbered(stage, line, number(first).saturating_add(before));
-        stage.run(program);
-        if stage.scene.status == 0 {
-            done = done.saturating_add(1);
+impl<P: Program> Stage<P> {
+    /// Runs a command over the packs of the row with its source, which is taken, and shows its status and what it prints.
+    pub(crate) fn play(&mut self, is_shown: bool, line: &str) -> Outcome {
+        self.row.command.set_words(line)?;
+        self.run()?;
+        self.row.command.source.clear();
+        add(&mut self.page, &[line])?;
+        add_number(
+            &mut self.page,
+            ": status ",
+            u64::from(self.row.scene.status),
+            "\n",
+        )?;
+        if is_shown {
+            show_text(&mut self.page, self.row.scene.out.taken())?;
         }
+        Ok(())
     }
-    page.add(line);
-    page.add_number(": status 0 for ", done, " numbers\n");
-}
 
-/// Runs a command with each call of an operation of the packs failing in turn, until none does, and shows how often a word stands in the
-/// traces of those that stop there: each number that is the next one behind those before.
-pub(crate) fn counts<P: Program>(program: &P, stage: &mut Stage, page: &mut Text, rest: &str) {
-    let (name, rest) = split(rest);
-    let (word, line) = split(rest);
-    stage.set_words(line);
-    page.add(word);
-    let mut next = 0u64;
-    for number in 1..1000u64 {
-        stage.run_left(program, usize::MAX, operation_of(name), number);
-        if stage.left.status == 0 {
-            break;
+    /// Runs a command for each of so many numbers from a first one on, which stand in the place of `%`, and shows how many of them come
+    /// to status 0.
+    pub(crate) fn each(&mut self, rest: &str) -> Outcome {
+        let (count, rest) = split(rest);
+        let (first, line) = split(rest);
+        let mut done = 0u64;
+        for before in 0..number(count) {
+            let mut text = Vec::new(self.row.command.alloc);
+            add_numbered(&mut text, line, number(first).saturating_add(before))?;
+            self.row
+                .command
+                .set_words(std::str::from_utf8(text.as_slice()).unwrap_or(""))?;
+            self.run()?;
+            done = done.saturating_add(u64::from(self.row.scene.status == 0));
         }
-        let count = times(stage.left.trace.bytes(), word.as_bytes());
-        if stage.left.status == 6 && count == next {
-            page.add_number(" ", next, "");
-            next = next.saturating_add(1);
-        }
+        add(&mut self.page, &[line])?;
+        add_number(&mut self.page, ": status 0 for ", done, " numbers\n")
     }
-    page.add("\n");
-}
 
-/// Runs a command with each front of the source, and shows how many come to status 0 or 3, and how many to another one.
-pub(crate) fn fronts<P: Program>(program: &P, stage: &mut Stage, page: &mut Text, line: &str) {
-    let size = stage.source.bytes().len();
-    let mut good = 0u64;
-    stage.set_words(line);
-    for end in 0..size {
-        stage.run_left(program, end, Operation::Source, 0);
-        if stage.left.status == 0 || stage.left.status == 3 {
-            good = good.saturating_add(1);
+    /// Runs a command with each call of an operation of the packs failing in turn, until none does, and shows how often a word stands in
+    /// the traces of those that stop there: each number that is the next one behind those before.
+    pub(crate) fn counts(&mut self, rest: &str) -> Outcome {
+        let (name, rest) = split(rest);
+        let (word, line) = split(rest);
+        self.row.command.set_words(line)?;
+        add(&mut self.page, &[word])?;
+        let mut next = 0u64;
+        for number in 1..1000u64 {
+            self.run_left(name, number)?;
+            let left = &self.row.left;
+            if left.status == 0 {
+                break;
+            }
+            if left.status == 6 && times(left.trace.taken(), word.as_bytes()) == next {
+                add_number(&mut self.page, " ", next, "")?;
+                next = next.saturating_add(1);
+            }
         }
+        add(&mut self.page, &["\n"])
     }
-    page.add_number("", good, " fronts come to status 0 or 3, and ");
-    page.add_number("", (size as u64).saturating_sub(good), " to another one\n");
+
+    /// Runs a command with each front of the source, and shows how many come to status 0 or 3, and how many to another one.
+    pub(crate) fn fronts(&mut self, line: &str) -> Outcome {
+        let alloc = self.row.command.alloc;
+        let source = Vec::from_slice(alloc, self.row.command.source.as_slice())?;
+        let mut good = 0u64;
+        self.row.command.set_words(line)?;
+        self.row.command.source.clear();
+        for byte in source.as_slice() {
+            self.run_left("", 0)?;
+            good = good.saturating_add(u64::from(matches!(self.row.left.status, 0 | 3)));
+            self.row.command.source.push(*byte)?;
+        }
+        let others = (source.len() as u64).saturating_sub(good);
+        add_number(
+            &mut self.page,
+            "",
+            good,
+            " fronts come to status 0 or 3, and ",
+        )?;
+        add_number(&mut self.page, "", others, " to another one\n")
+    }
 }

@@ -9,8 +9,4 @@ pub mod Rows5
 pub mod Rows6
 pub mod Rows7
 pub mod Rows8
-pub mod Rows9
-pub mod Rows10
-pub mod Rows11
-pub mod Rows12
 pub mod Refused1

@@ -12,47 +12,27 @@ use Rattle.drive_model.specs.declared.sector_format.HeaderFault.TheVariants.{For
 use Rattle.drive_model.specs.Headers.{cylinder_bits, fault_of}
 use Rattle.picture_chart.specs.Charts.{fitted, is_plain, plain_of}
 
--- replacement 0 is the first block of the last track, and each other one stands a block too high
-abbrev pub ReplacementOffByOne : Type 0
-ReplacementOffByOne = (kind : DriveKind) (i : ℕ) → i < 126 → ¬ (replacement_at kind i ≡ block_count kind - sectors_of kind - i)
-
--- an RM05 has ten data blocks more, as if its last track had 22 sectors
-abbrev pub Rm05LimitBy22Sectors : Type 0
-Rm05LimitBy22Sectors = ¬ (limit_of Rm05 ≡ 500236)
-
--- a place lies on the drive that names the sector behind a track's last
-abbrev pub SectorTooMany : Type 0
-SectorTooMany = (kind : DriveKind) (place : Place) → place.sector ≡ sectors_of kind → ¬ IsInside kind place
-
--- a request at its partition's end is outside
-abbrev pub EndIsOutside : Type 0
-EndIsOutside = (kind : DriveKind) (part : Part) (count : ℕ) → ¬ (admission kind part (size_of kind part) count ≡ Outside)
-
--- one is inside that reaches a block past that end
-abbrev pub OneBlockPastTheEnd : Type 0
-OneBlockPastTheEnd = (kind : DriveKind) (part : Part) (block count first : ℕ) → block + count ≡ size_of kind part + 1
-    → ¬ (admission kind part block count ≡ Inside first)
-
--- partition `g` of an RM05 begins at the cylinder of an RM03's
-abbrev pub Rm05GByRm03 : Type 0
-Rm05GByRm03 = ¬ (first_of Rm05 G ≡ 309 * 19 * 32)
-
--- a header with no bit on is at fault for its format, on an RM03 too
-abbrev pub FormatBeforeTheBadSector : Type 0
-FormatBeforeTheBadSector = (word wanted : ℕ) → ¬ (fault_of Rm03 (record { cylinder_word = 0; sector_word = word }) wanted ≡ Some Format)
-
--- the header of a marked sector of an RM03 keeps the bit of a good one
-abbrev pub MarkedHeaderKeepsItsGoodBit : Type 0
-MarkedHeaderKeepsItsGoodBit = ¬ (cylinder_bits Rm03 true ≡ 0o150000)
-
--- an RM05 marks as an RP06 does
-abbrev pub Rm05MarkedAsAnRp06 : Type 0
-Rm05MarkedAsAnRp06 = ¬ (cylinder_bits Rm05 true ≡ 0)
-
--- a byte that is not printing is put on a chart as it is
-abbrev pub BytesAsTheyAre : Type 0
-BytesAsTheyAre = (byte : ℕ) → is_plain byte ≡ false → byte ≢ 63 → ¬ (plain_of byte ≡ byte)
-
--- a plus stands for a text that fits just
-abbrev pub PlusForATextThatFits : Type 0
-PlusForATextThatFits = (text : List ℕ) → 1 < length text → ¬ (fitted (length text) text ≡ 43 ∷ [])
+pub record PlacesRefused : Type 0 where
+  -- replacement 0 is the first block of the last track, and each other one stands a block too high
+  pub replacement_off_by_one : (kind : DriveKind) (i : ℕ) → i < 126 → ¬ (replacement_at kind i ≡ block_count kind - sectors_of kind - i)
+  -- an RM05 has ten data blocks more, as if its last track had 22 sectors
+  pub rm05_limit_by_22_sectors : ¬ (limit_of Rm05 ≡ 500236)
+  -- a place lies on the drive that names the sector behind a track's last
+  pub sector_too_many : (kind : DriveKind) (place : Place) → place.sector ≡ sectors_of kind → ¬ IsInside kind place
+  -- a request at its partition's end is outside
+  pub end_is_outside : (kind : DriveKind) (part : Part) (count : ℕ) → ¬ (admission kind part (size_of kind part) count ≡ Outside)
+  -- one is inside that reaches a block past that end
+  pub one_block_past_the_end : (kind : DriveKind) (part : Part) (block count first : ℕ) → block + count ≡ size_of kind part + 1
+      → ¬ (admission kind part block count ≡ Inside first)
+  -- partition `g` of an RM05 begins at the cylinder of an RM03's
+  pub rm05_g_by_rm03 : ¬ (first_of Rm05 G ≡ 309 * 19 * 32)
+  -- a header with no bit on is at fault for its format, on an RM03 too
+  pub format_before_the_bad_sector : (word wanted : ℕ) → ¬ (fault_of Rm03 (record { cylinder_word = 0; sector_word = word }) wanted ≡ Some Format)
+  -- the header of a marked sector of an RM03 keeps the bit of a good one
+  pub marked_header_keeps_its_good_bit : ¬ (cylinder_bits Rm03 true ≡ 0o150000)
+  -- an RM05 marks as an RP06 does
+  pub rm05_marked_as_an_rp06 : ¬ (cylinder_bits Rm05 true ≡ 0)
+  -- a byte that is not printing is put on a chart as it is
+  pub bytes_as_they_are : (byte : ℕ) → is_plain byte ≡ false → byte ≢ 63 → ¬ (plain_of byte ≡ byte)
+  -- a plus stands for a text that fits just
+  pub plus_for_a_text_that_fits : (text : List ℕ) → 1 < length text → ¬ (fitted (length text) text ≡ 43 ∷ [])

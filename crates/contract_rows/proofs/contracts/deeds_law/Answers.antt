@@ -20,17 +20,16 @@ not_done : (b : Bool) (part : Part) (w : World) → b ≡ false → when_by b pa
 not_done false part w is = refl
 not_done true part w is = absurd (cc is)
 
-pub returns-clause-steps_forgotten : goal.returns-clause-steps_forgotten
-returns-clause-steps_forgotten c = λ line u p taken s some is. omega (arith, some, same_steps taken 0 is)
-
-pub returns-clause-repaired_block_judged_again : goal.returns-clause-repaired_block_judged_again
-returns-clause-repaired_block_judged_again c = λ line u p moved at pattern s is. omega (arith, same_moved (moved + 1) moved is)
-
-pub returns-clause-each_sector_the_first_block : goal.returns-clause-each_sector_the_first_block
-returns-clause-each_sector_the_first_block c = λ a some is. omega (arith, some, is)
-
-pub returns-clause-interrupt_before_the_completion : goal.returns-clause-interrupt_before_the_completion
-returns-clause-interrupt_before_the_completion c = λ w line a down some. some (not_done _ _ w down)
-
-pub returns-clause-refusal_stops_the_adapter : goal.returns-clause-refusal_stops_the_adapter
-returns-clause-refusal_stops_the_adapter c = λ w line r kind some is. some (same_rest _ _ is)
+pub returns : goal.returns
+returns c = record {
+  steps_forgotten = λ line u p taken s some is. omega (arith, some, same_steps taken 0 is);
+  attention_left_up = search arith;
+  attention_left_at_the_adapter = search arith;
+  repaired_block_judged_again = λ line u p moved at pattern s is. omega (arith, same_moved (moved + 1) moved is);
+  adapter_left_busy = search arith;
+  completion_left_up = search arith;
+  buffer_left_on_the_bus = search arith;
+  each_sector_the_first_block = λ a some is. omega (arith, some, is);
+  interrupt_before_the_completion = λ w line a down some. some (not_done _ _ w down);
+  refusal_stops_the_adapter = λ w line r kind some is. some (same_rest _ _ is);
+}

@@ -40,11 +40,12 @@ put_by true first later is = absurd (cc is)
 put_behind : (first later : Noise) → number_of first ≡ number_of later → with_entry later (first ∷ []) ≡ first ∷ later ∷ []
 put_behind first later same = put_by (nat_lt (number_of later) (number_of first)) first later (ap (λ (n : ℕ). nat_lt (number_of later) n) same ∙ not_below (number_of later))
 
-pub returns-clause-new_noise_in_front_of_its_sector : goal.returns-clause-new_noise_in_front_of_its_sector
-returns-clause-new_noise_in_front_of_its_sector c = λ first later differs same is. differs (same_noise first later (sym (put_behind first later same) ∙ is))
-
-pub returns-clause-changed_bytes_held_back : goal.returns-clause-changed_bytes_held_back
-returns-clause-changed_bytes_held_back c = λ e bytes s one differs is. differs (same_bytes e bytes (sym (changed_one e bytes s one) ∙ is))
-
-pub returns-clause-change_not_noted : goal.returns-clause-change_not_noted
-returns-clause-change_not_noted c = λ e bytes s one is. false≢true (sym (ap first_changed (sym (changed_one e bytes s one) ∙ is)))
+pub returns : goal.returns
+returns c = record {
+  new_noise_in_front_of_its_sector = λ first later differs same is. differs (same_noise first later (sym (put_behind first later same) ∙ is));
+  changed_bytes_held_back = λ e bytes s one differs is. differs (same_bytes e bytes (sym (changed_one e bytes s one) ∙ is));
+  change_not_noted = λ e bytes s one is. false≢true (sym (ap first_changed (sym (changed_one e bytes s one) ∙ is)));
+  changed_entry_not_written_back = search arith;
+  unchanged_entry_written_back = search arith;
+  entry_left_changed = search arith;
+}
