@@ -7,12 +7,8 @@ use Rattle.driver_machine.specs.World.{World}
 use Rattle.driver_machine.specs.Guards.{IsSetUp}
 use Rattle.driver_laws.specs.rules.Rest.{HasTables}
 use Rattle.driver_laws.specs.rules.Waited.{map_of, with_packs}
-use Rattle.buffer_cache.specs.Passes.{Stage}
-use Rattle.buffer_cache.specs.Passes.{setup_at}
-use Rattle.buffer_cache.specs.Passes.{StillTell, SessionsJoin}
-use Rattle.buffer_cache.specs.Passes.{map_at, left_map, IsUntouched}
-use Rattle.buffer_cache.proofs.Passes.{others_over, left_over}
-use Rattle.buffer_cache.proofs.Passes.{kind_stays}
+use Rattle.buffer_cache.specs.Passes.{Stage, setup_at, StillTell, SessionsJoin, map_at, left_map, IsUntouched}
+use Rattle.buffer_cache.proofs.Passes.{others_over, left_over, kind_stays}
 use Rattle.trace_replay.specs.requests.Requests.{Request}
 use Rattle.driver_laws.specs.declared.rules.cached.Entry.{Entry}
 use Rattle.driver_laws.specs.rules.Requests.{Map, reads, behind_one, behind}

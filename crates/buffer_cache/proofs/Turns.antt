@@ -6,10 +6,7 @@ use Rattle.std.proofs.lemmas.List.{length-set, map-append}
 use Rattle.lru.specs.LruCache.{LruCache}
 use Rattle.driver_machine.specs.World.{World}
 use Rattle.driver_laws.specs.rules.Rest.{HasTables}
-use Rattle.buffer_cache.specs.Passes.{Stage}
-use Rattle.buffer_cache.specs.Passes.{setup_at}
-use Rattle.buffer_cache.specs.Passes.{StillTell, SessionsJoin}
-use Rattle.buffer_cache.specs.Passes.{map_at}
+use Rattle.buffer_cache.specs.Passes.{Stage, setup_at, StillTell, SessionsJoin, map_at}
 use Rattle.driver_laws.specs.declared.rules.cached.Entry.{Entry}
 use Rattle.driver_laws.specs.rules.Requests.{writes}
 use Rattle.driver_laws.specs.rules.Contents.{Flushes}

@@ -4,11 +4,7 @@ use Rattle.std.specs.List.{AllByRecursion}
 use Rattle.driver_laws.specs.answers.Outcome.{stop_in}
 use Rattle.driver_laws.specs.declared.answers.outcome.Stop.{Stop}
 use Rattle.driver_laws.specs.rules.Rest.{HasTables}
-use Rattle.buffer_cache.specs.Passes.{Spot, Stage, seen}
-use Rattle.buffer_cache.specs.Passes.{setup_at, IsReady}
-use Rattle.buffer_cache.specs.Passes.{State as Driver}
-use Rattle.buffer_cache.specs.Passes.{OthersStay}
-use Rattle.buffer_cache.specs.Passes.{map_at, left_map}
+use Rattle.buffer_cache.specs.Passes.{Spot, Stage, seen, setup_at, IsReady, State as Driver, OthersStay, map_at, left_map}
 use Rattle.driver_laws.specs.declared.rules.cached.Entry.{Entry}
 use Rattle.driver_laws.specs.rules.Entries.{State, to_write_back, with_room, write_backs, counted, put, flushed, written_back}
 use Rattle.trace_replay.specs.requests.Requests.{Request}

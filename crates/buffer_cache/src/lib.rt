@@ -1,19 +1,12 @@
 //! A cache of blocks with delayed writes. A block that was read or written stays in memory, the most recent one first. What was written
-//! goes to the pack when its entry is dropped, or at a sync.
+//! goes to the pack when its entry is dropped, or at a sync. The crate also reads and writes single data blocks of a unit, each by a
+//! blocking request of its own (`fetch_block`, `store_block`).
 //!
-//! What is proved: `Cache::read` gives the cached content of a block, and `Cache::write` replaces it. All other cached contents stay,
-//! and the entries, their order and the requests are those of `read_done` and `write_done`. `Cache::sync` writes each changed entry
-//! back, the first one first. `Unusable` comes exactly if the block can't be used. After any answer, the packs hold for each block what
-//! they held, what was cached, or what was to be written (`Holds`), and memory refused at most one insertion (`RefusesOnce`). If a call
-//! stopped, the trace took the lines of its requests, up to the one that stopped (`AsksTill`). Statements about what the packs hold
-//! apply if the packs tell it, and if the driver's tables are theirs. Only tested: that an insertion enters the cache if there is
-//! memory.
-//!
-//! The crate also reads and writes single data blocks of a unit, each by a blocking request of its own.
-//!
-//! What is proved: `fetch_block` makes one read, and gives the block's bytes if the block can be used (`Fetches`). `store_block` makes
-//! one write (`Asks`). If the trace or the packs fail, the packs hold what they held, or what the request leaves (`LeftBy`). Statements
-//! about what the packs hold apply if the packs tell it, and if the driver's tables are theirs. None of this is only tested.
+//! What is proved, besides what each call says: all other cached contents stay, and the entries, their order and the requests are those
+//! of `read_done` and `write_done`. After any answer, the packs hold for each block what they held, what was cached, or what was to be
+//! written (`Holds`). If a call stopped, the trace took the lines of its requests, up to the one that stopped (`AsksTill`). Statements
+//! about what the packs hold apply if the packs tell it, and if the driver's tables are theirs. Only tested: that an insertion enters
+//! the cache if there is memory.
 #![tactic(auto)]
 
 mod blocks;
