@@ -20,7 +20,11 @@ kinds = Rp06 ∷ Rm03 ∷ Rm05 ∷ []
 abbrev pub kind_named : List ℕ → Option DriveKind
 kind_named word = find (λ kind. bytes_eq word (kind_word kind)) kinds
 
--- what two words say together, where each of them names something
+-- what two words say together, or three, where each of them names something
 abbrev pub of_two : {A B C : Type 0} → (A → B → C) → Option A → Option B → Option C
 of_two make (Some first) (Some second) = Some (make first second)
 of_two make first second = None
+
+abbrev pub of_three : {A B C D : Type 0} → (A → B → C → D) → Option A → Option B → Option C → Option D
+of_three make (Some first) (Some second) (Some third) = Some (make first second third)
+of_three make first second third = None

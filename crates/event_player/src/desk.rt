@@ -8,7 +8,7 @@ use hp_driver::Subsystem;
 use outside_traits::Gather;
 use outside_traits::traits::{NoMemory, Sink, SinkFailed};
 use std::alloc::Global;
-use trace_lines::answers::{BlockLine, FillLine, Tally};
+use trace_lines::answers::{BlockLine, FillLine, Tally, write_block};
 
 /// How many bytes of answers are gathered at most.
 const ANSWER_ROOM: u32 = 32_768;
@@ -116,6 +116,6 @@ impl Forms {
         requires few { size ≤ 512 }
         ensures { self.new.line ≡ block_text k (take size self.old.block) }
     {
-        self.line.write(k, front(&self.block, size));
+        write_block(&mut self.line, k, front(&self.block, size));
     }
 }

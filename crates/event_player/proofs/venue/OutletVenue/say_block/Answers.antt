@@ -17,4 +17,4 @@ returns-clause-says g c =
     let block = c.requires.block in
     let given = block_given block c.answer_block.new.into (c.answer_block.ensures block.reads.made block.slot block.reads.oldest block.slot_is) in
     let says = c.say.ensures in
-    text_at _ c.say.result says.says says.counts says.requests refl (c.as_bytes.ensures ∙ c.write_block.ensures ∙ ap (λ (bytes : List ℕ). block_text c.args.k bytes) given)
+    text_at _ c.say.result says.says says.counts says.requests refl (c.as_bytes.ensures.text ∙ c.write_block.ensures ∙ ap (λ (bytes : List ℕ). block_text c.args.k bytes) given)
