@@ -3,7 +3,7 @@ use Rattle.std.proofs.Common.{◌≡◌, ℕ, ◌+◌, ◌-◌, ◌<◌, ◌≤�
 use Rattle.std.specs.Prelude.{if◌then◌else◌, ◌==◌, ◌*◌, ◌&&◌, IsTrue, slice_index, Result, Ok, Err, OnOk, OnErr, is_err}
 use Rattle.outside_traits.specs.Causes.{HandsOn}
 use Rattle.std.proofs.lemmas.Grind.{common_steps, same_number_lists}
-use Rattle.std.proofs.lemmas.Bool.{cases_lt, eq-eqb, eqb-true}
+use Rattle.std.proofs.lemmas.Bool.{cases_lt, eq-eqb}
 use Rattle.std.proofs.Math.ListN.{replicate}
 use Rattle.std.proofs.lemmas.List.{take_all, take-replicate, drop_at, take-append-le, length-take, get_or-append-add, get_or_append_left}
 use Rattle.std.proofs.lemmas.Slice.{take-put_mid_below}

@@ -1,4 +1,4 @@
-ghost use Rattle.std.specs.Prelude.{◌≡◌, ◌<◌, ◌*◌, ◌==◌, ◌⊎◌, IsTrue, true, false, not, if◌then◌else◌, length, IfOk, OnOk, OnErr};
+ghost use Rattle.std.specs.Prelude.{◌≡◌, ◌<◌, ◌*◌, ◌⊎◌, IsTrue, true, false, length, IfOk, OnOk, OnErr};
 ghost use Rattle.pack_geometry.specs.Pack.{window, block_at, is_marked, with_written, with_mark};
 ghost use Rattle.outside_traits.specs.Causes.{HasCause, Counts};
 ghost use Rattle.outside_traits.specs.declared.traits.PackCall.TheVariants.{Length, Block};
@@ -15,13 +15,6 @@ use outside_traits::wide_packs::{WidePacks, is_mark, place_in_image};
 use std::io;
 use std::os::unix::fs::FileExt;
 use std::rt::Files;
-
-/// The mark byte that is written: 1 for a marked block, 0 for a good one.
-fn mark_byte(on: bool) -> u8
-    ensures { result ≡ (if on then 1 else 0) }
-{
-    u8::from(on)
-}
 
 /// What a call on a unit's file tried. If the file is not open, the call failed to open or make it.
 fn tried<F: PackFolder>(folder: &F, deed: Deed, unit: u8, part: Part) -> FileCall {
@@ -212,7 +205,7 @@ impl<F: PackFolder> Packs for FilePacks<F> {
         ensures counted { Counts result self.old.notes.failures.count self.new.notes.failures.count }
         ensures torn { self.new.torn ≡ self.old.torn }
     {
-        let written = self.put(unit, Part::Marks, u64::from(block), &[mark_byte(on)]);
+        let written = self.put(unit, Part::Marks, u64::from(block), &[u8::from(on)]);
         let call = tried(&self.folder, Deed::Write, unit, Part::Marks);
         self.called = PackCall::Block { unit, block };
         self.notes.failures.counted(written, call, StoreFailed)

@@ -53,11 +53,9 @@ impl<R: Read> StdSource<R> {
         ensures told { result.is_known ≡ true }
         ensures faults { result.notes.failures.count ≡ 0 }
     {
-        StdSource {
-            inner,
-            is_known: true,
-            notes: SourceNotes::new(),
-        }
+        let mut made = StdSource::new(inner);
+        made.is_known = true;
+        made
     }
 
     /// From now on, the source keeps the bytes that it gives, so that a message can say why a run refused them.
@@ -137,11 +135,9 @@ impl<W: Write> StdSink<W> {
         ensures told { result.is_known ≡ true }
         ensures faults { result.notes.failures.count ≡ 0 }
     {
-        StdSink {
-            inner,
-            is_known: true,
-            notes: SinkNotes::new(),
-        }
+        let mut made = StdSink::new(inner);
+        made.is_known = true;
+        made
     }
 
     /// What the sink keeps so that a message can say why a run failed.
