@@ -47,6 +47,11 @@ fn marked_block(byte: u8, edges: [u8; 4]) -> [u8; 512] {
     bytes
 }
 
+// Whether a block is one frame from place 300 on, and the next one up to there.
+fn is_between(bytes: &[u8; 512], frame: &[u8; 512], next: &[u8; 512]) -> bool {
+    bytes[..212] == frame[300..] && bytes[212..] == next[..300]
+}
+
 // Whether two blocks from place 300 on lie in the first three frames, and the window on the second one is the end of the second frame and
 // the front of the third.
 fn spans_two_frames(alloc: Global) -> Option<bool> {
@@ -61,8 +66,7 @@ fn spans_two_frames(alloc: Global) -> Option<bool> {
     let are_lowest = frames_of(&buffer) == [0u16, 1, 2].as_slice();
     let mut bytes = [0; 512];
     memory.window(&to_bus(buffer), 1).copy_out(&mut bytes);
-    let is_between = bytes[..212] == second[300..] && bytes[212..] == third[..300];
-    Some(are_lowest && is_between)
+    Some(are_lowest && is_between(&bytes, &second, &third))
 }
 
 #[test]

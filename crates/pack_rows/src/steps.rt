@@ -59,8 +59,12 @@ fn is_done(rt: &HostRuntime, name: &str, deed: Deed) -> bool {
     }
 }
 
-/// What a call answers: of a block, which is read into a buffer that held 7s before, 256 times its first byte, and its last byte. `None`
-/// if it fails.
+/// 256 times the first byte, and the last byte.
+fn edges(block: &[u8; 512]) -> u64 {
+    256 * u64::from(block[0]) + u64::from(block[511])
+}
+
+/// What a call answers: of a block, its edges, which are read into a buffer that held 7s before. `None` if the call fails.
 fn answer<P: Packs>(packs: &mut P, unit: u8, call: Call) -> Option<u64> {
     let unit = unit.min(31);
     match call {
@@ -68,7 +72,7 @@ fn answer<P: Packs>(packs: &mut P, unit: u8, call: Call) -> Option<u64> {
         Call::Read(at) => {
             let mut block = [7u8; 512];
             packs.read(unit, at, &mut block).ok()?;
-            Some(256 * u64::from(block[0]) + u64::from(block[511]))
+            Some(edges(&block))
         }
         Call::Write(at, byte) => packs.write(unit, at, &[byte; 512]).is_ok().then_some(0),
         Call::Marked(at) => packs.marked(unit, at).ok().map(|on| u64::from(on)),
