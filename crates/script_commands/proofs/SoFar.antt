@@ -2,12 +2,13 @@
 use Rattle.std.proofs.Common.{◌≡◌, ◌⊎◌, inl, inr, ℕ, ◌+◌, ◌==◌, ◌||◌, Bool, true, false, All, List, [], ◌∷◌, ◌++◌, Option, refl, sym, ap, subst, ◌∙◌, append_assoc}
 use Rattle.std.specs.List.{list_any}
 use Rattle.std.proofs.lemmas.List.Elements.{All-head, All-tail}
+use Rattle.pack_geometry.specs.declared.DriveKind.{DriveKind}
 use Rattle.pack_geometry.specs.Pack.{Pack}
 use Rattle.pack_geometry.specs.PackTable.{AreTablesOf}
 use Rattle.pack_geometry.specs.TableSpelling.{Table}
 use Rattle.trace_replay.specs.requests.Requests.{Answer}
-use Rattle.trace_replay.specs.Script.{Script, drives_of, IsScript, AreApart}
-use Rattle.trace_replay.specs.Moments.{Moment, Told, End, played}
+use Rattle.trace_replay.specs.Script.{Script, Input, Submit, Drain, Statement, Declares, Plays, Line, Numbered, with_input, inputs_before, drives_of, IsInput, IsStatement, IsScript, AreApart}
+use Rattle.trace_replay.specs.Moments.{Moment, Played, Told, Idle, End, played}
 use Rattle.trace_replay.specs.Packs.{surface_of}
 use Rattle.trace_replay.specs.Replay.{Follows, after_moments}
 use Rattle.trace_replay.specs.Causes.{AskSome}
@@ -15,7 +16,8 @@ use Rattle.trace_replay.specs.Runs.{start_of}
 use Rattle.trace_replay.proofs.Following.{follow_on}
 use Rattle.trace_replay.proofs.Explained.{are_explained}
 use Rattle.driver_laws.proofs.rules.Commands.{ends_are_bounded}
-use Rattle.driver_laws.proofs.rules.MachineRuns.{each_beginning, script_ids, script_given}
+use Rattle.driver_laws.proofs.rules.Kept.{input_asks}
+use Rattle.driver_laws.proofs.rules.MachineRuns.{each_beginning, script_ids}
 use Rattle.event_player.specs.PlayFault.{PlayFault}
 use Rattle.event_player.specs.PlayFault.TheVariants as faults
 use Rattle.event_player.specs.Passes.{IsTorn}
@@ -25,20 +27,75 @@ use Rattle.event_player.specs.Stops.{StopsPlaying}
 use Rattle.driver_laws.specs.rules.Beginnings.{IsBegun, BeginningsKeep, NextBlocksKeep, PromisesSoFar}
 use Rattle.script_commands.specs.SoFar.{KeepsSoFar, Holds, Keeps}
 use Rattle.script_commands.proofs.Standing.{FoundBehind, found_behind}
-use Rattle.driver_laws.proofs.rules.IdsAsked.{ids_asked}
+use Rattle.driver_laws.proofs.rules.IdsAsked.{ids_asked, with_asked}
 use Rattle.driver_laws.proofs.rules.MomentSteps.{AreGiven}
-use Rattle.driver_laws.proofs.rules.Begun.{given_ask, given_front, apart_front, ids_join}
+
+-- THE INPUTS of a script are good, and so are the first of them.
+abbrev AllGood : (ℕ → Option DriveKind) → List Numbered → Type 0
+AllGood drives [] = Unit {0}
+AllGood drives (n ∷ ns) = IsInput drives n.input × AllGood drives ns
+
+with_good : (drives : ℕ → Option DriveKind) (number : ℕ) (statement : Statement) (inputs : List Numbered) → IsStatement drives statement → AllGood drives inputs
+    → AllGood drives (with_input number statement inputs)
+with_good drives number (Declares unit kind) inputs is all = all
+with_good drives number (Plays input) inputs is all = (is, all)
+
+lines_good : (drives : ℕ → Option DriveKind) (last : List Numbered) (lines : List Line) → All (λ (line : Line). IsStatement drives line.statement) lines → AllGood drives last
+    → AllGood drives (inputs_before last lines)
+lines_good drives last [] is all = all
+lines_good drives last (line ∷ lines) is all =
+    with_good drives line.number line.statement (inputs_before last lines) (All-head (λ (l : Line). IsStatement drives l.statement) line lines is)
+    (lines_good drives last lines (All-tail (λ (l : Line). IsStatement drives l.statement) line lines is) all)
+
+good_front : (drives : ℕ → Option DriveKind) (ns more : List Numbered) → AllGood drives (ns ++ more) → AllGood drives ns
+good_front drives [] more all = tt
+good_front drives (n ∷ ns) more all = (all.0, good_front drives ns more all.1)
+
+moments_good : (drives : ℕ → Option DriveKind) (ms : List Moment) → AllGood drives (played ms) → AreGiven drives ms
+moments_good drives [] all = tt
+moments_good drives (Played line input ∷ ms) all = (all.0, moments_good drives ms all.1)
+moments_good drives (Told line unit id deed ∷ ms) all = (tt, moments_good drives ms all)
+moments_good drives (Idle line ∷ ms) all = (tt, moments_good drives ms all)
+
+moments_ask : (drives : ℕ → Option DriveKind) (ms ns : List Moment) → AllGood drives (played (ms ++ ns)) → AskSome ms
+moments_ask drives [] ns all = tt
+moments_ask drives (Played line input ∷ ms) ns all = (input_asks drives input all.0, moments_ask drives ms ns all.1)
+moments_ask drives (Told line unit id deed ∷ ms) ns all = moments_ask drives ms ns all
+moments_ask drives (Idle line ∷ ms) ns all = moments_ask drives ms ns all
+
+-- THE IDS of the first inputs are apart.
+or_front : (b c d : Bool) → (c ≡ false → d ≡ false) → b || c ≡ false → b || d ≡ false
+or_front true c d later none = none
+or_front false c d later none = later none
+
+any_front : (test : ℕ → Bool) (xs more : List ℕ) → list_any test (xs ++ more) ≡ false → list_any test xs ≡ false
+any_front test [] more none = refl
+any_front test (x ∷ xs) more none = or_front (test x) (list_any test (xs ++ more)) (list_any test xs) (any_front test xs more) none
+
+apart_front : (ids more : List ℕ) → AreApart (ids ++ more) → AreApart ids
+apart_front [] more apart = tt
+apart_front (id ∷ ids) more apart = (any_front (λ other. other == id) ids more apart.0, apart_front ids more apart.1)
+
+asked_more : (input : Input) (ids more all : List ℕ) → all ≡ ids ++ more → with_asked input all ≡ with_asked input ids ++ more
+asked_more (Submit r) ids more all is = ap (λ (xs : List ℕ). r.id ∷ xs) is
+asked_more other ids more all is = is
+
+ids_append : (ns more : List Numbered) → ids_asked (ns ++ more) ≡ ids_asked ns ++ ids_asked more
+ids_append [] more = refl
+ids_append (n ∷ ns) more = asked_more n.input (ids_asked ns) (ids_asked more) (ids_asked (ns ++ more)) (ids_append ns more)
 
 -- THE MOMENTS that a script came to
 module _ (script : Script) (good : IsScript script) (tables : ℕ → Option Table) (first : ℕ → Pack) (read : AreTablesOf (drives_of script) first tables)
     (moments : List Moment) (came : Came script tables first moments) where
-  given : AreGiven (drives_of script) moments
-  given = script_given script moments came.later good came.inputs
+  all_good : AllGood (drives_of script) (played moments)
+  all_good =
+      good_front (drives_of script) (played moments) came.later
+      (subst (AllGood (drives_of script)) came.inputs (lines_good (drives_of script) (record { line = script.count + 1; input = Drain } ∷ []) script.lines good.inputs (tt, tt)))
 
   apart : AreApart (ids_asked (played moments))
   apart =
       apart_front (ids_asked (played moments)) (ids_asked came.later)
-      (subst AreApart (sym (script_ids script) ∙ ap ids_asked came.inputs ∙ ids_join (played moments) came.later) good.ids)
+      (subst AreApart (sym (script_ids script) ∙ ap ids_asked came.inputs ∙ ids_append (played moments) came.later) good.ids)
 
   module _ (line unit id : ℕ) (answer : Answer) (before after : List Moment) (is : moments ≡ before ++ Told line unit id (End answer) ∷ after) where
     front : Follows (start_of script tables first) (before ++ Told line unit id (End answer) ∷ [])
@@ -48,12 +105,11 @@ module _ (script : Script) (good : IsScript script) (tables : ℕ → Option Tab
         (follow_on (start_of script tables first) before (Told line unit id (End answer) ∷ [])).1 (parts.0, (parts.1.0, tt))
 
     asks : AskSome before
-    asks = given_ask (drives_of script) before
-        (given_front (drives_of script) before (Told line unit id (End answer) ∷ after) (subst (AreGiven (drives_of script)) is given))
+    asks = moments_ask (drives_of script) before (Told line unit id (End answer) ∷ after) (subst (λ (ms : List Moment). AllGood (drives_of script) (played ms)) is all_good)
 
   pub keeps_so_far : KeepsSoFar script tables first moments
   keeps_so_far = record {
-    legal = each_beginning (record { drives = drives_of script; tables = tables; packs = first }) moments read given apart came.follows;
+    legal = each_beginning (record { drives = drives_of script; tables = tables; packs = first }) moments read (moments_good (drives_of script) moments all_good) apart came.follows;
     explained = λ line unit id answer before after is kept.
         are_explained (drives_of script) tables (surface_of first) before line unit id answer (asks line unit id answer before after is) (front line unit id answer before after is) kept;
     commands = λ line unit id answer before after is kept.
